@@ -1,6 +1,6 @@
 -- Bodies of definitions that are alike: their shapes and their first faults.
 use Rattle.std.proofs.Common.{◌≡◌, ℕ, Bool, true, false, cond, List, [], ◌∷◌, map, Option, Some, None, is_some, codes, refl, ap, ap₂}
-use Rattle.wit_syntax.proofs.Common.{AllZip, Both', Case, Enum, EnumForm, Err', Fault, Flags, FlagsForm, Id, Member, Neither, None', Of, Ok', Plain, Prim, Record, RecordForm, Resource, ResourceFunc, ResultTypes, Row_of-Type, Shape, Some', Span, TypeBody, Variant, VariantForm, Word, all_shapes, body_of, body_types, bytes_eq, case_types, clash, docs_text, end_of-Type, fault, fault_in, field_types, folded, head, member, more_of-Type, option_map, option_or, row_types, shape_of, slice_get, written_body}
+use Rattle.wit_syntax.proofs.Common.{AllZip, Both', Case, Enum, EnumForm, Err', Fault, Flags, FlagsForm, Id, Member, Neither, None', Of, Ok', Plain, Prim, Record, RecordForm, Resource, ResourceFunc, ResultTypes, Row_of-Type, Shape, Some', Span, TypeBody, Variant, VariantForm, Word, all_shapes, body_of, body_types, bytes_eq, case_types, clash, docs_text, end_of-Type, fault, fault_in, field_types, lower_case, head, member, more_of-Type, option_map, option_or, row_types, shape_of, slice_get, written_body}
 use Rattle.std.specs.List.{find}
 use Rattle.wit_type_tree.specs.declared.types.Field.{Field}
 use Rattle.wit_type_tree.specs.declared.types.Flag.{Flag}
@@ -173,14 +173,14 @@ same_meaning b c h = absurd h
 abbrev clash_seen : List ℕ → Name → Name → Fault
 clash_seen desc m n = fault_in 25 n.span (clash desc m.text n.text)
 
-same_clash : (desc : List ℕ) (before others : List Id) (a b : Id) → AllZip SameId before others → SameId a b → clash_of (λ (id : Id). folded id.name.now) (clash_fault desc) before a ≡ clash_of (λ (id : Id). folded id.name.now) (clash_fault desc) others b
+same_clash : (desc : List ℕ) (before others : List Id) (a b : Id) → AllZip SameId before others → SameId a b → clash_of (λ (id : Id). lower_case id.name.now) (clash_fault desc) before a ≡ clash_of (λ (id : Id). lower_case id.name.now) (clash_fault desc) others b
 same_clash desc before others a b earlier h =
     both_same SameId (λ (y : Id). clash_fault desc y a) (λ (y : Id). clash_fault desc y b) (λ x y same. ap₂ (λ (m n : Name). clash_seen desc m n) same h)
-    (find (λ (y : Id). bytes_eq (folded y.name.now) (folded a.name.now)) before) (find (λ (y : Id). bytes_eq (folded y.name.now) (folded b.name.now)) others)
-    (zip_find SameId (λ (y : Id). bytes_eq (folded y.name.now) (folded a.name.now)) (λ (y : Id). bytes_eq (folded y.name.now) (folded b.name.now)) (λ x y same. ap₂ (λ (m n : Name). bytes_eq (folded m.text) (folded n.text)) same h) before others earlier)
+    (find (λ (y : Id). bytes_eq (lower_case y.name.now) (lower_case a.name.now)) before) (find (λ (y : Id). bytes_eq (lower_case y.name.now) (lower_case b.name.now)) others)
+    (zip_find SameId (λ (y : Id). bytes_eq (lower_case y.name.now) (lower_case a.name.now)) (λ (y : Id). bytes_eq (lower_case y.name.now) (lower_case b.name.now)) (λ x y same. ap₂ (λ (m n : Name). bytes_eq (lower_case m.text) (lower_case n.text)) same h) before others earlier)
 
 pub same_names_fault : (desc : List ℕ) (xs ys : List Id) → AllZip SameId xs ys → names_fault desc xs ≡ names_fault desc ys
-same_names_fault desc xs ys h = zip_after SameId (clash_of (λ (id : Id). folded id.name.now) (clash_fault desc)) (clash_of (λ (id : Id). folded id.name.now) (clash_fault desc)) (same_clash desc) [] xs [] ys tt h
+same_names_fault desc xs ys h = zip_after SameId (clash_of (λ (id : Id). lower_case id.name.now) (clash_fault desc)) (clash_of (λ (id : Id). lower_case id.name.now) (clash_fault desc)) (same_clash desc) [] xs [] ys tt h
 
 same_empty : {A : Type 0} (R : A → A → Type 0) (number : ℕ) (xs ys : List A) (s r : Span) → AllZip R xs ys → s ≡ r → empty_fault number xs s ≡ empty_fault number ys r
 same_empty R number [] [] s r h e = ap (λ (at : Span). Some (fault number at)) e

@@ -1,11 +1,11 @@
 -- The first faults of the names, the tops and the uses of alike files.
-use Rattle.std.proofs.Common.{◌≡◌, ℕ, Bool, true, false, cond, List, [], ◌∷◌, Option, Some, None, is_none, refl, ap, ap₂, ◌∙◌}
-use Rattle.wit_syntax.proofs.Common.{AllZip, AstItem, Attribute, Extern, Fault, Foreign, ForeignVisit, Id, Item, Local, Missing, PackageFile, Part, Span, Target, TopName, ToplevelUse, Use, UsePart, UsePath, about, all_items, bytes_eq, fault, fault_about, fault_in, file_items, find, foreign_visits, inline_uses, is_world_at, item_name, item_named, item_twice, item_word, item_words, leads, missing_at, needed_paths, option_or, parts, path_id, top_names, top_text, top_twice, top_words, walk, world_words}
+use Rattle.std.proofs.Common.{◌≡◌, ℕ, Bool, true, false, cond, List, [], ◌∷◌, Option, Some, None, is_none, refl, ap, ap₂, ◌∙◌, ◌++◌, codes}
+use Rattle.wit_syntax.proofs.Common.{AllZip, AstItem, Attribute, Extern, Fault, Foreign, ForeignVisit, Id, Item, Local, Missing, PackageFile, Part, Span, Target, TopName, ToplevelUse, Use, UsePart, UsePath, about, all_items, bytes_eq, fault, fault_in, file_items, find, foreign_visits, inline_uses, is_world_at, item_name, item_named, item_twice, item_word, leads, missing_at, needed_paths, option_or, parts, path_id, top_names, top_text, top_twice, walk, around, own_uses}
 use Rattle.wit_tree.specs.declared.tree.AstItem.TheVariants as ast
 use Rattle.wit_tree.specs.declared.tree.UsePath.TheVariants as path
 use Rattle.wit_grammar.specs.Trees.{TopUse}
 use Rattle.wit_grammar.specs.Seen.{see_attribute, see_top_use}
-use Rattle.wit_walk.proofs.Common.{all_uses_fault, attributed_fault, file_fault, file_tops_fault, files_fault, first_repeat, item_names_fault, item_uses_fault, lost_fault, own_uses, path_fault, paths_fault, reached_fault, repeat_of, stability_fault, top_fault, top_names_fault, top_use_fault, tops_fault, unless_named, unnamed_fault, visits_fault}
+use Rattle.wit_walk.proofs.Common.{all_uses_fault, file_fault, files_fault, first_repeat, item_names_fault, item_uses_fault, lost_fault, path_fault, paths_fault, reached_fault, repeat_of, stability_fault, top_fault, top_names_fault, tops_fault, unnamed_fault, first_in}
 use Rattle.wit_first.specs.UseFaults.{use_fault}
 use Rattle.wit_alike.proofs.Lists.{Both, zip_after, zip_any, zip_find, zip_first, zip_of}
 use Rattle.wit_alike.proofs.Leaves.{SameId, SameAttributes, by_name, same_metadata, same_stability, same_text}
@@ -26,21 +26,21 @@ module _ {A : Type 0} (R : A → A → Type 0) (key other : A → List ℕ) (mad
   zip_first_repeat xs ys h = zip_after R (repeat_of key made) (repeat_of other also) zip_repeat [] xs [] ys tt h
 
 pub same_missing : (number : ℕ) (sort : List ℕ) (a b : Id) → SameId a b → missing_at number sort a ≡ missing_at number sort b
-same_missing number sort a b h = by_name (λ (text : List ℕ) (span : Span). fault_about number span text (Missing sort) None) a b h
+same_missing number sort a b h = by_name (λ (text : List ℕ) (span : Span). record { rule = number; span = span; says = Missing text sort None }) a b h
 
 module _ (files others : List PackageFile) (h : AllZip SameFile files others) where
   pub same_item_names : item_names_fault files ≡ item_names_fault others
   same_item_names =
       zip_first_repeat SameItem item_name item_name (λ (i : Item). item_twice (about i.declared).id) (λ (i : Item). item_twice (about i.declared).id) same_item_name
-      (λ i j same. by_name (λ (text : List ℕ) (span : Span). fault_in 5 span (item_words text)) (about i.declared).id (about j.declared).id (same_item_id i j same)) (all_items files) (all_items others) (same_all_items files others h)
+      (λ i j same. by_name (λ (text : List ℕ) (span : Span). fault_in 5 span (around (codes "duplicate item named ") text [])) (about i.declared).id (about j.declared).id (same_item_id i j same)) (all_items files) (all_items others) (same_all_items files others h)
 
-  pub same_visits_fault : visits_fault (foreign_visits files) ≡ visits_fault (foreign_visits others)
+  pub same_visits_fault : first_in (λ (v : ForeignVisit). stability_fault v.attributes) (foreign_visits files) ≡ first_in (λ (v : ForeignVisit). stability_fault v.attributes) (foreign_visits others)
   same_visits_fault = zip_first SameVisit (λ (v : ForeignVisit). stability_fault v.attributes) (λ (v : ForeignVisit). stability_fault v.attributes) (λ v w same. same_stability v.attributes w.attributes same.attributes) (foreign_visits files) (foreign_visits others) (same_visits files others h)
 
 same_top_fault : (f g : PackageFile) → SameFile f g → top_names_fault f ≡ top_names_fault g
 same_top_fault f g h =
     zip_first_repeat SameTop top_text top_text (λ (n : TopName). top_twice n.id) (λ (n : TopName). top_twice n.id) (λ t u same. same_text t.id u.id same.0)
-    (λ t u same. by_name (λ (text : List ℕ) (span : Span). fault_in 6 span (top_words text)) t.id u.id same.0) (top_names f) (top_names g) (same_top_names f g h)
+    (λ t u same. by_name (λ (text : List ℕ) (span : Span). fault_in 6 span (around (codes "duplicate name ") text (codes " in this file"))) t.id u.id same.0) (top_names f) (top_names g) (same_top_names f g h)
 
 -- ---- paths
 gone : (number : ℕ) (a b : Id) (o p : Option Item) → Both SameItem o p → SameId a b → cond (is_none o) (Some (missing_at number item_word a)) None ≡ cond (is_none p) (Some (missing_at number item_word b)) None
@@ -55,7 +55,7 @@ module _ (is js : List Item) (items : AllZip SameItem is js) where
   same_lost (Foreign p a) (Foreign q b) h = refl
   same_lost t u h = absurd h
 
-  same_unless : (o p : Option TopName) (f g : Option Fault) → Both SameTop o p → f ≡ g → unless_named o f ≡ unless_named p g
+  same_unless : (o p : Option TopName) (f g : Option Fault) → Both SameTop o p → f ≡ g → cond (is_none o) f None ≡ cond (is_none p) g None
   same_unless None None f g h e = e
   same_unless None (Some u) f g h e = absurd h
   same_unless (Some t) None f g h e = absurd h
@@ -75,15 +75,15 @@ module _ (is js : List Item) (items : AllZip SameItem is js) where
   same_file_fault f g h = ap₂ option_or (same_top_fault f g h) (zip_first SameItem (paths_fault is) (paths_fault js) same_paths_fault (file_items f) (file_items g) (same_file_items f g h))
 
   -- ---- tops of files
-  same_attributed : (before others : List Attribute) (s r : Span) → SameAttributes before others → s ≡ r → attributed_fault before s ≡ attributed_fault others r
-  same_attributed [] [] s r h e = refl
-  same_attributed [] (b ∷ others) s r h e = absurd h
-  same_attributed (a ∷ before) [] s r h e = absurd h
-  same_attributed (a ∷ before) (b ∷ others) s r h e = ap (λ (at : Span). Some (fault 9 at)) e
+  same_attributed : (before others : List Attribute) (s r : Span) (f g : Option Fault) → SameAttributes before others → s ≡ r → f ≡ g → option_or (first_in (λ (a : Attribute). Some (fault 9 s)) before) f ≡ option_or (first_in (λ (a : Attribute). Some (fault 9 r)) others) g
+  same_attributed [] [] s r f g h e same = same
+  same_attributed [] (b ∷ others) s r f g h e same = absurd h
+  same_attributed (a ∷ before) [] s r f g h e same = absurd h
+  same_attributed (a ∷ before) (b ∷ others) s r f g h e same = ap (λ (at : Span). Some (fault 9 at)) e
 
-  same_top_use : (u t : ToplevelUse) → see_top_use u ≡ see_top_use t → top_use_fault is u ≡ top_use_fault js t
+  same_top_use : (u t : ToplevelUse) → see_top_use u ≡ see_top_use t → top_fault is (ast.Use u) ≡ top_fault js (ast.Use t)
   same_top_use u t h =
-      ap₂ option_or (same_attributed u.attributes.items t.attributes.items u.span t.span (zip_of see_attribute u.attributes.items t.attributes.items (ap (λ (x : TopUse). x.attributes) h)) (ap (λ (x : TopUse). x.span) h))
+      same_attributed u.attributes.items t.attributes.items u.span t.span (lost_fault is (leads [] u.item)) (lost_fault js (leads [] t.item)) (zip_of see_attribute u.attributes.items t.attributes.items (ap (λ (x : TopUse). x.attributes) h)) (ap (λ (x : TopUse). x.span) h)
       (same_lost (leads [] u.item) (leads [] t.item) (same_leads [] [] u.item t.item tt (path_of u.item t.item (ap (λ (x : TopUse). x.item) h))))
 
   same_top : (a b : AstItem) → SameAst a b → top_fault is a ≡ top_fault js b
@@ -92,16 +92,16 @@ module _ (is js : List Item) (items : AllZip SameItem is js) where
   same_top (ast.Use u) (ast.Use t) h = same_top_use u t h
   same_top a b h = absurd h
 
-  same_file_tops : (f g : PackageFile) → SameFile f g → file_tops_fault is f ≡ file_tops_fault js g
+  same_file_tops : (f g : PackageFile) → SameFile f g → first_in (top_fault is) f.decl_list.items.items ≡ first_in (top_fault js) g.decl_list.items.items
   same_file_tops f g h = zip_first SameAst (top_fault is) (top_fault js) same_top f.decl_list.items.items g.decl_list.items.items h.1
 
 -- ---- uses
-same_reached : (o p : Option Bool) (a b : Id) (f g : Option Fault) → o ≡ p → SameId a b → f ≡ g → reached_fault o a f ≡ reached_fault p b g
-same_reached o p a b f g e h same = ap (λ (x : Option Bool). reached_fault x a f) e ∙ by_reach p
+same_reached : (o p : Option Bool) (a b : Id) (f g : Option Fault) → o ≡ p → SameId a b → f ≡ g → reached_fault o a f None ≡ reached_fault p b g None
+same_reached o p a b f g e h same = ap (λ (x : Option Bool). reached_fault x a f None) e ∙ by_reach p
   where
-    by_reach : (p : Option Bool) → reached_fault p a f ≡ reached_fault p b g
+    by_reach : (p : Option Bool) → reached_fault p a f None ≡ reached_fault p b g None
     by_reach None = same
-    by_reach (Some true) = ap Some (by_name (λ (text : List ℕ) (span : Span). fault_in 10 span (world_words text)) a b h)
+    by_reach (Some true) = ap Some (by_name (λ (text : List ℕ) (span : Span). fault_in 10 span (codes "name `" ++ (text ++ codes "` is defined as a world, not an interface"))) a b h)
     by_reach (Some false) = refl
 
 same_own_uses : (p q : Part) → SamePart p q → AllZip SameUse (own_uses p) (own_uses q)
@@ -115,9 +115,9 @@ module _ (files others : List PackageFile) (h : AllZip SameFile files others) wh
   same_files_fault = zip_first SameFile (file_fault (all_items files)) (file_fault (all_items others)) (same_file_fault (all_items files) (all_items others) (same_all_items files others h)) files others h
 
   pub same_tops_fault : tops_fault files ≡ tops_fault others
-  same_tops_fault = zip_first SameFile (file_tops_fault (all_items files)) (file_tops_fault (all_items others)) (same_file_tops (all_items files) (all_items others) (same_all_items files others h)) files others h
+  same_tops_fault = zip_first SameFile (λ (file : PackageFile). first_in (top_fault (all_items files)) file.decl_list.items.items) (λ (file : PackageFile). first_in (top_fault (all_items others)) file.decl_list.items.items) (same_file_tops (all_items files) (all_items others) (same_all_items files others h)) files others h
 
-  same_path_fault : (top other : List TopName) → AllZip SameTop top other → (a b : UsePath) → SamePath a b → path_fault files top a ≡ path_fault others other b
+  same_path_fault : (top other : List TopName) → AllZip SameTop top other → (a b : UsePath) → SamePath a b → path_fault files top a None ≡ path_fault others other b None
   same_path_fault top other tops a b same =
       let to = same_leads top other a b tops same in
       same_reached (is_world_at files (leads top a)) (is_world_at others (leads other b)) (path_id a) (path_id b) (lost_fault (all_items files) (leads top a)) (lost_fault (all_items others) (leads other b))

@@ -1,6 +1,6 @@
 -- What alike files name of other packages, and the names of their scopes.
 use Rattle.std.proofs.Common.{◌≡◌, Bool, true, false, not, ◌&&◌, List, [], ◌∷◌, ◌++◌, length, Option, Some, None, refl, ap, ap₂}
-use Rattle.wit_syntax.proofs.Common.{Address, AllZip, AstItem, Attribute, DefinitionPart, Extern, ExternKind, ExternPart, Foreign, ForeignName, ForeignNamed, ForeignUse, ForeignVisit, FunctionPart, Id, Include, IncludePart, InlineAt, InterfaceItem, InterfaceNamed, Item, Local, PackageFile, Part, SideItem, Target, TheInterface, TheWorld, TopName, Use, UseName, UsePart, UsePath, WorldNamed, about, all_items, all_scopes, bytes_eq, declaration_visits, extern_paths, extern_visits, file_visits, filter, first_foreign_uses, firsts, flat_map, foreign_at, foreign_items, foreign_uses, foreign_visits, inline_after, inline_item, inline_items, inline_uses, is_foreign, is_interface, is_world, is_world_at, item_at, item_named, item_side, item_uses, items_on, option_map_or, part_foreign_uses, part_visits, parts, path_scope, path_visits, same_address, same_foreign_use, same_item, scope, scope_names, side_items, use_foreign_uses, use_of_foreign, used_names, visited, walk, with_inline}
+use Rattle.wit_syntax.proofs.Common.{Address, AllZip, AstItem, Attribute, DefinitionPart, Extern, ExternKind, ExternPart, Foreign, ForeignName, ForeignNamed, ForeignUse, ForeignVisit, FunctionPart, Include, IncludePart, InlineAt, InterfaceItem, InterfaceNamed, Item, Local, PackageFile, Part, SideItem, Target, TheInterface, TheWorld, TopName, Use, UseName, UsePart, UsePath, WorldNamed, about, all_items, all_scopes, bytes_eq, declaration_visits, extern_paths, extern_visits, filter, first_foreign_uses, firsts, flat_map, foreign_at, foreign_items, foreign_uses, foreign_visits, inline_after, inline_item, inline_items, inline_uses, is_foreign, is_interface, is_world, is_world_at, item_at, item_named, item_side, item_uses, items_on, option_map_or, part_foreign_uses, part_visits, parts, path_scope, path_visits, same_address, same_foreign_use, same_item, scope, scope_names, side_items, use_foreign_uses, use_of_foreign, used_names, visited, walk}
 use Rattle.wit_tree.specs.declared.tree.AstItem.TheVariants as ast
 use Rattle.wit_tree.specs.declared.tree.ExternKind.TheVariants as extern
 use Rattle.wit_tree.specs.declared.tree.InterfaceItem.TheVariants as interface_item
@@ -89,7 +89,7 @@ same_declaration_visits (ast.Use u) (ast.Use t) h =
     same_path_visits false u.attributes.items t.attributes.items u.item t.item (zip_of see_attribute u.attributes.items t.attributes.items (ap (λ (x : TopUse). x.attributes) h)) (path_of u.item t.item (ap (λ (x : TopUse). x.item) h))
 same_declaration_visits a b h = absurd h
 
-same_file_visits : (f g : PackageFile) → SameFile f g → AllZip SameVisit (file_visits f) (file_visits g)
+same_file_visits : (f g : PackageFile) → SameFile f g → AllZip SameVisit (flat_map declaration_visits f.decl_list.items.items) (flat_map declaration_visits g.decl_list.items.items)
 same_file_visits f g h = zip_flat SameAst SameVisit declaration_visits declaration_visits same_declaration_visits f.decl_list.items.items g.decl_list.items.items h.1
 
 pub same_visited : (v w : ForeignVisit) → SameVisit v w → visited v ≡ visited w
@@ -104,7 +104,7 @@ zip_firsts R test one (x ∷ xs) (y ∷ ys) h = (h.0, zip_filter R (λ z. not (t
 
 module _ (files others : List PackageFile) (h : AllZip SameFile files others) where
   pub same_visits : AllZip SameVisit (foreign_visits files) (foreign_visits others)
-  same_visits = zip_flat SameFile SameVisit file_visits file_visits same_file_visits files others h
+  same_visits = zip_flat SameFile SameVisit (λ (f : PackageFile). flat_map declaration_visits f.decl_list.items.items) (λ (f : PackageFile). flat_map declaration_visits f.decl_list.items.items) same_file_visits files others h
 
   pub same_foreign_items : AllZip SameVisit (foreign_items files) (foreign_items others)
   same_foreign_items = zip_firsts SameVisit same_item (λ x y z w one two. ap₂ same_address (same_visited x z one) (same_visited y w two)) (foreign_visits files) (foreign_visits others) same_visits
@@ -164,7 +164,7 @@ same_inline_after i j before (x ∷ xs) others (y ∷ ys) h earlier same =
 pub same_inline_items : (i j : Item) → SameItem i j → AllZip SameItem (inline_items i) (inline_items j)
 same_inline_items i j h = same_inline_after i j [] (side_items i) [] (side_items j) h tt (same_side_items i j h)
 
-same_with_inline : (i j : Item) → SameItem i j → AllZip SameItem (with_inline i) (with_inline j)
+same_with_inline : (i j : Item) → SameItem i j → AllZip SameItem (i ∷ inline_items i) (j ∷ inline_items j)
 same_with_inline i j h = (h, same_inline_items i j h)
 
 module _ (files others : List PackageFile) (h : AllZip SameFile files others) where
@@ -182,7 +182,7 @@ module _ (files others : List PackageFile) (h : AllZip SameFile files others) wh
       (filter (λ (t : ForeignUse). same_address t.from s) (first_foreign_uses files)) (filter (λ (t : ForeignUse). same_address t.from s) (first_foreign_uses others)) kept
 
   pub same_all_scopes : AllZip SameItem (all_scopes files) (all_scopes others)
-  same_all_scopes = zip_flat SameItem SameItem with_inline with_inline same_with_inline (all_items files) (all_items others) (same_all_items files others h)
+  same_all_scopes = zip_flat SameItem SameItem (λ (i : Item). i ∷ inline_items i) (λ (i : Item). i ∷ inline_items i) same_with_inline (all_items files) (all_items others) (same_all_items files others h)
 
   named_there : (o p : Option Item) → Both SameItem o p → AllZip SameName (option_map_or scope_names o []) (option_map_or scope_names p [])
   named_there None None same = tt

@@ -1,7 +1,7 @@
 -- Tables of alike scopes and items, and where names in them end.
-use Rattle.std.proofs.Common.{◌≡◌, ℕ, zero, suc, Bool, true, false, not, cond, List, map, Option, Some, None, refl, ap, ap₂, ◌∙◌, subst}
+use Rattle.std.proofs.Common.{◌≡◌, ℕ, zero, suc, Bool, true, false, not, cond, List, map, Option, Some, None, refl, ap, ap₂, ◌∙◌, subst, ◌++◌, codes, sym}
 use Rattle.std.specs.Prelude.{unwrap_or}
-use Rattle.wit_syntax.proofs.Common.{Address, AliasForm, AllZip, AtForeign, AtResource, Defined, DefinitionPart, Elsewhere, End, ExternPart, Foreign, ForeignName, Form, FunctionPart, Id, Include, IncludePart, Item, Local, More, Of, PackageFile, Part, Prim, ScopeName, Shape, Shapes, Span, Target, Use, UsePart, UsePath, Used, Word, about_name, all_items, body_of, defined, extern_paths, fault_in, handle_words, in_order, in_turn, include_path, include_paths, includes, inline_uses, interfaces_of, is_defined, is_world, item_row, item_rows, leads, local_name, local_target, meaning, named_end, needed_ids, needed_paths, option_map_or, part_includes, parts, rows_of, scope, shape_end, use_path, use_paths, used, worlds_of}
+use Rattle.wit_syntax.proofs.Common.{Address, AliasForm, AllZip, AtForeign, AtResource, Defined, DefinitionPart, Elsewhere, End, ExternPart, Foreign, ForeignName, Form, FunctionPart, Id, Include, IncludePart, Item, Local, More, Of, PackageFile, Part, Prim, ScopeName, Shape, Shapes, Span, Target, Use, UsePart, UsePath, Used, Word, about_name, all_items, body_of, defined, extern_paths, fault_in, in_order, in_turn, include_path, include_paths, includes, inline_uses, interfaces_of, is_defined, is_world, item_row, item_rows, leads, local_name, local_target, meaning, named_end, needed_ids, needed_paths, option_map_or, part_includes, parts, rows_of, scope, shape_end, use_path, use_paths, used, worlds_of, if◌then◌else◌}
 use Rattle.wit_grammar.specs.Trees.{Definition}
 use Rattle.wit_grammar.specs.Seen.{see_include}
 use Rattle.wit_syntax.specs.Shape.{End as NoShapes}
@@ -15,6 +15,7 @@ use Rattle.wit_alike.proofs.Items.{SameFile, SameItem, SamePart, SameName, same_
 use Rattle.wit_alike.proofs.Functions.{extern_kind}
 use Rattle.wit_alike.proofs.Foreign.{SameUse, include_from, use_from, same_extern_paths, same_inline_uses, same_scope}
 use Rattle.wit_alike.proofs.Tables.{SameRow, SameTable}
+use Rattle.wit_syntax.proofs.NeededPaths.{needed-paths}
 
 -- ---- names of scopes
 same_needed : (x y : ScopeName) → SameName x y → AllZip SameId (needed_ids x) (needed_ids y)
@@ -81,8 +82,9 @@ either_paths false false a b c d e h k = k
 
 pub same_needed_paths : (i j : Item) → SameItem i j → AllZip SamePath (needed_paths i) (needed_paths j)
 same_needed_paths i j h =
-    either_paths (is_world i) (is_world j) (include_paths i) (use_paths i) (include_paths j) (use_paths j) (same_is_world i j h)
-    (zip_flat SamePart SamePath include_path include_path same_include_path (parts i) (parts j) (same_parts i j h)) (zip_flat SamePart SamePath use_path use_path same_use_path (parts i) (parts j) (same_parts i j h))
+    let each = either_paths (is_world i) (is_world j) (include_paths i) (use_paths i) (include_paths j) (use_paths j) (same_is_world i j h)
+    (zip_flat SamePart SamePath include_path include_path same_include_path (parts i) (parts j) (same_parts i j h)) (zip_flat SamePart SamePath use_path use_path same_use_path (parts i) (parts j) (same_parts i j h)) in
+    subst (AllZip SamePath (needed_paths i)) (sym (needed-paths j)) (subst (λ (l : List UsePath). AllZip SamePath l (if is_world j then include_paths j else use_paths j)) (sym (needed-paths i)) each)
 
 same_local_target : (t u : Target) → SameTarget t u → AllZip SameId (local_target t) (local_target u)
 same_local_target (Local a) (Local b) h = (h, tt)
@@ -145,7 +147,7 @@ module _ (files others : List PackageFile) (h : AllZip SameFile files others) wh
       by_end : (a b : Id) (p : Option End) → SameId a b → end_fault a p ≡ end_fault b p
       by_end a b None same = refl
       by_end a b (Some AtResource) same = refl
-      by_end a b (Some Elsewhere) same = ap Some (by_name (λ (text : List ℕ) (span : Span). fault_in 27 span (handle_words text)) a b same)
+      by_end a b (Some Elsewhere) same = ap Some (by_name (λ (text : List ℕ) (span : Span). fault_in 27 span (codes "type `" ++ (text ++ codes "` used in a handle must be a resource"))) a b same)
       by_end a b (Some (AtForeign s name)) same = refl
 
   pub same_handle : (steps : ℕ) (s : Address) (a b : Id) → SameId a b → handle_fault files steps s a ≡ handle_fault others steps s b

@@ -1,14 +1,14 @@
 -- The first faults of definitions and functions that are alike.
-use Rattle.std.proofs.Common.{◌≡◌, ℕ, Bool, cond, List, [], ◌∷◌, ◌++◌, map, Option, Some, None, refl, ap, ap₂, ◌∙◌}
-use Rattle.wit_syntax.proofs.Common.{AllZip, Constructor, Defined, Fault, ForeignName, Freestanding, FuncForm, Id, Missing, Param, Role, ScopeName, SourceFunction, SourceParam, Span, TypeBody, Used, body_ok, body_types, bytes_eq, fault, fault_about, fault_in, folded, function_words, meaning, meant_ok, name_word, option_or, param_twice, result_ok, written_param}
+use Rattle.std.proofs.Common.{◌≡◌, ℕ, Bool, cond, List, [], ◌∷◌, ◌++◌, map, Option, Some, None, refl, ap, ap₂, ◌∙◌, codes, is_none}
+use Rattle.wit_syntax.proofs.Common.{AllZip, Constructor, Defined, Fault, ForeignName, Freestanding, FuncForm, Id, Missing, Param, Role, ScopeName, SourceFunction, SourceParam, Span, TypeBody, Used, body_ok, body_types, bytes_eq, fault, fault_in, lower_case, meaning, meant_ok, name_word, option_or, param_twice, result_ok, written_param, if◌then◌else◌}
 use Rattle.wit_type_tree.specs.declared.types.FuncForm.TheVariants as form
 use Rattle.wit_type_tree.specs.declared.types.TypeBody.TheVariants as body
 use Rattle.wit_type_tree.specs.declared.types.«Type».{«Type» as Written}
 use Rattle.wit_type_tree.specs.declared.types.«Type».TheVariants as written
 use Rattle.wit_grammar.specs.Trees.{Name, Definition, Function, Parameter}
 use Rattle.wit_grammar.specs.Seen.{see_attribute, see_param, see_type}
-use Rattle.wit_first.specs.FunctionFaults.{params_fault, given_fault, getter_fault, no_result_fault, setter_fault, is_written_as, made_fault, result_fault, gives_fault}
-use Rattle.wit_walk.proofs.Common.{definition_fault, function_fault, is_free, lost_word, param_fault, return_fault, signed_fault, type_fault, unless_meant, word_fault}
+use Rattle.wit_first.specs.FunctionFaults.{params_fault, given_fault, getter_fault, setter_fault, is_written_as, made_fault, result_fault}
+use Rattle.wit_walk.proofs.Common.{definition_fault, function_fault, is_free, lost_word, param_fault, return_fault, signed_fault, type_fault, word_fault}
 use Rattle.wit_alike.proofs.Lists.{Both, both_of, zip_after, zip_any, zip_append, zip_first, zip_map, zip_of}
 use Rattle.wit_alike.proofs.Leaves.{SameId, same_metadata, same_text}
 use Rattle.wit_alike.proofs.Types.{SameType, type_of, same_ok_of, same_ok_span, same_type_span}
@@ -36,10 +36,10 @@ same_free_name name other r s e h = refl
 
 same_lost_word : (fns gns : List SourceFunction) (a b : Id) → AllZip SameFunction fns gns → SameId a b → lost_word fns a ≡ lost_word gns b
 same_lost_word fns gns a b h same =
-    ap₂ (λ (there : Bool) (n : Name). cond there (fault_in 28 n.span (function_words n.text)) (fault_about 29 n.span n.text (Missing name_word) None))
+    ap₂ (λ (there : Bool) (n : Name). cond there (fault_in 28 n.span (codes "cannot use function `" ++ (n.text ++ codes "` as a type"))) (record { rule = 29; span = n.span; says = Missing n.text name_word None }))
     (zip_any SameFunction (λ (fn : SourceFunction). is_free a.name.now fn.role) (λ (fn : SourceFunction). is_free b.name.now fn.role) (λ f g one. same_free_name a.name.now b.name.now f.role g.role (same_text a b same) one.role) fns gns h) same
 
-pub same_unless_meant : (o p : Option ScopeName) (f g : Fault) → Both SameName o p → f ≡ g → unless_meant o f ≡ unless_meant p g
+pub same_unless_meant : (o p : Option ScopeName) (f g : Fault) → Both SameName o p → f ≡ g → (if is_none o then Some f else None) ≡ (if is_none p then Some g else None)
 same_unless_meant None None f g h e = ap Some e
 same_unless_meant None (Some y) f g h e = absurd h
 same_unless_meant (Some x) None f g h e = absurd h
@@ -102,12 +102,12 @@ module _ (xs ys : List ScopeName) (names : AllZip SameName xs ys) where
   same_of_role how r (Constructor b) t u o p h same k = absurd h
   same_of_role how r s t u o p h same k = refl
 
-  same_gives : (fn gn : SourceFunction) → SameFunction fn gn → (t u : Written) → SameType t u → gives_fault xs fn t ≡ gives_fault ys gn u
+  same_gives : (fn gn : SourceFunction) → SameFunction fn gn → (t u : Written) → SameType t u → result_fault fn.func.form fn.role t (result_ok xs t) ≡ result_fault gn.func.form gn.role u (result_ok ys u)
   same_gives fn gn h t u same =
       ap (λ (f : Function). result_fault f.form fn.role t (result_ok xs t)) h.func ∙ same_of_role gn.func.form fn.role gn.role t u (result_ok xs t) (result_ok ys u) h.role same (same_result_ok t u same)
 
   -- ---- functions
-  same_no_result : (fn gn : SourceFunction) → SameFunction fn gn → no_result_fault fn ≡ no_result_fault gn
+  same_no_result : (fn gn : SourceFunction) → SameFunction fn gn → getter_fault fn.func.form fn.func.span ≡ getter_fault gn.func.form gn.func.span
   same_no_result fn gn h = ap (λ (f : Function). getter_fault f.form f.span) h.func
 
   same_return : (wrong other : Written → Option Fault) → ((t u : Written) → SameType t u → wrong t ≡ other u) → (fn gn : SourceFunction) → SameFunction fn gn → (o p : Option Written) → Both (λ (t u : Written). see_type t ≡ see_type u) o p
@@ -138,8 +138,8 @@ module _ (xs ys : List ScopeName) (names : AllZip SameName xs ys) where
       → AllZip (λ (p q : Param). see_param p ≡ see_param q) before others → see_param p ≡ see_param q → param_fault wrong fn before p ≡ param_fault other gn others q
   same_param_fault wrong other each fn gn h before others p q earlier same =
       ap₂ option_or
-      (zip_repeat SameParam (λ (x : SourceParam). folded x.name) (λ (x : SourceParam). folded x.name) (λ (x : SourceParam). param_twice x.name x.span) (λ (x : SourceParam). param_twice x.name x.span)
-      (λ x y one. ap folded one.0) (λ x y one. ap₂ param_twice one.0 one.1) (fn.given ++ map written_param before) (gn.given ++ map written_param others) (written_param p) (written_param q)
+      (zip_repeat SameParam (λ (x : SourceParam). lower_case x.name) (λ (x : SourceParam). lower_case x.name) (λ (x : SourceParam). param_twice x.name x.span) (λ (x : SourceParam). param_twice x.name x.span)
+      (λ x y one. ap lower_case one.0) (λ x y one. ap₂ param_twice one.0 one.1) (fn.given ++ map written_param before) (gn.given ++ map written_param others) (written_param p) (written_param q)
       (zip_append SameParam fn.given (map written_param before) gn.given (map written_param others) h.given (zip_map (λ (p q : Param). see_param p ≡ see_param q) SameParam written_param written_param same_written_param before others earlier)) (same_written_param p q same))
       (each p.ty q.ty (type_of p.ty q.ty (ap (λ (x : Parameter). x.ty) same)))
 

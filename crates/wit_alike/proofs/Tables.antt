@@ -97,11 +97,11 @@ module _ (rs ss : List Row) (h : SameTable rs ss) where
     | inr (r, s) ↦ absurd ((one_answer rs).never_both (order, is) r)
   ]
   outcome_to (AtMissing id) is =
-      let it = first_to (IsMissing rs) (IsMissing ss) missing_to missing_back is.0 is.1 is.2.id is.2.first in
-      (AtMissing it.0, (is.0, is.1, record { id = it.0; first = it.1 }, refl), subst (λ (a : Id). SameId a it.0) is.3 it.2)
+      let it = first_to (IsMissing rs) (IsMissing ss) missing_to missing_back is.0 is.1 id is.2 in
+      (AtMissing it.0, (is.0, is.1, it.1), it.2)
   outcome_to (AtCycle id) is =
-      let it = first_to (IsCyclic rs) (IsCyclic ss) cyclic_to cyclic_back is.0 is.1 is.2.id is.2.first in
-      (AtCycle it.0, (is.0, is.1, record { complete = complete_to is.2.complete; id = it.0; first = it.1 }, refl), subst (λ (a : Id). SameId a it.0) is.3 it.2)
+      let it = first_to (IsCyclic rs) (IsCyclic ss) cyclic_to cyclic_back is.1 is.2 id is.3 in
+      (AtCycle it.0, (complete_to is.0, is.1, is.2, it.1), it.2)
 
   pub same_outcome : (o p : Outcome) → IsOutcome rs o → IsOutcome ss p → SameOutcome o p
   same_outcome o p x y = (let it = outcome_to o x in subst (SameOutcome o) (outcome_one ss it.0 p it.1 y) it.2)

@@ -1,11 +1,11 @@
 -- The first fault of alike files is one.
 use Rattle.std.proofs.Common.{◌≡◌, ℕ, Bool, true, false, not, cond, ◌&&◌, List, [], ◌∷◌, ◌++◌, map, length, codes, Option, Some, None, is_none, refl, ap, ap₂, sym, ◌∙◌}
-use Rattle.wit_syntax.proofs.Common.{Address, AllZip, Called, Constructor, Cyclic, Defined, Exported, Fault, ForeignName, Freestanding, Id, Imported, Include, Item, Link, Method, Missing, OnSide, PackageFile, Role, Row, ScopeName, SideFunction, SideInline, SideItem, SideLink, SourceFunction, Span, Static, TopName, Used, WorldSide, about, address, all_items, bytes_eq, cyclic_at, defined, defined_twice, fault_about, fault_in, filter, flat_map, functions, getter_of, in_order, in_turn, includes, inline_item, interface_words, interfaces_of, is_interface, is_world_at, item_at, item_called, item_function, item_link, item_rows, item_side, item_word, items_on, last_header, leads, linked_twice, list_any, local_id, local_name, lone_setter, meaning, missing_at, missing_type_at, name_called, name_twice, name_word, names_on, on_side, option_map, option_map_or, option_or, path_id, role_names, rows_of, same_address, scope_names, side_called, side_items, type_word, used, used_words, world_words, worlds_of}
+use Rattle.wit_syntax.proofs.Common.{Address, AllZip, Called, Constructor, Cyclic, Defined, Exported, Fault, ForeignName, Freestanding, Id, Imported, Include, Item, Link, Method, Missing, OnSide, PackageFile, Role, Row, ScopeName, SideFunction, SideInline, SideItem, SideLink, SourceFunction, Span, Static, TopName, Used, WorldSide, about, address, all_items, bytes_eq, cyclic_at, defined, defined_twice, fault_in, filter, flat_map, functions, getter_of, in_order, in_turn, includes, inline_item, interfaces_of, is_interface, is_world_at, item_at, item_called, item_function, item_link, item_rows, item_side, item_word, items_on, last_header, leads, linked_twice, list_any, local_id, local_name, lone_setter, meaning, missing_at, missing_type_at, name_called, name_twice, name_word, names_on, on_side, option_map, option_map_or, option_or, path_id, role_names, rows_of, same_address, scope_names, side_called, side_items, type_word, used, worlds_of, if◌then◌else◌, fault}
 use Rattle.wit_tree.specs.declared.tree.PackageName.{PackageName as Header}
 use Rattle.wit_grammar.specs.Trees.{Name, UsedName, Function, Extern as SeenExtern}
 use Rattle.wit_grammar.specs.Seen.{see_attribute, see_include, see_name, see_package_id}
 use Rattle.wit_syntax.specs.Hint.{type_hint}
-use Rattle.wit_walk.proofs.Common.{AreOutcomes, ComesTo, Known, Outcome, Sorted, called_fault, contents_fault, crossed, definition_fault, earliest, first_after, first_fault, first_in, folded_fault, handle_fault, header_fault, include_fault, inline_fault, interface_fault, is_extern, is_on_side, is_same_link, is_setter, item_fault, item_sorted, link_fault, linked_fault, lost_fault, lost_use, member_fault, name_fault, one_first, order_of, ordered_fault, own_fault, scope_faults, setter_fault, setters_beside, setters_fault, side_setters_fault, side_sorted, signed_fault, sort_of, there_fault, unless_meant, use_fault}
+use Rattle.wit_walk.proofs.Common.{IsOutcome, ComesTo, Known, Outcome, Sorted, called_fault, contents_fault, crossed, definition_fault, earliest, first_after, first_fault, first_in, folded_fault, handle_fault, include_fault, interface_fault, is_extern, is_on_side, is_same_link, is_setter, item_fault, item_sorted, link_fault, linked_fault, lost_fault, lost_use, member_fault, name_fault, one_first, order_of, ordered_fault, own_fault, scope_faults, setter_fault, setters_fault, side_setters_fault, side_sorted, signed_fault, sort_of, reached_fault, use_fault}
 use Rattle.wit_alike.proofs.Lists.{Both, zip_after, zip_any, zip_append, zip_first, zip_flat, zip_of, zip_same}
 use Rattle.wit_alike.proofs.Leaves.{SameId, by_name, same_external, same_metadata, same_stability, same_text}
 use Rattle.wit_alike.proofs.Paths.{SameTop, same_leads, same_path_id, same_path_scope}
@@ -16,6 +16,7 @@ use Rattle.wit_alike.proofs.Foreign.{include_attributes, include_from, same_worl
 use Rattle.wit_alike.proofs.Scopes.{same_defined, same_handle, same_in_order, same_in_turn, same_includes, same_interfaces, same_item_rows, same_names_used, same_rows, same_worlds}
 use Rattle.wit_alike.proofs.Files.{same_all_uses, same_files_fault, same_item_names, same_lost, same_missing, same_tops_fault, same_visits_fault, zip_repeat}
 use Rattle.wit_alike.proofs.Signatures.{same_definition_fault, same_function_fault, same_signed, same_unless_meant}
+use Rattle.wit_walk.specs.Setters.{setters_beside}
 
 -- ---- names
 same_role_names : (r s : Role) → SameRole r s → AllZip (λ (x y : List ℕ). x ≡ y) (role_names r) (role_names s)
@@ -30,7 +31,7 @@ same_lost_use : (i j : Item) (a b : Id) → SameItem i j → SameId a b → lost
 same_lost_use i j a b h same =
     let Same : List ℕ → List ℕ → Type 0 = λ x y. x ≡ y in
     let names = zip_flat SameFunction Same (λ (fn : SourceFunction). role_names fn.role) (λ (fn : SourceFunction). role_names fn.role) (λ f g one. same_role_names f.role g.role one.role) (functions i) (functions j) (same_functions i j h) in
-    ap₂ (λ (there : Bool) (n : Name). cond there (fault_in 13 n.span (used_words n.text)) (fault_about 12 n.span n.text (Missing name_word) None))
+    ap₂ (λ (there : Bool) (n : Name). cond there (fault_in 13 n.span (codes "cannot import function `" ++ (n.text ++ codes "`"))) (record { rule = 12; span = n.span; says = Missing n.text name_word None }))
     (zip_any Same (bytes_eq a.name.now) (bytes_eq b.name.now) (λ x y one. ap₂ bytes_eq (same_text a b same) one) (flat_map (λ (fn : SourceFunction). role_names fn.role) (functions i)) (flat_map (λ (fn : SourceFunction). role_names fn.role) (functions j)) names) same
 
 abbrev named_so : List ℕ → Span → Called
@@ -41,7 +42,7 @@ same_called x y h = by_name named_so (local_id x) (local_id y) (same_local_id x 
 
 module _ (files others : List PackageFile) (h : AllZip SameFile files others) where
   used_there : (o p : Option Item) (a b : Id) → Both SameItem o p → SameId a b
-      → option_map_or (λ (target : Item). unless_meant (meaning (scope_names target) a.name.now) (lost_use target a)) o None ≡ option_map_or (λ (target : Item). unless_meant (meaning (scope_names target) b.name.now) (lost_use target b)) p None
+      → option_map_or (λ (target : Item). if is_none (meaning (scope_names target) a.name.now) then Some (lost_use target a) else None) o None ≡ option_map_or (λ (target : Item). if is_none (meaning (scope_names target) b.name.now) then Some (lost_use target b) else None) p None
   used_there None None a b there same = refl
   used_there None (Some j) a b there same = absurd there
   used_there (Some i) None a b there same = absurd there
@@ -68,7 +69,7 @@ module _ (files others : List PackageFile) (h : AllZip SameFile files others) wh
       by_kind : (p : Option Bool) → interface_fault p a ≡ interface_fault p b
       by_kind None = refl
       by_kind (Some true) = refl
-      by_kind (Some false) = ap Some (by_name (λ (text : List ℕ) (span : Span). fault_in 11 span (interface_words text)) a b same)
+      by_kind (Some false) = ap Some (by_name (λ (text : List ℕ) (span : Span). fault_in 11 span (codes "name `" ++ (text ++ codes "` is defined as an interface, not a world"))) a b same)
 
   same_include : (top other : List TopName) → AllZip SameTop top other → (n m : Include) → see_include n ≡ see_include m → include_fault files top n ≡ include_fault others other m
   same_include top other tops n m same =
@@ -93,12 +94,12 @@ module _ (files others : List PackageFile) (h : AllZip SameFile files others) wh
       ∙ ap (λ (side : WorldSide). cond (list_any (λ (x : Link). is_same_link other x k) (flat_map item_link (items_on k.side others'))) (Some (linked_twice side (path_id l.path).span)) None) same.side
       ∙ ap (λ (n : Name). cond (list_any (λ (x : Link). is_same_link other x k) (flat_map item_link (items_on k.side others'))) (Some (linked_twice k.side n.span)) None) (same_path_id l.path k.path same.path)
 
-  same_there : (o p : Option Bool) (a b : Id) (lost twice other also : Option Fault) → o ≡ p → SameId a b → lost ≡ other → twice ≡ also → there_fault o a lost twice ≡ there_fault p b other also
-  same_there o p a b lost twice other also e same f g = ap (λ (x : Option Bool). there_fault x a lost twice) e ∙ by_kind p
+  same_there : (o p : Option Bool) (a b : Id) (lost twice other also : Option Fault) → o ≡ p → SameId a b → lost ≡ other → twice ≡ also → reached_fault o a lost twice ≡ reached_fault p b other also
+  same_there o p a b lost twice other also e same f g = ap (λ (x : Option Bool). reached_fault x a lost twice) e ∙ by_kind p
     where
-      by_kind : (p : Option Bool) → there_fault p a lost twice ≡ there_fault p b other also
+      by_kind : (p : Option Bool) → reached_fault p a lost twice ≡ reached_fault p b other also
       by_kind None = f
-      by_kind (Some true) = ap Some (by_name (λ (text : List ℕ) (span : Span). fault_in 10 span (world_words text)) a b same)
+      by_kind (Some true) = ap Some (by_name (λ (text : List ℕ) (span : Span). fault_in 10 span (codes "name `" ++ (text ++ codes "` is defined as a world, not an interface"))) a b same)
       by_kind (Some false) = g
 
   same_link_fault : (top other : List TopName) → AllZip SameTop top other → (before others' : List SideItem) (l k : Link) → AllZip SameSide before others' → SameLink l k → link_fault files top before l ≡ link_fault others other others' k
@@ -221,13 +222,13 @@ same_last (f ∷ files) [] h = absurd h
 same_last (f ∷ files) (g ∷ others) h = seen_or (last_header files) f.package_id (last_header others) g.package_id (same_last files others h.1) h.0.0
 
 same_stated : (number : ℕ) (a b : Id) → SameId a b → cyclic_at number item_word a ≡ cyclic_at number item_word b
-same_stated number a b h = by_name (λ (text : List ℕ) (span : Span). fault_about number span text (Cyclic item_word) None) a b h
+same_stated number a b h = by_name (λ (text : List ℕ) (span : Span). record { rule = number; span = span; says = Cyclic text item_word }) a b h
 
 same_round : (number : ℕ) (a b : Id) → SameId a b → cyclic_at number type_word a ≡ cyclic_at number type_word b
-same_round number a b h = by_name (λ (text : List ℕ) (span : Span). fault_about number span text (Cyclic type_word) None) a b h
+same_round number a b h = by_name (λ (text : List ℕ) (span : Span). record { rule = number; span = span; says = Cyclic text type_word }) a b h
 
 same_missing_type : (a b : Id) → SameId a b → missing_type_at a ≡ missing_type_at b
-same_missing_type a b h = by_name (λ (text : List ℕ) (span : Span). fault_about 15 span text (Missing type_word) (type_hint text)) a b h
+same_missing_type a b h = by_name (λ (text : List ℕ) (span : Span). record { rule = 15; span = span; says = Missing text type_word (type_hint text) }) a b h
 
 module _ (files others : List PackageFile) (h : AllZip SameFile files others) (steps : ℕ) (inside other : Item → Option Fault) (insides : (i j : Item) → SameItem i j → inside i ≡ other j) where
   same_item_fault : (i j : Item) → SameItem i j → (before after : List SideItem) → AllZip SameSide before after → (x y : SideItem) → SameSide x y → item_fault files steps inside i before x ≡ item_fault others steps other j after y
@@ -272,7 +273,7 @@ module _ (files others : List PackageFile) (h : AllZip SameFile files others) (s
       (ap₂ option_or (zip_after SameSide (member_fault files steps inside i (order_of o)) (member_fault others steps other j (order_of p)) (same_member i j same (order_of o) (order_of p) orders) [] (side_items i) [] (side_items j) tt (same_side_items i j same))
       (ap (λ (x : Option Fault). option_or x None) (same_setters i j same))))))))
 
-module _ (files others : List PackageFile) (h : AllZip SameFile files others) (outcome : List Row → Outcome) (are : AreOutcomes outcome) (steps : ℕ) where
+module _ (files others : List PackageFile) (h : AllZip SameFile files others) (outcome : List Row → Outcome) (are : (rs : List Row) → IsOutcome rs (outcome rs)) (steps : ℕ) where
   abbrev known : Known
   known = record { outcome = outcome; steps = steps }
 
@@ -280,15 +281,15 @@ module _ (files others : List PackageFile) (h : AllZip SameFile files others) (o
   same_ordered inside other insides i j same =
       let rs = rows_of (scope_names i) in
       let ss = rows_of (scope_names j) in
-      same_scope_faults files others h steps inside other insides i j same (outcome rs) (outcome ss) (same_outcome rs ss (same_rows (scope_names i) (scope_names j) (same_scope_names i j same)) (outcome rs) (outcome ss) (are.each rs) (are.each ss))
+      same_scope_faults files others h steps inside other insides i j same (outcome rs) (outcome ss) (same_outcome rs ss (same_rows (scope_names i) (scope_names j) (same_scope_names i j same)) (outcome rs) (outcome ss) (are rs) (are ss))
 
-  same_inline : (i j : Item) → SameItem i j → inline_fault files known i ≡ inline_fault others known j
+  same_inline : (i j : Item) → SameItem i j → ordered_fault files known (λ (v : Item). None) i ≡ ordered_fault others known (λ (v : Item). None) j
   same_inline i j same = same_ordered (λ (x : Item). None) (λ (x : Item). None) (λ a b one. refl) i j same
 
   same_contents : (i j : Item) → SameItem i j → contents_fault files known i ≡ contents_fault others known j
-  same_contents i j same = same_ordered (inline_fault files known) (inline_fault others known) same_inline i j same
+  same_contents i j same = same_ordered (ordered_fault files known (λ (v : Item). None)) (ordered_fault others known (λ (v : Item). None)) same_inline i j same
 
-  same_header_fault : (o p : Option Header) → option_map see_package_id o ≡ option_map see_package_id p → header_fault o ≡ header_fault p
+  same_header_fault : (o p : Option Header) → option_map see_package_id o ≡ option_map see_package_id p → cond (is_none o) (Some (fault 4 (record { start = 0; end = 0 }))) None ≡ cond (is_none p) (Some (fault 4 (record { start = 0; end = 0 }))) None
   same_header_fault None None e = refl
   same_header_fault None (Some q) e = absurd (let wrong : ⊥ = cc in wrong)
   same_header_fault (Some p) None e = absurd (let wrong : ⊥ = cc in wrong)
@@ -300,7 +301,7 @@ module _ (files others : List PackageFile) (h : AllZip SameFile files others) (o
       let ss = item_rows others in
       let o = outcome rs in
       let p = outcome ss in
-      let outcomes = same_outcome rs ss (same_item_rows files others h) o p (are.each rs) (are.each ss) in
+      let outcomes = same_outcome rs ss (same_item_rows files others h) o p (are rs) (are ss) in
       let items = same_in_order SameItem (all_items files) (all_items others) (order_of o) (order_of p) (same_order_of o p outcomes) (same_all_items files others h) in
       let ordered = in_order (all_items files) (order_of o) in
       let also = in_order (all_items others) (order_of p) in

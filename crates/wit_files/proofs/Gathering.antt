@@ -1,8 +1,8 @@
 -- What is gathered from files, one file and one item at a time.
 use Rattle.std.proofs.Common.{◌≡◌, ◌<◌, ℕ, zero, suc, ◌+◌, List, [], ◌∷◌, ◌++◌, length, map, take, Option, Some, None, inl, inr, refl, sym, ap, ◌∙◌, subst, arith, append_assoc, length-append, Vec, Global, Bor}
-use Rattle.wit_syntax.proofs.Common.{AllDiffer, AreAccepted, AstItem, CyclicItem, DuplicateItem, DuplicateTopName, Fault, ForeignStability, Id, IsBrokenItems, IsBrokenNames, IsOrder, Item, Items, MissingItem, PackageFile, Row, TopName, TopUse, all_items, append-nil, at_back, at_contains, at_either, at_prefix, bytes_eq, declared_items, entry_row, file_items, flat_map, foreign_visits, insert_entry, item_name, item_row, item_rows, item_word, map-append, map_map, missing_at, no_cyclic_edge, no_missing_edge, none_if, option_map, option_or, place_by_key, place_of, place_of-Some, position, rows, slice_get, slice_get-map, slice_get_cases, slice_get_within, take_next, target, top_names}
+use Rattle.wit_syntax.proofs.Common.{AllDiffer, AreAccepted, AstItem, CyclicItem, DuplicateItem, DuplicateTopName, Fault, ForeignStability, Id, IsBrokenItems, IsBrokenNames, IsOrder, Item, Items, MissingItem, PackageFile, Row, TopName, TopUse, all_items, append-nil, at_back, at_contains, at_either, at_prefix, bytes_eq, declared_items, entry_row, file_items, flat_map, foreign_visits, insert_entry, item_name, item_row, item_rows, item_word, map-append, map_map, missing_at, no_cyclic_edge, no_missing_edge, none_if, option_map, option_or, place_by_key, place_of, place_of-Some, position, rows, slice_get, slice_get-map, slice_get_cases, slice_get_within, take_next, target, top_names, ForeignVisit}
 use Rattle.wit_graph.proofs.Rows.{key_eq, rows-insert}
-use Rattle.wit_first.specs.FileFaults.{file_fault, files_fault, paths_fault, tops_fault, visits_fault}
+use Rattle.wit_first.specs.FileFaults.{file_fault, files_fault, paths_fault, tops_fault}
 use Rattle.wit_first.specs.First.{IsOr, first_in}
 use Rattle.wit_first.specs.Laws.{AgreesBy}
 use Rattle.wit_first.specs.NameFaults.{item_names_fault, top_names_fault}
@@ -15,6 +15,7 @@ use Rattle.wit_files.specs.FileNames.{AreTopsOf, AreTablesOf, AddsTop, names_at_
 use Rattle.wit_files.specs.declared.tables.Tables.{Tables}
 use Rattle.wit_top_names.proofs.FirstNames.{rows_items}
 use Rattle.wit_top_names.proofs.Lost.{files_broken, flat_more}
+use Rattle.wit_first.specs.AttributeFaults.{stability_fault}
 
 -- what one of these gives comes after what those before it give
 pub flat_split : {X A : Type 0} (f : X → List A) (xs : List X) (i : ℕ) (x : X) → slice_get xs i ≡ Some x → (rest : List A) × (flat_map f xs ≡ flat_map f (take i xs) ++ (f x ++ rest))
@@ -128,7 +129,7 @@ legal_items files places items each order f (MissingItem h) = no_missing_edge (m
 legal_items files places items each order f (CyclicItem h) = no_cyclic_edge 8 item_word (item_rows files) places f order h
 
 -- the first fault, where there is none before paths with a package
-pub after_visits : (files : List PackageFile) (first : Option Fault) → visits_fault (foreign_visits files) ≡ None → IsOr (items_prefix files) (IsItemOrderFault files) first → IsOr (names_prefix files) (IsItemOrderFault files) first
+pub after_visits : (files : List PackageFile) (first : Option Fault) → first_in (λ (v : ForeignVisit). stability_fault v.attributes) (foreign_visits files) ≡ None → IsOr (items_prefix files) (IsItemOrderFault files) first → IsOr (names_prefix files) (IsItemOrderFault files) first
 after_visits files first none h = subst (λ (o : Option Fault). IsOr (option_or o (items_prefix files)) (IsItemOrderFault files) first) (sym none) h
 
 -- that of the items of files, and then that of the uses at their tops
@@ -145,7 +146,7 @@ tops_first files first h tops =
 
 -- the first fault of the names of files is a broken rule
 prefix_broken : (files : List PackageFile) (f : Fault) → names_prefix files ≡ Some f → IsBrokenNames files f
-prefix_broken files f h = elim (or_some (visits_fault (foreign_visits files)) (items_prefix files) f h) [
+prefix_broken files f h = elim (or_some (first_in (λ (v : ForeignVisit). stability_fault v.attributes) (foreign_visits files)) (items_prefix files) f h) [
   | inl visits ↦ (let it = (visits_agree (foreign_visits files)).broken f visits in ForeignStability it.0 it.1 it.2)
   | inr far ↦ elim (or_some (item_names_fault files) (files_fault files) f far.1) [
     | inl items ↦ Items (DuplicateItem ((item_names_agree files).broken f items))
@@ -166,7 +167,7 @@ names_broken files f h = elim (or_is (IsOrderedFault files) (names_prefix files)
 ]
 
 -- and where there is none, no rule about names is broken
-none_broken : (files : List PackageFile) → AreAccepted (item_rows files) → visits_fault (foreign_visits files) ≡ None → item_names_fault files ≡ None → files_fault files ≡ None → tops_fault files ≡ None → (f : Fault) → IsBrokenNames files f → ⊥
+none_broken : (files : List PackageFile) → AreAccepted (item_rows files) → first_in (λ (v : ForeignVisit). stability_fault v.attributes) (foreign_visits files) ≡ None → item_names_fault files ≡ None → files_fault files ≡ None → tops_fault files ≡ None → (f : Fault) → IsBrokenNames files f → ⊥
 none_broken files accepted visits items each tops f (Items h) = legal_items files accepted.0 items each accepted.1 f h
 none_broken files accepted visits items each tops f (ForeignStability v among h) = (visits_agree (foreign_visits files)).unbroken visits f (v, among, h)
 none_broken files accepted visits items each tops f (TopUse file among h) = (tops_agree files).unbroken tops f (file, among, h)
@@ -174,7 +175,7 @@ none_broken files accepted visits items each tops f (TopUse file among h) = (top
 names_unbroken : (files : List PackageFile) → IsNamesFault files None → (f : Fault) → IsBrokenNames files f → ⊥
 names_unbroken files none f broken =
     let it = or_neither (IsOrderedFault files) (names_prefix files) none in
-    let prefix = or_none_both (visits_fault (foreign_visits files)) (items_prefix files) it.0 in
+    let prefix = or_none_both (first_in (λ (v : ForeignVisit). stability_fault v.attributes) (foreign_visits files)) (items_prefix files) it.0 in
     let items = or_none_both (item_names_fault files) (files_fault files) prefix.1 in
     let last = or_none_both it.1.0 (tops_fault files) it.1.2 in
     none_broken files (subst (IsItemOrderFault files) last.0 it.1.1) prefix.0 items.0 items.1 last.1 f broken

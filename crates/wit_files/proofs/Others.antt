@@ -1,6 +1,6 @@
 -- Paths with a package among those of files, and the items of other packages by their keys.
 use Rattle.std.proofs.Common.{◌≡◌, ℕ, zero, suc, ◌||◌, ◌&&◌, Bool, true, false, not, cond, length, List, [], ◌∷◌, ◌++◌, ◌+◌, map, Option, Some, None, inl, inr, refl, sym, ap, ◌∙◌}
-use Rattle.wit_syntax.proofs.Common.{Address, AstItem, Attribute, Exported, ExternKind, ForeignVisit, Id, Imported, InterfaceItem, PackageFile, Part, Use, WorldItem, WorldSide, append-nil, at_side, both_ways, bytes_eq, cases_Bool, cond-false, cond-true, declaration_visits, extern_paths, extern_visits, file_visits, firsts, firsts-more, firsts_at, firsts_has, flat_map, flat_map-append, inline_uses, insert_key, interface_part, item_uses, keys_of, length-map, list_any, map-append, map_at, nat_lt, option_eq, option_map, part_visits as the_part_visits, path_visits, position, prefix_len, same_address, same_address-equal, same_address-from, same_item, same_side, same_version, slice_get, slice_get-map, visited, world_part}
+use Rattle.wit_syntax.proofs.Common.{Address, AstItem, Attribute, Exported, ExternKind, ForeignVisit, Id, Imported, InterfaceItem, PackageFile, Part, Use, WorldItem, WorldSide, append-nil, at_side, both_ways, bytes_eq, cases_Bool, cond-false, cond-true, declaration_visits, extern_paths, extern_visits, firsts, firsts-more, firsts_at, firsts_has, flat_map, flat_map-append, inline_uses, insert_key, interface_part, item_uses, keys_of, length-map, list_any, map-append, map_at, nat_lt, option_eq, option_map, part_visits as the_part_visits, path_visits, position, prefix_len, same_address, same_address-equal, same_address-from, same_item, same_side, same_version, slice_get, slice_get-map, visited, world_part}
 use Rattle.wit_tree.specs.declared.tree.ExternKind.TheVariants as extern
 use Rattle.wit_tree.specs.declared.tree.InterfaceItem.TheVariants as interface_item
 use Rattle.wit_tree.specs.declared.tree.WorldItem.TheVariants as world_item
@@ -91,7 +91,7 @@ of_item (ast.World w) =
 of_item (ast.Use u) = append-nil (path_visits u.attributes.items false u.item)
 
 -- those of the paths of a file are its paths with a package
-pub of_file : (f : PackageFile) → flat_map foreign_of (visits f.decl_list) ≡ file_visits f
+pub of_file : (f : PackageFile) → flat_map foreign_of (visits f.decl_list) ≡ flat_map declaration_visits f.decl_list.items.items
 of_file f = flat_inside foreign_of item_visits declaration_visits of_item f.decl_list.items.items
 
 -- a test that passes somewhere, and one that passes nowhere

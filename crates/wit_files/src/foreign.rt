@@ -1,10 +1,11 @@
 //! Paths to items of other packages, and those items.
 ghost use Rattle.std.specs.Prelude.{◌≡◌, ◌++◌, List, [], ◌∷◌, map, IfOk, OnOk};
 ghost use Rattle.wit_syntax.specs.Address.{ForeignNamed, package_of, release_of};
-ghost use Rattle.wit_syntax.specs.Foreign.{ForeignVisit as TheVisit, file_visits, foreign_visits as the_visits};
-ghost use Rattle.wit_first.specs.FileFaults.{visits_fault};
-ghost use Rattle.wit_first.specs.First.{Finds};
+ghost use Rattle.wit_syntax.specs.Foreign.{ForeignVisit as TheVisit, declaration_visits, foreign_visits as the_visits};
+ghost use Rattle.wit_first.specs.First.{Finds, first_in};
 ghost use Rattle.wit_files.specs.ForeignPaths.{AreItemsOf, foreign_view, item_place, key_address, key_release, path_visit, wants_world};
+ghost use Rattle.std.specs.List.{flat_map};
+ghost use Rattle.wit_first.specs.AttributeFaults.{stability_fault};
 
 use crate::visit::{Visit, Wanted, visits};
 use semver::Version;
@@ -116,7 +117,7 @@ fn add_visits<'f, 'a>(
     file: &'f PackageFile<'a>,
     foreign: &mut Vec<ForeignVisit<'f, 'a>>,
 ) -> Result<(), AllocError>
-    ensures { OnOk result (map foreign_view foreign.new.items ≡ map foreign_view foreign.old.items ++ file_visits file.now) }
+    ensures { OnOk result (map foreign_view foreign.new.items ≡ map foreign_view foreign.old.items ++ flat_map declaration_visits file.now.decl_list.items.items) }
 {
     let visits = visits(alloc, &file.decl_list)?;
     for visit in &visits {
@@ -141,7 +142,7 @@ pub fn foreign_visits<'f, 'a>(
 
 /// Refuses attributes before a path with a package that break a rule of stability.
 pub fn check_visits(alloc: Global, visits: &[ForeignVisit<'_, '_>]) -> ParseResult<()>
-    ensures { Finds (visits_fault (map foreign_view visits.now)) result }
+    ensures { Finds (first_in (λ (v : TheVisit). stability_fault v.attributes) (map foreign_view visits.now)) result }
 {
     for visit in visits {
         check_stability(alloc, visit.attributes)?;

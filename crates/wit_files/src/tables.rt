@@ -5,13 +5,14 @@ ghost use Rattle.wit_graph.specs.Table.{rows, IsOrder};
 ghost use Rattle.wit_syntax.specs.Source.{Item as TheItem, file_items, all_items, item_name, is_world as is_the_world};
 ghost use Rattle.wit_syntax.specs.ScopeTables.{item_row, item_rows};
 ghost use Rattle.wit_syntax.specs.Repeats.{AllDiffer};
-ghost use Rattle.wit_syntax.specs.Foreign.{foreign_visits as the_visits};
-ghost use Rattle.wit_first.specs.FileFaults.{file_fault, file_tops_fault, files_fault, tops_fault, visits_fault};
-ghost use Rattle.wit_first.specs.First.{Finds, FindsBy, IsOr};
+ghost use Rattle.wit_syntax.specs.Foreign.{ForeignVisit as TheVisit, foreign_visits as the_visits};
+ghost use Rattle.wit_first.specs.FileFaults.{file_fault, files_fault, tops_fault, top_fault};
+ghost use Rattle.wit_first.specs.First.{Finds, FindsBy, IsOr, first_in};
 ghost use Rattle.wit_first.specs.OrderFaults.{IsItemOrderFault, IsNamesFault, items_prefix, names_prefix};
 ghost use Rattle.wit_top_names.specs.Tops.{AreDeclared};
 ghost use Rattle.wit_files.specs.ForeignPaths.{foreign_view, AreItemsOf};
 ghost use Rattle.wit_files.specs.FileNames.{AddsTop, AreTablesOf, AreDeclarationsOf};
+ghost use Rattle.wit_first.specs.AttributeFaults.{stability_fault};
 
 use crate::foreign::{ForeignItems, ForeignVisit, check_visits, foreign_visits};
 use crate::item_table::{add_items, add_kinds, table_order};
@@ -47,7 +48,7 @@ impl<'f, 'a> Tables<'f, 'a> {
         ensures items { IfOk result (λ names. rows names.items ≡ []) }
         ensures kinds { IfOk result (λ names. names.kinds.items ≡ []) }
         ensures tops { IfOk result (λ names. names.tops.items ≡ []) }
-        ensures first { Finds (visits_fault (the_visits files.now)) result }
+        ensures first { Finds (first_in (λ (v : TheVisit). stability_fault v.attributes) (the_visits files.now)) result }
     {
         let visits = foreign_visits(alloc, files)?;
         check_visits(alloc, &visits)?;
@@ -149,7 +150,7 @@ impl<'f, 'a> Tables<'f, 'a> {
         file: &'f PackageFile<'a>,
         names: &Tables<'f, 'a>,
     ) -> ParseResult<()>
-        ensures { (files : List TheFile) → AreTablesOf files names.now → Finds (file_tops_fault (all_items files) file.now) result }
+        ensures { (files : List TheFile) → AreTablesOf files names.now → Finds (first_in (top_fault (all_items files)) file.now.decl_list.items.items) result }
     {
         check_top_uses(alloc, file, &names.items)
     }

@@ -1,6 +1,6 @@
 -- The first fault is a broken rule; and where there is no first fault, no rule is broken.
 use Rattle.std.proofs.Common.{◌≡◌, ◌≢◌, ℕ, zero, suc, ◌<◌, Bool, true, false, List, [], ◌∷◌, ◌++◌, take, Option, Some, None, ◌⊎◌, inl, inr, refl, sym, ap, ◌∙◌, subst, append_assoc, arith}
-use Rattle.wit_syntax.proofs.Common.{AllDiffer, AreBroken, Attribute, AttributeKind, CanBeKey, Case, Contains, DeprecatedAlone, DeprecatedTwice, ExternalId, Fault, Id, IsBrokenList, IsBrokenMetadata, IsBrokenStability, IsDuplicateName, IsEmpty, IsFlagTooMany, IsInvalidKey, IsKey, IsSecond, IsSecondIn, IsTwice, Item, PackageFile, ParseError, Primitive, Refused, SinceAndUnstable, SinceTwice, Span, TopName, TypeBody, UnstableTwice, about, all_items, append-nil, at_contains, at_take, attribute_span, bytes_eq, clash, codes, contains_at, fault, fault_in, find, find_at, find_passes, find_some, first_of, folded, is_of, item_name, item_twice, kind_of, list_any, map, map_at, name_equal, name_itself, name_twice, none-some, not, option_or, slice_get, slice_get-take, top_names, top_text, top_twice}
+use Rattle.wit_syntax.proofs.Common.{AllDiffer, AreBroken, Attribute, AttributeKind, CanBeKey, Case, Contains, DeprecatedAlone, DeprecatedTwice, ExternalId, Fault, Id, IsBrokenList, IsBrokenMetadata, IsBrokenStability, IsDuplicateName, IsEmpty, IsFlagTooMany, IsInvalidKey, IsKey, IsSecond, IsSecondIn, IsTwice, Item, PackageFile, ParseError, Primitive, Refused, SinceAndUnstable, SinceTwice, Span, TopName, TypeBody, UnstableTwice, about, all_items, append-nil, at_contains, at_take, attribute_span, bytes_eq, clash, codes, contains_at, fault, fault_in, find, find_at, find_passes, find_some, first_of, lower_case, is_of, item_name, item_twice, kind_of, list_any, map, map_at, name_equal, name_itself, name_twice, none-some, not, option_or, slice_get, slice_get-take, top_names, top_text, top_twice, option_map}
 use Rattle.wit_type_tree.specs.declared.leaves.Attribute.TheVariants as attribute
 use Rattle.wit_type_tree.specs.declared.attribute_kind.AttributeKind.TheVariants.{Since, Unstable, Deprecated}
 use Rattle.wit_type_tree.specs.declared.types.Field.{Field}
@@ -10,11 +10,11 @@ use Rattle.wit_type_tree.specs.declared.types.Primitive.TheVariants as primitive
 use Rattle.wit_type_tree.specs.declared.types.«Type».{«Type» as Written}
 use Rattle.wit_type_tree.specs.declared.types.«Type».TheVariants as written
 use Rattle.wit_type_tree.specs.declared.types.TypeBody.TheVariants as body
-use Rattle.wit_first.specs.AttributeFaults.{number_of, repeat_fault, counted_fault, each_once_fault, kinds_fault, together_fault, stability_fault, external_fault, metadata_fault}
-use Rattle.wit_first.specs.First.{first_in, first_after, Reports, repeat_of, first_repeat, clash_of, first_clash}
+use Rattle.wit_first.specs.AttributeFaults.{number_of, repeat_fault, counted_fault, each_once_fault, kinds_fault, stability_fault, external_fault, metadata_fault}
+use Rattle.wit_first.specs.First.{first_in, first_after, Reports, repeat_of, first_repeat, clash_of}
 use Rattle.wit_first.specs.KeyFaults.{can_be_key, is_key, key_fault}
 use Rattle.wit_first.specs.Laws.{Agrees}
-use Rattle.wit_first.specs.ListFaults.{empty_fault, clash_fault, names_fault, flag_fault, members_fault, flags_fault, list_fault}
+use Rattle.wit_first.specs.ListFaults.{empty_fault, clash_fault, names_fault, members_fault, flags_fault, list_fault}
 use Rattle.wit_first.specs.NameFaults.{item_names_fault, top_names_fault, local_names_fault}
 use Rattle.wit_first.proofs.First.{any_some}
 
@@ -95,7 +95,7 @@ together_broken xs f None (Some unstable) d is_s is_u is_d h = absurd (let g : �
 together_broken xs f None None None is_s is_u is_d h = absurd (let g : ⊥ = cc in g)
 
 stability_broken : (xs : List Attribute) (f : Fault) → stability_fault xs ≡ Some f → IsBrokenStability xs f
-stability_broken xs f h = elim (or_some (each_once_fault xs) (together_fault xs) f h) [
+stability_broken xs f h = elim (or_some (each_once_fault xs) (kinds_fault (first_of Since xs) (first_of Unstable xs) (first_of Deprecated xs)) f h) [
   | inl second ↦ (let it = after_some (counted_fault (λ b. not (is_of ExternalId b))) [] xs f second in second_broken xs it.0 it.1 f it.2 it.3)
   | inr apart ↦ together_broken xs f (first_of Since xs) (first_of Unstable xs) (first_of Deprecated xs) refl refl refl apart.1
 ]
@@ -172,7 +172,7 @@ not_alone (Some s) u d a h is no_s no_u = (let f : ⊥ = cc in f)
 
 stability_unbroken : (xs : List Attribute) → stability_fault xs ≡ None → (f : Fault) → IsBrokenStability xs f → ⊥
 stability_unbroken xs none f broken =
-    let both = or_none_both (each_once_fault xs) (together_fault xs) none in
+    let both = or_none_both (each_once_fault xs) (kinds_fault (first_of Since xs) (first_of Unstable xs) (first_of Deprecated xs)) none in
     elim broken [
       | SinceTwice t ↦ once_only (λ a. not (is_of ExternalId a)) Since 30 xs f counted_since both.0 t
       | DeprecatedTwice t ↦ once_only (λ a. not (is_of ExternalId a)) Deprecated 31 xs f counted_deprecated both.0 t
@@ -272,7 +272,7 @@ clash_some {X} key as_fault before x f h = by (find (λ z. bytes_eq (key z) (key
     by None is = (let wrong : None ≡ Some f = rw is at h in let g : ⊥ = cc in absurd g)
     by (Some y) is = (y, is, (let own : Some (as_fault y x) ≡ Some f = rw is at h in cc))
 
-pub clash_broken : {X : Type 0} (key : X → List ℕ) (as_stated : X → List ℕ → Fault) (words : X → X → List ℕ) (xs : List X) (f : Fault) → first_clash key (λ y x. as_stated x (words y x)) xs ≡ Some f → IsSecondIn key as_stated xs f
+pub clash_broken : {X : Type 0} (key : X → List ℕ) (as_stated : X → List ℕ → Fault) (words : X → X → List ℕ) (xs : List X) (f : Fault) → first_after (clash_of key (λ y x. as_stated x (words y x))) [] xs ≡ Some f → IsSecondIn key as_stated xs f
 clash_broken key as_stated words xs f h =
     let it = after_some (clash_of key (λ y x. as_stated x (words y x))) [] xs f h in
     let own = clash_some key (λ y x. as_stated x (words y x)) (take it.0 xs) it.1 f it.3 in
@@ -280,7 +280,7 @@ clash_broken key as_stated words xs f h =
     let there = at_take xs it.0 found.0 own.0 found.1 in
     (words own.0 it.1, (it.1, (found.0, it.0, there.1, own.0, there.0, it.2, name_equal (key own.0) (key it.1) (find_passes (λ z. bytes_eq (key z) (key it.1)) (take it.0 xs) own.0 own.1)), own.2))
 
-pub clash_unbroken : {X : Type 0} (key : X → List ℕ) (as_stated : X → List ℕ → Fault) (as_fault : X → X → Fault) (xs : List X) → first_clash key as_fault xs ≡ None → (f : Fault) → IsSecondIn key as_stated xs f → ⊥
+pub clash_unbroken : {X : Type 0} (key : X → List ℕ) (as_stated : X → List ℕ → Fault) (as_fault : X → X → Fault) (xs : List X) → first_after (clash_of key as_fault) [] xs ≡ None → (f : Fault) → IsSecondIn key as_stated xs f → ⊥
 clash_unbroken {X} key as_stated as_fault xs none f s =
     let later = s.1.0 in
     let r = s.1.1 in
@@ -297,7 +297,7 @@ clash_repeat key as_stated words before x f h =
     let any : list_any (λ z. bytes_eq (key z) (key x)) before ≡ true = any_some (λ z. bytes_eq (key z) (key x)) before found.0 own.0 found.1 (find_passes (λ z. bytes_eq (key z) (key x)) before own.0 own.1) in
     (words own.0 x, rw any (ap Some (sym own.2)))
 
-pub clash_differs : {X : Type 0} (key : X → List ℕ) (as_fault : X → X → Fault) (xs : List X) → first_clash key as_fault xs ≡ None → AllDiffer (map key xs)
+pub clash_differs : {X : Type 0} (key : X → List ℕ) (as_fault : X → X → Fault) (xs : List X) → first_after (clash_of key as_fault) [] xs ≡ None → AllDiffer (map key xs)
 clash_differs key as_fault xs none = record {
   differ = λ i j k at_i at_j. (
       let one = twice i j k at_i at_j in
@@ -313,8 +313,8 @@ clash_differs key as_fault xs none = record {
 
 pub names_agree : (desc : List ℕ) (names : List Id) → Agrees (names_fault desc names) (IsDuplicateName names)
 names_agree desc names = record {
-  broken = clash_broken (λ (id : Id). folded id.name.now) (λ (id : Id) (words : List ℕ). fault_in 25 id.span words) (λ (y : Id) (x : Id). clash desc y.name.now x.name.now) names;
-  unbroken = clash_unbroken (λ (id : Id). folded id.name.now) (λ (id : Id) (words : List ℕ). fault_in 25 id.span words) (clash_fault desc) names;
+  broken = clash_broken (λ (id : Id). lower_case id.name.now) (λ (id : Id) (words : List ℕ). fault_in 25 id.span words) (λ (y : Id) (x : Id). clash desc y.name.now x.name.now) names;
+  unbroken = clash_unbroken (λ (id : Id). lower_case id.name.now) (λ (id : Id) (words : List ℕ). fault_in 25 id.span words) (clash_fault desc) names;
 }
 
 -- lists that are empty
@@ -346,9 +346,9 @@ members_unbroken number desc name span xs none f broken =
 
 -- flags
 flags_broken : (span : Span) (flags : List Flag) (f : Fault) → flags_fault span flags ≡ Some f → AreBroken 20 (λ (x : Flag). x.name) flags span f ⊎ IsFlagTooMany flags f
-flags_broken span flags f h = elim (or_some (empty_fault 20 flags span) (option_or (flag_fault flags) (names_fault (codes "flag") (map (λ (x : Flag). x.name) flags))) f h) [
+flags_broken span flags f h = elim (or_some (empty_fault 20 flags span) (option_or (option_map (λ (flag : Flag). fault 21 flag.name.span) (slice_get flags 32)) (names_fault (codes "flag") (map (λ (x : Flag). x.name) flags))) f h) [
   | inl empty ↦ inl (inl (empty_broken 20 flags span f empty))
-  | inr far ↦ elim (or_some (flag_fault flags) (names_fault (codes "flag") (map (λ (x : Flag). x.name) flags)) f far.1) [
+  | inr far ↦ elim (or_some (option_map (λ (flag : Flag). fault 21 flag.name.span) (slice_get flags 32)) (names_fault (codes "flag") (map (λ (x : Flag). x.name) flags)) f far.1) [
     | inl many ↦ inr many
     | inr names ↦ inl (inr ((names_agree (codes "flag") (map (λ (x : Flag). x.name) flags)).broken f names.1))
   ]
@@ -356,8 +356,8 @@ flags_broken span flags f h = elim (or_some (empty_fault 20 flags span) (option_
 
 flags_unbroken : (span : Span) (flags : List Flag) → flags_fault span flags ≡ None → (f : Fault) → AreBroken 20 (λ (x : Flag). x.name) flags span f ⊎ IsFlagTooMany flags f → ⊥
 flags_unbroken span flags none f broken =
-    let both = or_none_both (empty_fault 20 flags span) (option_or (flag_fault flags) (names_fault (codes "flag") (map (λ (x : Flag). x.name) flags))) none in
-    let rest = or_none_both (flag_fault flags) (names_fault (codes "flag") (map (λ (x : Flag). x.name) flags)) both.1 in
+    let both = or_none_both (empty_fault 20 flags span) (option_or (option_map (λ (flag : Flag). fault 21 flag.name.span) (slice_get flags 32)) (names_fault (codes "flag") (map (λ (x : Flag). x.name) flags))) none in
+    let rest = or_none_both (option_map (λ (flag : Flag). fault 21 flag.name.span) (slice_get flags 32)) (names_fault (codes "flag") (map (λ (x : Flag). x.name) flags)) both.1 in
     elim broken [
       | inl are ↦ elim are [
         | inl empty ↦ empty_unbroken 20 flags span both.0 f empty

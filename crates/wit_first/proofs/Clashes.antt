@@ -1,7 +1,7 @@
 -- Items whose keys repeat, where the fault is made of both.
 use Rattle.std.proofs.Common.{◌≡◌, ℕ, Bool, true, false, List, [], ◌∷◌, ◌++◌, take, Option, Some, None, refl, sym, ap, ◌∙◌}
 use Rattle.wit_syntax.proofs.Common.{AllDiffer, Fault, IsRepeatAt, bytes_eq, find, find-map, find_at, find_passes, find_some, key_at, list_any, map, map-append, name_equal, name_itself, option_map, option_or, slice_get, slice_get-take, take-map}
-use Rattle.wit_first.specs.First.{first_after, repeat_of, clash_of, first_clash}
+use Rattle.wit_first.specs.First.{first_after, repeat_of, clash_of}
 use Rattle.wit_first.proofs.First.{any_some, no_repeat-after, none_both, after-at}
 
 -- none is found where none passes
@@ -39,12 +39,12 @@ no_clash-after key plain as_fault before (x ∷ xs) none =
     none_both (clash_none key plain as_fault before x both.0) (no_clash-after key plain as_fault (before ++ x ∷ []) xs both.1)
 
 -- where all keys differ
-pub no_clashes : {X : Type 0} (key : X → List ℕ) (as_fault : X → X → Fault) (xs : List X) → AllDiffer (map key xs) → first_clash key as_fault xs ≡ None
+pub no_clashes : {X : Type 0} (key : X → List ℕ) (as_fault : X → X → Fault) (xs : List X) → AllDiffer (map key xs) → first_after (clash_of key as_fault) [] xs ≡ None
 no_clashes key as_fault [] d = refl
 no_clashes key as_fault (x ∷ xs) d = no_clash-after key (λ y. as_fault y y) as_fault [] (x ∷ xs) (no_repeat-after key (λ y. as_fault y y) [] (x ∷ xs) d)
 
 -- the item at the first place whose key an earlier one has, and that one
-pub clash_first : {X : Type 0} (key : X → List ℕ) (as_fault : X → X → Fault) (xs : List X) (first second : ℕ) (earlier later : X) → IsRepeatAt (map key xs) first second → AllDiffer (take second (map key xs)) → slice_get xs first ≡ Some earlier → slice_get xs second ≡ Some later → first_clash key as_fault xs ≡ Some (as_fault earlier later)
+pub clash_first : {X : Type 0} (key : X → List ℕ) (as_fault : X → X → Fault) (xs : List X) (first second : ℕ) (earlier later : X) → IsRepeatAt (map key xs) first second → AllDiffer (take second (map key xs)) → slice_get xs first ≡ Some earlier → slice_get xs second ≡ Some later → first_after (clash_of key as_fault) [] xs ≡ Some (as_fault earlier later)
 clash_first {X} key as_fault xs first second earlier later r d at_first at =
     let there : Some r.x ≡ Some (key later) = sym r.at_second ∙ key_at key xs second later at in
     let here : Some r.x ≡ Some (key earlier) = sym r.at_first ∙ key_at key xs first earlier at_first in
@@ -72,5 +72,5 @@ clash_after-map {X} {Y} key as_fault f before (x ∷ xs) =
     let rest : first_after (clash_of key as_fault) (map f before ++ f x ∷ []) (map f xs) ≡ first_after (clash_of (λ (y : X). key (f y)) (λ (y z : X). as_fault (f y) (f z))) (before ++ x ∷ []) xs = ap (λ (l : List Y). first_after (clash_of key as_fault) l (map f xs)) (sym (map-append f before (x ∷ []))) ∙ clash_after-map key as_fault f (before ++ x ∷ []) xs in
     ap (λ (o : Option Fault). option_or o (first_after (clash_of key as_fault) (map f before ++ f x ∷ []) (map f xs))) own ∙ ap (option_or (clash_of (λ (y : X). key (f y)) (λ (y z : X). as_fault (f y) (f z)) before x)) rest
 
-pub clash-map : {X Y : Type 0} (key : Y → List ℕ) (as_fault : Y → Y → Fault) (f : X → Y) (xs : List X) → first_clash key as_fault (map f xs) ≡ first_clash (λ (x : X). key (f x)) (λ (y z : X). as_fault (f y) (f z)) xs
+pub clash-map : {X Y : Type 0} (key : Y → List ℕ) (as_fault : Y → Y → Fault) (f : X → Y) (xs : List X) → first_after (clash_of key as_fault) [] (map f xs) ≡ first_after (clash_of (λ (x : X). key (f x)) (λ (y z : X). as_fault (f y) (f z))) [] xs
 clash-map key as_fault f xs = clash_after-map key as_fault f [] xs

@@ -1,16 +1,16 @@
 -- The first fault of the names of files is a broken rule; and where there is none, no rule about them is broken.
-use Rattle.std.proofs.Common.{◌≡◌, ◌≢◌, ℕ, List, [], ◌∷◌, Option, Some, None, inl, inr, refl, ap, ◌∙◌}
-use Rattle.wit_syntax.proofs.Common.{AstItem, Attribute, AttributedUse, Contains, Fault, Foreign, ForeignVisit, Id, IsBrokenStability, IsWrongTop, Item, Local, LostUse, PackageFile, Span, Target, TopName, UsePath, all_items, at_contains, bytes_eq, contains_at, fault, find, item_named, item_word, leads, missing_at, option_map_or, slice_get, top_text}
+use Rattle.std.proofs.Common.{◌≡◌, ◌≢◌, ℕ, List, [], ◌∷◌, Option, Some, None, inl, inr, refl, ap, ◌∙◌, is_none, ◌⊎◌}
+use Rattle.wit_syntax.proofs.Common.{AstItem, Attribute, AttributedUse, Contains, Fault, Foreign, ForeignVisit, Id, IsBrokenStability, IsWrongTop, Item, Local, LostUse, PackageFile, Span, Target, TopName, UsePath, all_items, at_contains, bytes_eq, contains_at, fault, find, item_named, item_word, leads, missing_at, option_map_or, slice_get, top_text, if◌then◌else◌, option_or}
 use Rattle.wit_tree.specs.declared.tree.UsePath.TheVariants as path
 use Rattle.wit_tree.specs.declared.tree.AstItem.TheVariants as ast
 use Rattle.wit_first.specs.AttributeFaults.{stability_fault}
 use Rattle.wit_first.specs.First.{first_in}
-use Rattle.wit_first.specs.FileFaults.{visits_fault, lost_fault, unless_named, unnamed_fault, attributed_fault, top_fault, file_tops_fault, tops_fault}
+use Rattle.wit_first.specs.FileFaults.{lost_fault, unnamed_fault, top_fault, tops_fault}
 use Rattle.wit_first.specs.Laws.{Agrees}
-use Rattle.wit_first.proofs.Bridge.{in_agrees, in_only, in_some, or_none_both, or_some, stability_agrees}
+use Rattle.wit_first.proofs.Bridge.{in_agrees, in_only, in_some, stability_agrees}
 
 -- before a path with a package
-pub visits_agree : (visits : List ForeignVisit) → Agrees (visits_fault visits) (λ f. (v : ForeignVisit) × Contains visits v × IsBrokenStability v.attributes f)
+pub visits_agree : (visits : List ForeignVisit) → Agrees (first_in (λ (v : ForeignVisit). stability_fault v.attributes) visits) (λ f. (v : ForeignVisit) × Contains visits v × IsBrokenStability v.attributes f)
 visits_agree visits = in_agrees (λ (v : ForeignVisit). stability_fault v.attributes) (λ (v : ForeignVisit). IsBrokenStability v.attributes) visits (λ v. stability_agrees v.attributes)
 
 -- at a path that leads to a name which is no item's
@@ -47,7 +47,7 @@ pub lost_agrees : (all : List Item) (to : Target) → Agrees (lost_fault all to)
 lost_agrees all to = record { broken = lost_broken all to; unbroken = lost_unbroken all to }
 
 -- at a path that is no name at the top of its file
-unnamed_by : (all : List Item) (id : Id) (f : Fault) (o : Option TopName) → unless_named o (lost_fault all (Local id)) ≡ Some f → IsLost all (option_map_or (λ (t : TopName). t.target) o (Local id)) f
+unnamed_by : (all : List Item) (id : Id) (f : Fault) (o : Option TopName) → (if is_none o then lost_fault all (Local id) else None) ≡ Some f → IsLost all (option_map_or (λ (t : TopName). t.target) o (Local id)) f
 unnamed_by all id f None h = lost_broken all (Local id) f h
 unnamed_by all id f (Some t) h = absurd (let g : ⊥ = cc in g)
 
@@ -56,18 +56,18 @@ unnamed_broken all top (path.Id id) f h = unnamed_by all id f (find (λ t. bytes
 unnamed_broken all top (path.Package p id) f h = absurd (let g : ⊥ = cc in g)
 
 -- at a `use` at the top of a file
-attributed_broken : (xs : List Attribute) (span : Span) (f : Fault) → attributed_fault xs span ≡ Some f → (xs ≢ []) × (f ≡ fault 9 span)
-attributed_broken [] span f h = absurd (let g : ⊥ = cc in g)
-attributed_broken (a ∷ xs) span f h = ((λ none. (let g : ⊥ = cc in g)), (let same : Some (fault 9 span) ≡ Some f = h in let is : f ≡ fault 9 span = cc in is))
+use_broken : (xs : List Attribute) (span : Span) (lost : Option Fault) (f : Fault) → option_or (first_in (λ (a : Attribute). Some (fault 9 span)) xs) lost ≡ Some f → ((xs ≢ []) × (f ≡ fault 9 span)) ⊎ (lost ≡ Some f)
+use_broken [] span lost f h = inr h
+use_broken (a ∷ xs) span lost f h = inl ((λ none. (let g : ⊥ = cc in g)), (let same : Some (fault 9 span) ≡ Some f = h in let is : f ≡ fault 9 span = cc in is))
 
-attributed_unbroken : (xs : List Attribute) (span : Span) → attributed_fault xs span ≡ None → xs ≢ [] → ⊥
-attributed_unbroken [] span h some = some refl
-attributed_unbroken (a ∷ xs) span h some = (let g : ⊥ = cc in g)
+use_right : (xs : List Attribute) (span : Span) (lost : Option Fault) → option_or (first_in (λ (a : Attribute). Some (fault 9 span)) xs) lost ≡ None → (xs ≡ []) × (lost ≡ None)
+use_right [] span lost h = (refl, h)
+use_right (a ∷ xs) span lost h = absurd (let g : ⊥ = cc in g)
 
 top_broken : (all : List Item) (ds : List AstItem) (i : ℕ) (d : AstItem) (f : Fault) → slice_get ds i ≡ Some d → top_fault all d ≡ Some f → IsWrongTop all ds f
-top_broken all ds i (ast.Use u) f at h = elim (or_some (attributed_fault u.attributes.items u.span) (lost_fault all (leads [] u.item)) f h) [
-  | inl own ↦ (let it = attributed_broken u.attributes.items u.span f own in AttributedUse u (contains_at ds i (ast.Use u) at) it.0 it.1)
-  | inr far ↦ (let it = lost_broken all (leads [] u.item) f far.1 in LostUse u (contains_at ds i (ast.Use u) at) it.id it.local it.missing it.is)
+top_broken all ds i (ast.Use u) f at h = elim (use_broken u.attributes.items u.span (lost_fault all (leads [] u.item)) f h) [
+  | inl own ↦ AttributedUse u (contains_at ds i (ast.Use u) at) own.0 own.1
+  | inr far ↦ (let it = lost_broken all (leads [] u.item) f far in LostUse u (contains_at ds i (ast.Use u) at) it.id it.local it.missing it.is)
 ]
 top_broken all ds i (ast.Interface x) f at h = absurd (let g : ⊥ = cc in g)
 top_broken all ds i (ast.World x) f at h = absurd (let g : ⊥ = cc in g)
@@ -75,14 +75,13 @@ top_broken all ds i (ast.World x) f at h = absurd (let g : ⊥ = cc in g)
 top_unbroken : (all : List Item) (ds : List AstItem) → first_in (top_fault all) ds ≡ None → (f : Fault) → IsWrongTop all ds f → ⊥
 top_unbroken all ds none f (AttributedUse u among some says) =
     let k = at_contains ds (ast.Use u) among in
-    let both = or_none_both (attributed_fault u.attributes.items u.span) (lost_fault all (leads [] u.item)) (in_only (top_fault all) ds none k.0 (ast.Use u) k.1) in
-    attributed_unbroken u.attributes.items u.span both.0 some
+    some (use_right u.attributes.items u.span (lost_fault all (leads [] u.item)) (in_only (top_fault all) ds none k.0 (ast.Use u) k.1)).0
 top_unbroken all ds none f (LostUse u among id local missing says) =
     let k = at_contains ds (ast.Use u) among in
-    let both = or_none_both (attributed_fault u.attributes.items u.span) (lost_fault all (leads [] u.item)) (in_only (top_fault all) ds none k.0 (ast.Use u) k.1) in
+    let both = use_right u.attributes.items u.span (lost_fault all (leads [] u.item)) (in_only (top_fault all) ds none k.0 (ast.Use u) k.1) in
     lost_unbroken all (leads [] u.item) both.1 f (record { id = id; local = local; missing = missing; is = says })
 
-pub file_tops_agree : (all : List Item) (file : PackageFile) → Agrees (file_tops_fault all file) (IsWrongTop all file.decl_list.items.items)
+pub file_tops_agree : (all : List Item) (file : PackageFile) → Agrees (first_in (top_fault all) file.decl_list.items.items) (IsWrongTop all file.decl_list.items.items)
 file_tops_agree all file = record {
   broken = λ f h. (let ds = file.decl_list.items.items in let it = in_some (top_fault all) ds f h in top_broken all ds it.0 it.1 f it.2 it.3);
   unbroken = top_unbroken all file.decl_list.items.items;
@@ -90,4 +89,4 @@ file_tops_agree all file = record {
 
 -- at the tops of files
 pub tops_agree : (files : List PackageFile) → Agrees (tops_fault files) (λ f. (file : PackageFile) × Contains files file × IsWrongTop (all_items files) file.decl_list.items.items f)
-tops_agree files = in_agrees (file_tops_fault (all_items files)) (λ (file : PackageFile). IsWrongTop (all_items files) file.decl_list.items.items) files (file_tops_agree (all_items files))
+tops_agree files = in_agrees (λ (file : PackageFile). first_in (top_fault (all_items files)) file.decl_list.items.items) (λ (file : PackageFile). IsWrongTop (all_items files) file.decl_list.items.items) files (file_tops_agree (all_items files))

@@ -4,7 +4,7 @@ use Rattle.wit_syntax.proofs.Common.{Constructor, Fault, Freestanding, FuncForm,
 use Rattle.wit_type_tree.specs.declared.types.FuncForm.TheVariants as form
 use Rattle.wit_type_tree.specs.declared.types.«Type».{«Type» as Written}
 use Rattle.wit_type_tree.specs.declared.types.«Type».TheVariants as written
-use Rattle.wit_first.specs.FunctionFaults.{params_fault, given_fault, getter_fault, no_result_fault, setter_fault, is_written_as, made_fault, result_fault, gives_fault}
+use Rattle.wit_first.specs.FunctionFaults.{params_fault, given_fault, getter_fault, setter_fault, is_written_as, made_fault, result_fault}
 use Rattle.wit_first.specs.Laws.{Agrees}
 
 -- what a function is given
@@ -59,7 +59,7 @@ no_getter form.Setter span h is = (let g : ⊥ = cc in g)
 no_getter form.Plain span h is = (let g : ⊥ = cc in g)
 no_getter form.Async span h is = (let g : ⊥ = cc in g)
 
-pub no_result_agrees : (fn : SourceFunction) → fn.func.result ≡ None → Agrees (no_result_fault fn) (IsGetterWithoutResult fn)
+pub no_result_agrees : (fn : SourceFunction) → fn.func.result ≡ None → Agrees (getter_fault fn.func.form fn.func.span) (IsGetterWithoutResult fn)
 no_result_agrees fn none = record {
   broken = λ f h. (let it = getter_broken fn.func.form fn.func.span f h in (it.0, none, it.1));
   unbroken = λ first f h. no_getter fn.func.form fn.func.span first h.0;
@@ -181,7 +181,7 @@ made_result of form.Async t ok other none = none
 made_as : (of : Id) (w : FuncForm) (r : Role) (t : Written) (ok : Option (Option Written)) → r ≡ Constructor of → (w ≡ form.Setter → ⊥) → result_fault w r t ok ≡ None → made_fault of t ok ≡ None
 made_as of w r t ok is other none = made_result of w t ok other (subst (λ (x : Role). result_fault w x t ok ≡ None) is none)
 
-pub gives_agrees : (xs : List ScopeName) (fn : SourceFunction) (t : Written) → fn.func.result ≡ Some t → ((of : Id) → fn.role ≡ Constructor of → fn.func.form ≡ form.Setter → ⊥) → Agrees (gives_fault xs fn t) (λ f. IsSetterWithResult xs fn f ⊎ (IsConstructorWithoutResult xs fn f ⊎ IsConstructorOfOther xs fn f))
+pub gives_agrees : (xs : List ScopeName) (fn : SourceFunction) (t : Written) → fn.func.result ≡ Some t → ((of : Id) → fn.role ≡ Constructor of → fn.func.form ≡ form.Setter → ⊥) → Agrees (result_fault fn.func.form fn.role t (result_ok xs t)) (λ f. IsSetterWithResult xs fn f ⊎ (IsConstructorWithoutResult xs fn f ⊎ IsConstructorOfOther xs fn f))
 gives_agrees xs fn t given apart = record {
   broken = λ f h. elim (result_broken fn.func.form fn.role t (result_ok xs t) f h) [
     | inl setter ↦ inl (setter.0, t, given, setter.1.0, setter.1.1)

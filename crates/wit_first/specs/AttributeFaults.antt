@@ -33,13 +33,9 @@ kinds_fault (Some since) (Some unstable) deprecated = Some (fault 33 (attribute_
 kinds_fault None None (Some deprecated) = Some (fault 34 (attribute_span deprecated))
 kinds_fault since unstable deprecated = None
 
--- the same, of the first of each kind
-abbrev pub together_fault : List Attribute → Option Fault
-together_fault xs = kinds_fault (first_of Since xs) (first_of Unstable xs) (first_of Deprecated xs)
-
 -- the first fault of the attributes that say how stable a thing is
 abbrev pub stability_fault : List Attribute → Option Fault
-stability_fault xs = option_or (each_once_fault xs) (together_fault xs)
+stability_fault xs = option_or (each_once_fault xs) (kinds_fault (first_of Since xs) (first_of Unstable xs) (first_of Deprecated xs))
 
 -- of external ids: the first second one
 abbrev pub external_fault : List Attribute → Option Fault

@@ -1,26 +1,17 @@
 -- The first fault of the names of files, as they are gathered: E30 to E34 before paths with a package, E6, and E7 of paths of items, and E9 and E7 at the tops of files.
-use Rattle.std.specs.Prelude.{if◌then◌else◌, List, [], ◌∷◌, Option, None, Some, find, is_none}
+use Rattle.std.specs.Prelude.{if◌then◌else◌, List, [], Option, None, Some, find, is_none}
 use Rattle.std.specs.Option.{option_or}
 use Rattle.std.specs.Str.{bytes_eq}
-use Rattle.wit_values.specs.declared.span.Span.{Span}
-use Rattle.wit_type_tree.specs.declared.leaves.Attribute.{Attribute}
-use Rattle.wit_tree.specs.declared.tree.ToplevelUse.{ToplevelUse}
 use Rattle.wit_tree.specs.declared.tree.UsePath.{UsePath}
 use Rattle.wit_tree.specs.declared.tree.UsePath.TheVariants as path
 use Rattle.wit_tree.specs.declared.tree.AstItem.{AstItem}
 use Rattle.wit_tree.specs.declared.tree.AstItem.TheVariants as ast
 use Rattle.wit_tree.specs.declared.tree.PackageFile.{PackageFile}
 use Rattle.wit_syntax.specs.Fault.{Fault, fault, missing_at, item_word}
-use Rattle.wit_syntax.specs.Foreign.{ForeignVisit}
 use Rattle.wit_syntax.specs.ScopeTables.{needed_paths}
 use Rattle.wit_syntax.specs.Source.{TopName, top_text, Target, Local, Foreign, leads, Item, file_items, all_items, item_named}
-use Rattle.wit_first.specs.AttributeFaults.{stability_fault}
 use Rattle.wit_first.specs.First.{first_in}
 use Rattle.wit_first.specs.NameFaults.{top_names_fault}
-
--- of the attributes before paths with a package, path by path
-abbrev pub visits_fault : List ForeignVisit → Option Fault
-visits_fault visits = first_in (λ (v : ForeignVisit). stability_fault v.attributes) visits
 
 -- a path leads to a name that is no item's
 abbrev pub lost_fault : List Item → Target → Option Fault
@@ -28,12 +19,8 @@ lost_fault is (Local id) = if is_none (item_named is id.name.now) then Some (mis
 lost_fault is (Foreign p id) = None
 
 -- a path is neither a name at the top of its file nor that of an item: what is at the top is looked at later
-abbrev pub unless_named : Option TopName → Option Fault → Option Fault
-unless_named None lost = lost
-unless_named (Some t) lost = None
-
 abbrev pub unnamed_fault : List Item → List TopName → UsePath → Option Fault
-unnamed_fault is top (path.Id id) = unless_named (find (λ t. bytes_eq (top_text t) id.name.now) top) (lost_fault is (Local id))
+unnamed_fault is top (path.Id id) = if is_none (find (λ t. bytes_eq (top_text t) id.name.now) top) then lost_fault is (Local id) else None
 unnamed_fault is top (path.Package p id) = None
 
 -- of the paths of an item to those that have to come before it
@@ -48,21 +35,9 @@ abbrev pub files_fault : List PackageFile → Option Fault
 files_fault files = first_in (file_fault (all_items files)) files
 
 -- a `use` at the top of a file has attributes, or else its path, by itself, leads to a name that is no item's
-abbrev pub attributed_fault : List Attribute → Span → Option Fault
-attributed_fault [] span = None
-attributed_fault (a ∷ attributes) span = Some (fault 9 span)
-
-abbrev pub top_use_fault : List Item → ToplevelUse → Option Fault
-top_use_fault is u = option_or (attributed_fault u.attributes.items u.span) (lost_fault is (leads [] u.item))
-
 abbrev pub top_fault : List Item → AstItem → Option Fault
-top_fault is (ast.Use u) = top_use_fault is u
-top_fault is (ast.Interface i) = None
-top_fault is (ast.World w) = None
-
--- of the uses at the top of a file, and of those at the tops of files
-abbrev pub file_tops_fault : List Item → PackageFile → Option Fault
-file_tops_fault is file = first_in (top_fault is) file.decl_list.items.items
+top_fault is (ast.Use u) = option_or (first_in (λ a. Some (fault 9 u.span)) u.attributes.items) (lost_fault is (leads [] u.item))
+top_fault is _ = None
 
 abbrev pub tops_fault : List PackageFile → Option Fault
-tops_fault files = first_in (file_tops_fault (all_items files)) files
+tops_fault files = first_in (λ (file : PackageFile). first_in (top_fault (all_items files)) file.decl_list.items.items) files

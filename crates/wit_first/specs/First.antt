@@ -51,6 +51,3 @@ IsFirstRepeat key xs (Some place) = (first : ℕ) × IsRepeatAt (map key xs) fir
 -- the first item that has
 abbrev pub first_repeat : {X : Type 0} → (X → List ℕ) → (X → Fault) → List X → Option Fault
 first_repeat key as_fault xs = first_after (repeat_of key as_fault) [] xs
-
-abbrev pub first_clash : {X : Type 0} → (X → List ℕ) → (X → X → Fault) → List X → Option Fault
-first_clash key as_fault xs = first_after (clash_of key as_fault) [] xs

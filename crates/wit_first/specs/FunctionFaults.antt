@@ -10,8 +10,7 @@ use Rattle.wit_type_tree.specs.declared.types.«Type».{«Type» as Written}
 use Rattle.wit_type_tree.specs.declared.types.«Type».TheVariants as written
 use Rattle.wit_syntax.specs.Fault.{Fault, fault}
 use Rattle.wit_syntax.specs.Function.{Role, Constructor, SourceFunction}
-use Rattle.wit_syntax.specs.SignatureRules.{ok_span, result_ok, type_span}
-use Rattle.wit_syntax.specs.Source.{ScopeName}
+use Rattle.wit_syntax.specs.SignatureRules.{ok_span, type_span}
 
 -- a getter has a parameter, or a setter has not just one
 abbrev pub params_fault : FuncForm → List Param → Span → Option Fault
@@ -27,9 +26,6 @@ given_fault fn = params_fault fn.func.form fn.func.params.items fn.func.span
 abbrev pub getter_fault : FuncForm → Span → Option Fault
 getter_fault form.Getter span = Some (fault 39 span)
 getter_fault form span = None
-
-abbrev pub no_result_fault : SourceFunction → Option Fault
-no_result_fault fn = getter_fault fn.func.form fn.func.span
 
 -- the result of a setter is no `result`, or gives something where all is well; the option is what it gives there, if it is a `result`
 abbrev pub setter_fault : Written → Option (Option Written) → Option Fault
@@ -52,6 +48,3 @@ abbrev pub result_fault : FuncForm → Role → Written → Option (Option Writt
 result_fault form.Setter role t ok = setter_fault t ok
 result_fault form (Constructor of) t ok = made_fault of t ok
 result_fault form role t ok = None
-
-abbrev pub gives_fault : List ScopeName → SourceFunction → Written → Option Fault
-gives_fault xs fn t = result_fault fn.func.form fn.role t (result_ok xs t)

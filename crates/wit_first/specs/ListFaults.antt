@@ -9,10 +9,10 @@ use Rattle.wit_type_tree.specs.declared.types.Case.{Case}
 use Rattle.wit_type_tree.specs.declared.types.EnumCase.{EnumCase}
 use Rattle.wit_type_tree.specs.declared.types.TypeBody.{TypeBody}
 use Rattle.wit_type_tree.specs.declared.types.TypeBody.TheVariants.{Record, Flags, Variant, Enum}
-use Rattle.wit_syntax.specs.Bodies.{folded}
+use Rattle.wit_names.specs.Folded.{lower_case}
 use Rattle.wit_syntax.specs.Fault.{Fault, fault, fault_in}
 use Rattle.wit_syntax.specs.Words.{clash}
-use Rattle.wit_first.specs.First.{first_clash}
+use Rattle.wit_first.specs.First.{clash_of, first_after}
 
 -- a list is empty: the fault of this number
 abbrev pub empty_fault : {X : Type 0} → ℕ → List X → Span → Option Fault
@@ -25,11 +25,7 @@ clash_fault desc earlier later = fault_in 25 later.span (clash desc earlier.name
 
 -- the first name that is
 abbrev pub names_fault : List ℕ → List Id → Option Fault
-names_fault desc names = first_clash (λ (id : Id). folded id.name.now) (clash_fault desc) names
-
--- the thirty-third flag
-abbrev pub flag_fault : List Flag → Option Fault
-flag_fault flags = option_map (λ (flag : Flag). fault 21 flag.name.span) (slice_get flags 32)
+names_fault desc names = first_after (clash_of (λ (id : Id). lower_case id.name.now) (clash_fault desc)) [] names
 
 -- the first fault of fields or cases: there is none of them, and then a name that repeats
 abbrev pub members_fault : {X : Type 0} → ℕ → List ℕ → (X → Id) → Span → List X → Option Fault
@@ -37,7 +33,7 @@ members_fault number desc name span xs = option_or (empty_fault number xs span) 
 
 -- of flags: there is none of them, then one too many, and then a name that repeats
 abbrev pub flags_fault : Span → List Flag → Option Fault
-flags_fault span flags = option_or (empty_fault 20 flags span) (option_or (flag_fault flags) (names_fault (codes "flag") (map (λ (x : Flag). x.name) flags)))
+flags_fault span flags = option_or (empty_fault 20 flags span) (option_or (option_map (λ (flag : Flag). fault 21 flag.name.span) (slice_get flags 32)) (names_fault (codes "flag") (map (λ (x : Flag). x.name) flags)))
 
 -- of the list in the body of a definition
 abbrev pub list_fault : TypeBody → Option Fault

@@ -7,12 +7,13 @@ use Rattle.wit_graph.specs.Table.{Row}
 use Rattle.wit_graph.specs.TableFaults.{IsFirstMissing, IsFirstCyclic}
 use Rattle.wit_graph.specs.Laws.{AreAccepted}
 use Rattle.wit_syntax.specs.Fault.{Fault, missing_at, missing_type_at, cyclic_at, item_word, type_word}
-use Rattle.wit_syntax.specs.Foreign.{foreign_visits}
+use Rattle.wit_syntax.specs.Foreign.{foreign_visits, ForeignVisit}
 use Rattle.wit_syntax.specs.ScopeTables.{item_rows, rows_of}
 use Rattle.wit_syntax.specs.Source.{ScopeName}
-use Rattle.wit_first.specs.FileFaults.{files_fault, tops_fault, visits_fault}
-use Rattle.wit_first.specs.First.{IsOr}
+use Rattle.wit_first.specs.FileFaults.{files_fault, tops_fault}
+use Rattle.wit_first.specs.First.{IsOr, first_in}
 use Rattle.wit_first.specs.NameFaults.{item_names_fault}
+use Rattle.wit_first.specs.AttributeFaults.{stability_fault}
 
 -- the first missing name of a table, or, where none is missing, the name at its first edge both of whose ends reach a cycle
 abbrev pub IsFirstLost : (Id → Fault) → List Row → Fault → Type 0
@@ -39,7 +40,7 @@ items_prefix files = option_or (item_names_fault files) (files_fault files)
 
 -- and before these: attributes before paths with a package
 abbrev pub names_prefix : List PackageFile → Option Fault
-names_prefix files = option_or (visits_fault (foreign_visits files)) (items_prefix files)
+names_prefix files = option_or (first_in (λ (v : ForeignVisit). stability_fault v.attributes) (foreign_visits files)) (items_prefix files)
 
 -- of the order of the items, and then of the uses at the tops of files
 abbrev pub IsOrderedFault : List PackageFile → Option Fault → Type 0

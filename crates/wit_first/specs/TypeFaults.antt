@@ -2,7 +2,7 @@
 use Rattle.std.specs.Prelude.{Option, None}
 use Rattle.std.specs.Option.{option_or}
 use Rattle.wit_type_tree.specs.declared.leaves.Id.{Id}
-use Rattle.wit_type_tree.specs.declared.types.«Type».{«Type» as Written, None', Some', Row_of-Type, end_of-Type, more_of-Type}
+use Rattle.wit_type_tree.specs.declared.types.«Type».{«Type» as Written, Some', Row_of-Type, end_of-Type, more_of-Type}
 use Rattle.wit_type_tree.specs.declared.types.«Type».TheVariants as written
 use Rattle.wit_type_tree.specs.declared.types.ResultTypes.{ResultTypes, Neither, Ok', Err', Both'}
 use Rattle.wit_type_tree.specs.TypeParts.{row_types}
@@ -13,7 +13,6 @@ use Rattle.wit_first.specs.ListFaults.{empty_fault}
 -- A tuple is looked at before its parts, and a map after its key and its value. `word` says what is wrong with a name, and `handle` with one in a handle.
 abbrev mutual
   pub type_fault : (word handle : Id → Option Fault) → Written → Option Fault
-  type_fault word handle (written.Primitive span p) = None
   type_fault word handle (written.Name id) = word id
   type_fault word handle (written.List' span p t) = type_fault word handle t
   type_fault word handle (written.FixedLengthList' span p t size) = type_fault word handle t
@@ -21,12 +20,11 @@ abbrev mutual
   type_fault word handle (written.Option' span p t) = type_fault word handle t
   type_fault word handle (written.Result span of) = outcome_fault word handle of
   type_fault word handle (written.Tuple' span shape ts) = option_or (empty_fault 22 (row_types ts) span) (row_fault word handle ts)
-  type_fault word handle (written.Future' span None') = None
   type_fault word handle (written.Future' span (Some' p t)) = type_fault word handle t
-  type_fault word handle (written.Stream' span None') = None
   type_fault word handle (written.Stream' span (Some' p t)) = type_fault word handle t
   type_fault word handle (written.Own span id) = handle id
   type_fault word handle (written.Borrow span id) = handle id
+  type_fault word handle _ = None
 
   -- of the types that a result is written with
   pub outcome_fault : (word handle : Id → Option Fault) → ResultTypes → Option Fault

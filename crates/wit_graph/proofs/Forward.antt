@@ -6,7 +6,7 @@ use Rattle.std.proofs.lemmas.Option.{same_Some, slice_get_within}
 use Rattle.wit_type_tree.specs.declared.leaves.Id.{Id}
 use Rattle.wit_type_tree.specs.declared.error.ParseError.{ParseError}
 use Rattle.wit_type_tree.specs.RefusalText.{IsTypeCycle}
-use Rattle.wit_graph.specs.Edges.{IsEarlier, IsFirstEdge}
+use Rattle.wit_graph.specs.Edges.{IsFirstEdge}
 use Rattle.wit_graph.specs.Table.{Row, target, IsEdge, IsMissing, IsCyclic, IsComplete, Leads, IsOrder}
 use Rattle.wit_graph.specs.Refused.{IsNotFound, IsRefused, FailsAtMissing, FailsAtCycle}
 use Rattle.wit_graph.specs.TableFaults.{IsFaultOf, FaultsMissing, FaultsCycle}
@@ -16,7 +16,7 @@ use Rattle.wit_graph.specs.Order.{Walk, ReachesCycle, IsDependencyFirst}
 use Rattle.wit_graph.proofs.Tables.{not_missing}
 
 -- two first edges are one
-first_cases : (i k j l : ℕ) → ((i ≡ j) × (k ≡ l)) ⊎ (IsEarlier i k j l ⊎ IsEarlier j l i k)
+first_cases : (i k j l : ℕ) → ((i ≡ j) × (k ≡ l)) ⊎ (((i < j) ⊎ ((i ≡ j) × (k < l))) ⊎ ((j < i) ⊎ ((j ≡ i) × (l < k))))
 first_cases i k j l = elim (cases_order i j) [
   | inr (inl less) ↦ inr (inl (inl less))
   | inr (inr more) ↦ inr (inr (inl more))

@@ -1,6 +1,6 @@
 -- Worked rows, computed by the definitions.
 use Rattle.std.proofs.Common.{◌≡◌, ℕ, ◌<◌, ◌^◌, true, List, [], ◌∷◌, length, map, Some, None, zero, suc, inl, inr, refl, lit<, arith}
-use Rattle.wit_syntax.proofs.Common.{AliasForm, Attribute, Box, Cyclic, Defined, Field, Global, Head, Headerless, Id, Interface as WrittenInterface, InterfaceNamed, IsBroken, IsCyclic, IsCyclicEdge, IsDuplicateName, IsMissing, IsMissingEdge, IsOrder, IsSecond, IsWrongTop, Item, Leads, Leaf, ListForm, Local, LostUse, Member, Missing, Named, PackageFile, Plain, ReachesCycle, Record, RecordForm, Row, ScopeName, Span, TheInterface, TopName, ToplevelUse, Tree, TypeDef, Unknown, Unnamed, Use, UseName, Used, Vec, Word, all_items, codes, fault, fault_in, folded, in_turn, is_label, item_rows, last_header, missing_type_at, no_docs, path_id, rows_of, scope_names, source_tree, top_names, top_text, top_twice, type_word}
+use Rattle.wit_syntax.proofs.Common.{AliasForm, Attribute, Box, Cyclic, Defined, Field, Global, Head, Headerless, Id, Interface as WrittenInterface, InterfaceNamed, IsBroken, IsCyclic, IsCyclicEdge, IsDuplicateName, IsMissing, IsMissingEdge, IsOrder, IsSecond, IsWrongTop, Item, Leads, Leaf, ListForm, Local, LostUse, Member, Missing, Named, PackageFile, Plain, ReachesCycle, Record, RecordForm, Row, ScopeName, Span, TheInterface, TopName, ToplevelUse, Tree, TypeDef, Unknown, Unnamed, Use, UseName, Used, Vec, Word, all_items, codes, fault, fault_in, lower_case, in_turn, is_label, item_rows, last_header, missing_type_at, no_docs, path_id, rows_of, scope_names, source_tree, top_names, top_text, top_twice, type_word}
 use denote.RawPtr.{Ptr}
 use Rattle.wit_type_tree.specs.declared.leaves.Docs.{Docs as Comments}
 use Rattle.wit_type_tree.specs.declared.types.Field.{Field as WrittenField}
@@ -19,7 +19,7 @@ use Rattle.wit_types.specs.declared.types.TypeOwner.TheVariants as owner
 use Rattle.wit_arena.proofs.Common.{Collects, Def, Interface, IsSeen, Occurrence, Prim, UnresolvedPackage, Whole, kind_of, occurrences, one, package_tree, turned}
 use Rattle.wit_meaning_examples.proofs.SmallOrders.{two, three, two_order, three_order}
 
-folded_names : map folded (codes "P-q1" ∷ codes "p-Q1" ∷ []) ≡ (codes "p-q1" ∷ codes "p-q1" ∷ [])
+folded_names : map lower_case (codes "P-q1" ∷ codes "p-Q1" ∷ []) ≡ (codes "p-q1" ∷ codes "p-q1" ∷ [])
 folded_names = refl
 
 abbrev pub at : ℕ → ℕ → Span
@@ -170,7 +170,7 @@ module _ (ptr : Ptr) (alloc : Global) where
   b_cyclic : IsCyclic around 1 in_b
   b_cyclic = (b_reaches, (0, refl, a_reaches))
 
-  a_refused : IsCyclicEdge 16 type_word (rows_of around_names) (record { rule = 16; span = at 23 24; name = Some (codes "b"); sort = Cyclic (codes "type"); hint = None; said = [] })
+  a_refused : IsCyclicEdge 16 type_word (rows_of around_names) (record { rule = 16; span = at 23 24; says = Cyclic (codes "b") (codes "type") })
   a_refused = (0, 0, 1, in_a, (record { name = codes "a"; needs = in_a ∷ [] }, refl, refl), refl, a_reaches, b_reaches, refl)
 
   -- interface i { type t = u; }
@@ -183,7 +183,7 @@ module _ (ptr : Ptr) (alloc : Global) where
   u_missing : IsMissing (rows_of t_names) 0 u
   u_missing = refl
 
-  u_refused : IsMissingEdge missing_type_at (rows_of t_names) (record { rule = 15; span = at 23 24; name = Some (codes "u"); sort = Missing (codes "type"); hint = None; said = [] })
+  u_refused : IsMissingEdge missing_type_at (rows_of t_names) (record { rule = 15; span = at 23 24; says = Missing (codes "u") (codes "type") None })
   u_refused = (0, 0, u, (record { name = codes "t"; needs = u ∷ [] }, refl, refl), u_missing, refl)
 
   -- record { a: u8, A: u8 }
@@ -345,5 +345,5 @@ module _ (ptr : Ptr) (alloc : Global) where
     abbrev of_an_alias : ToplevelUse
     of_an_alias = record { attributes = unstated; span = at 12 15; item = path.Id (id (codes "y") (at 16 17) refl); as_ = Some (id (codes "z") (at 21 22) refl) }
 
-    original_missing : IsWrongTop (all_items two_files) (ToplevelItem alias ∷ ToplevelItem of_an_alias ∷ []) (record { rule = 7; span = at 16 17; name = Some (codes "y"); sort = Missing (codes "interface or world"); hint = None; said = [] })
+    original_missing : IsWrongTop (all_items two_files) (ToplevelItem alias ∷ ToplevelItem of_an_alias ∷ []) (record { rule = 7; span = at 16 17; says = Missing (codes "y") (codes "interface or world") None })
     original_missing = LostUse of_an_alias (1, lit< tt, refl) (id (codes "y") (at 16 17) refl) refl refl refl

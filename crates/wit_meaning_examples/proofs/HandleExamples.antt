@@ -147,7 +147,10 @@ module _ (ptr : Ptr) (alloc : Global) where
 
     -- nothing is required of other packages
     required : AreRequired files ks (turn_handles (turned ordered)) []
-    required = required_more files ks _ None _ [] (1, refl) (required_more files ks _ None _ [] (2, refl) (required_more files ks _ None _ [] (2, refl) (required_none files ks)))
+    required =
+        let y : Address × Id = (in_i, a_id (at 87 88)) in
+        let z : Address × Id = (in_i, a_id (at 98 99)) in
+        required_more files ks (in_i, r_id (at 73 74)) None (y ∷ z ∷ []) [] (1, refl) (required_more files ks y None (z ∷ []) [] (2, refl) (required_more files ks z None [] [] (2, refl) (required_none files ks)))
 
   -- use a:b/c.{r}; f: func(x: borrow<r>);
   module _ where

@@ -49,7 +49,7 @@ module _ (ptr : Ptr) (alloc : Global) where
         let f : ⊥ = cc in
         f
 
-    later_refused : IsBroken (file_of ptr alloc later ∷ []) (record { rule = 29; span = at 42 43; name = Some (codes "g"); sort = Missing (codes "name"); hint = None; said = [] })
+    later_refused : IsBroken (file_of ptr alloc later ∷ []) (record { rule = 29; span = at 42 43; says = Missing (codes "g") (codes "name") None })
     later_refused = in_scope ptr alloc later _ (Function 0 _ refl (MissingInSignature (g_id (at 42 43)) (0, lit< tt, refl) refl (OfNothing not_entered refl)))
 
   -- x: get(v: u8) -> u8;

@@ -247,7 +247,7 @@ module _ (ptr : Ptr) (alloc : Global) where
   abbrev after_name : Interface
   after_name = i_of (TypeItem (record { docs = no_comments ptr alloc; attributes = unstated ptr alloc; name = t_id (at 36 37); body = Plain (written.Name (f_id (at 40 41))) }) ∷ FuncItem (func (f_id (at 43 44)) (at 46 50) form.Plain None) ∷ []) (lit< tt)
 
-  after_name_refused : IsBroken (file_of after_name ∷ []) (record { rule = 15; span = at 40 41; name = Some (codes "f"); sort = Missing (codes "type"); hint = None; said = [] })
+  after_name_refused : IsBroken (file_of after_name ∷ []) (record { rule = 15; span = at 40 41; says = Missing (codes "f") (codes "type") None })
   after_name_refused = in_scope after_name _ (MissingType (0, 0, f_id (at 40 41), (record { name = codes "t"; needs = f_id (at 40 41) ∷ [] }, refl, refl), refl, refl))
 
   -- resource r { m: func(self: u8); }

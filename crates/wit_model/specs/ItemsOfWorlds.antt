@@ -47,6 +47,5 @@ span_of (item.Type_ id span) = span
 
 -- the function, if it is one
 abbrev pub function_of : WorldItem → Option Function
-function_of (item.Interface id stability external_id docs span) = None
 function_of (item.Function f) = Some f
-function_of (item.Type_ id span) = None
+function_of _ = None

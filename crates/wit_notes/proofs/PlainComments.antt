@@ -1,6 +1,6 @@
 -- Texts without a CR, line by line; and the indent of the first of some texts as the least.
 use Rattle.std.proofs.Common.{◌≡◌, ℕ, zero, suc, ◌+◌, ◌-◌, ◌<◌, ◌≤◌, ◌==◌, true, false, List, [], ◌∷◌, ◌++◌, length, get_or, take, append-nil, slice_index, Option, Some, None, is_some, inl, inr, refl, sym, ap, ◌∙◌, subst, arith, cond}
-use Rattle.wit_syntax.proofs.Common.{All-cons, All-head, All-nil, All-push, All-same, All-tail, after_spaces, cases_Bool, common_indent, ended, ended_lines, eqb-true, flat_map, flat_map-append, fold, indent, is_ascii_whitespace, is_written, lines, lines_of_parts, map, map-append, min, ne_eqb, onto_first, prefix_len, said, slice_split, strip_carriage_return, take_more, without_spaces}
+use Rattle.wit_syntax.proofs.Common.{All-cons, All-head, All-nil, All-push, All-same, All-tail, after_spaces, cases_Bool, common_indent, ended_lines, eqb-true, flat_map, flat_map-append, fold, indent, is_ascii_whitespace, is_written, lines, lines_of_parts, map, map-append, min, ne_eqb, onto_first, prefix_len, said, slice_split, strip_carriage_return, take_more, without_spaces}
 use Rattle.std.specs.Prelude.{filter}
 use Rattle.std.specs.List.{All}
 use denote.Ref.{Bor}
@@ -44,8 +44,8 @@ stripped-more b (c ∷ line) other =
       | inr none ↦ rw none refl
     ])
 
-lines-more : (b : ℕ) (text : List ℕ) (parts : List (List ℕ)) → (b == 13) ≡ false → flat_map ended (lines_of_parts parts) ≡ text ++ 10 ∷ [] →
-    flat_map ended (lines_of_parts (cond (b == 10) ([] ∷ parts) (onto_first b parts))) ≡ b ∷ (text ++ 10 ∷ [])
+lines-more : (b : ℕ) (text : List ℕ) (parts : List (List ℕ)) → (b == 13) ≡ false → flat_map (λ (line : List ℕ). line ++ 10 ∷ []) (lines_of_parts parts) ≡ text ++ 10 ∷ [] →
+    flat_map (λ (line : List ℕ). line ++ 10 ∷ []) (lines_of_parts (cond (b == 10) ([] ∷ parts) (onto_first b parts))) ≡ b ∷ (text ++ 10 ∷ [])
 lines-more b text parts other h = elim (cases_Bool (b == 10)) [
   | inl end ↦ rw (end, eqb-true b 10 end) (rest_after parts h)
   | inr inside ↦ rw inside (onto parts h)
@@ -55,11 +55,11 @@ lines-more b text parts other h = elim (cases_Bool (b == 10)) [
     some [] e = let f : ⊥ = cc in f
     some (c ∷ text) e = let f : ⊥ = cc in f
 
-    rest_after : (parts : List (List ℕ)) → flat_map ended (lines_of_parts parts) ≡ text ++ 10 ∷ [] → flat_map ended (lines_of_parts ([] ∷ parts)) ≡ 10 ∷ (text ++ 10 ∷ [])
+    rest_after : (parts : List (List ℕ)) → flat_map (λ (line : List ℕ). line ++ 10 ∷ []) (lines_of_parts parts) ≡ text ++ 10 ∷ [] → flat_map (λ (line : List ℕ). line ++ 10 ∷ []) (lines_of_parts ([] ∷ parts)) ≡ 10 ∷ (text ++ 10 ∷ [])
     rest_after [] h = absurd (some text h)
     rest_after (part ∷ parts) h = ap (λ t. 10 ∷ t) h
 
-    onto : (parts : List (List ℕ)) → flat_map ended (lines_of_parts parts) ≡ text ++ 10 ∷ [] → flat_map ended (lines_of_parts (onto_first b parts)) ≡ b ∷ (text ++ 10 ∷ [])
+    onto : (parts : List (List ℕ)) → flat_map (λ (line : List ℕ). line ++ 10 ∷ []) (lines_of_parts parts) ≡ text ++ 10 ∷ [] → flat_map (λ (line : List ℕ). line ++ 10 ∷ []) (lines_of_parts (onto_first b parts)) ≡ b ∷ (text ++ 10 ∷ [])
     onto [] h = absurd (some text h)
     onto ([] ∷ []) h = absurd (some text h)
     onto ((c ∷ part) ∷ []) h =
@@ -69,22 +69,22 @@ lines-more b text parts other h = elim (cases_Bool (b == 10)) [
         rw long (ap (λ t. b ∷ t) same)
     onto (part ∷ next ∷ parts) h = rw (stripped-more b part other) (ap (λ t. b ∷ t) h)
 
-lines-plain : (text : List ℕ) → HasNoReturn text → ends_in_line text ≡ false → 0 < length text → flat_map ended (lines text) ≡ ended text
+lines-plain : (text : List ℕ) → HasNoReturn text → ends_in_line text ≡ false → 0 < length text → flat_map (λ (line : List ℕ). line ++ 10 ∷ []) (lines text) ≡ (text ++ 10 ∷ [])
 lines-plain [] free inside some = absurd (omega arith)
 lines-plain (b ∷ []) free inside some = rw inside refl
 lines-plain (b ∷ c ∷ text) free inside some = lines-more b (c ∷ text) (slice_split (λ d. d == 10) (c ∷ text)) free.0 (lines-plain (c ∷ text) free.1 inside (omega arith))
 
 -- a text without a CR, which ends with no LF, has one LF more than its lines
-lines-ended : (text : List ℕ) → HasNoReturn text → ends_in_line text ≡ false → ended_lines text ≡ ended text
+lines-ended : (text : List ℕ) → HasNoReturn text → ends_in_line text ≡ false → ended_lines text ≡ (text ++ 10 ∷ [])
 lines-ended [] free inside = refl
 lines-ended (b ∷ text) free inside =
     let long : (length (b ∷ text) == 0) ≡ false = ne_eqb (length (b ∷ text)) 0 (λ z. (let f : ⊥ = omega arith in f)) in
     rw long (lines-plain (b ∷ text) free inside (omega arith))
 
 -- what was added
-pub pushed-plain : (old new text : List ℕ) → new ≡ old ++ ended text → ends_in_line text ≡ false → IsPushed old new text
+pub pushed-plain : (old new text : List ℕ) → new ≡ old ++ (text ++ 10 ∷ []) → ends_in_line text ≡ false → IsPushed old new text
 pushed-plain old new text is inside = λ free.
-    let both = no_return-split old (ended text) (subst HasNoReturn is free) in
+    let both = no_return-split old (text ++ 10 ∷ []) (subst HasNoReturn is free) in
     let added = no_return-split text (10 ∷ []) both.1 in
     (both.0, is ∙ ap (λ t. old ++ t) (sym (lines-ended text added.0 inside)))
 

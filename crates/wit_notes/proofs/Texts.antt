@@ -1,6 +1,6 @@
 -- Marks at both ends of texts, spaces in front, and lines.
 use Rattle.std.proofs.Common.{◌≡◌, ◌≢◌, ℕ, zero, suc, ◌-◌, ◌<◌, ◌==◌, ◌&&◌, true, false, List, [], ◌∷◌, ◌++◌, length, take, drop, append-nil, slice_index, Option, Some, None, is_some, IfSome, inl, inr, refl, sym, ap, ◌∙◌, arith, lit<, if◌then◌else◌}
-use Rattle.wit_syntax.proofs.Common.{Bool, IsCharBoundary, after_slashes, after_spaces, cases_Bool, codes, docs_text, drop-length, encode_ascii, ended, ended_lines, ends_with, eqb-true, filter_map, flat_map, indent, is_written, joined, lines_of_parts, map, map_map, name_equal, nat_eq, ne_eqb, rest_after, said, slice_split, starts_with, take-append-drop, unmarked, without_end, without_last_lines}
+use Rattle.wit_syntax.proofs.Common.{Bool, IsCharBoundary, after_slashes, after_spaces, cases_Bool, codes, docs_text, drop-length, encode_ascii, ended_lines, ends_with, eqb-true, filter_map, flat_map, indent, is_written, joined, lines_of_parts, map, map_map, name_equal, nat_eq, ne_eqb, rest_after, said, slice_split, starts_with, take-append-drop, unmarked, without_end, without_last_lines}
 use Rattle.std.specs.Prelude.{filter}
 use Rattle.std.specs.Str.Pattern.{CutsPrefixes, CutsSuffixes, IsTrimStartMatches, IsTrimEndMatches, FindsCharPrefix, FindsCharSuffix, FindsTextSuffix, HasCharAt, StripsSuffix}
 use Rattle.std.proofs.lemmas.Str.Pattern.{drop_at_char, ends_text}
@@ -102,11 +102,11 @@ one_line (b ∷ text) parts is =
     let long : (length (b ∷ text) == 0) ≡ false = ne_eqb (length (b ∷ text)) 0 (λ z. (let f : ⊥ = omega arith in f)) in
     rw (is, long) refl
 
-pub lines-one : (text : List ℕ) (found : Option ℕ) → IsFirstByte (is_byte 10) text found → is_some found ≡ false → ended_lines text ≡ ended text
+pub lines-one : (text : List ℕ) (found : Option ℕ) → IsFirstByte (is_byte 10) text found → is_some found ≡ false → ended_lines text ≡ (text ++ 10 ∷ [])
 lines-one text (Some place) h none = absurd (let f : ⊥ = cc in f)
 lines-one text None h none =
     let part = one_part text (λ k lt. h k (omega arith) lt) in
-    ap (flat_map ended) (one_line text (slice_split (λ b. b == 10) text) part) ∙ append-nil (ended text)
+    ap (flat_map (λ (line : List ℕ). line ++ 10 ∷ [])) (one_line text (slice_split (λ b. b == 10) text) part) ∙ append-nil (text ++ 10 ∷ [])
 
 pub lines-many : (text : List ℕ) (found : Option ℕ) → IsFirstByte (is_byte 10) text found → is_some found ≡ true → (length text == 0) ≡ false
 lines-many text None h some = absurd (let f : ⊥ = cc in f)

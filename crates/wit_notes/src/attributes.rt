@@ -2,12 +2,12 @@
 ghost use Rattle.std.specs.Prelude.{◌≡◌, ◌⊎◌, IfOk};
 ghost use Rattle.std.specs.Option.{option_copied};
 ghost use Rattle.wit_type_tree.specs.RefusalText.{IsAllocationFailure};
-ghost use Rattle.wit_first.specs.AttributeFaults.{each_once_fault, external_fault, number_of, repeat_fault, stability_fault, together_fault};
+ghost use Rattle.wit_first.specs.AttributeFaults.{each_once_fault, external_fault, kinds_fault, number_of, repeat_fault, stability_fault};
 ghost use Rattle.wit_first.specs.First.{Finds};
 ghost use Rattle.wit_syntax.specs.Fault.{fault, fault_of};
-ghost use Rattle.wit_type_tree.specs.Attributes.{stated_text, stated_version};
+ghost use Rattle.wit_type_tree.specs.Attributes.{first_of, stated_text, stated_version};
 ghost use Rattle.wit_syntax.specs.Metadata.{deprecation, stability_of};
-ghost use Rattle.wit_type_tree.specs.declared.attribute_kind.AttributeKind.TheVariants.{ExternalId};
+ghost use Rattle.wit_type_tree.specs.declared.attribute_kind.AttributeKind.TheVariants.{Deprecated, ExternalId, Since, Unstable};
 
 use semver::Version;
 use std::alloc::{AllocError, Global};
@@ -91,7 +91,7 @@ pub fn check_external_once(alloc: Global, attributes: &[Attribute<'_>]) -> Parse
 
 /// Refuses `@since` beside `@unstable`, and `@deprecated` without either.
 fn check_together(alloc: Global, attributes: &[Attribute<'_>]) -> ParseResult<()>
-    ensures { Finds (together_fault attributes.now) result }
+    ensures { Finds (kinds_fault (first_of Since attributes.now) (first_of Unstable attributes.now) (first_of Deprecated attributes.now)) result }
 {
     let unstable = first_of(attributes, AttributeKind::Unstable);
     if let Some(since) = first_of(attributes, AttributeKind::Since) {

@@ -1,9 +1,9 @@
 //! The text of docs.
-ghost use Rattle.std.specs.Prelude.{◌≡◌, ◌++◌, IfNone, IfOk, IfSome, IsTrue, OnOk, map, string_bytes};
+ghost use Rattle.std.specs.Prelude.{◌≡◌, ◌++◌, IfNone, IfOk, IfSome, IsTrue, OnOk, map, string_bytes, [], ◌∷◌};
 ghost use Rattle.std.specs.List.{All};
 ghost use Rattle.std.specs.Option.{option_copied};
 ghost use Rattle.std.specs.Str.{trim_end};
-ghost use Rattle.wit_syntax.specs.Docs.{after_slashes, after_spaces, common_indent, ended, ended_lines, indent, joined, said, unmarked, without_end, without_last_lines, without_spaces};
+ghost use Rattle.wit_syntax.specs.Docs.{after_slashes, after_spaces, common_indent, ended_lines, indent, joined, said, unmarked, without_end, without_last_lines, without_spaces};
 ghost use Rattle.wit_syntax.specs.Metadata.{docs_of};
 ghost use Rattle.wit_notes.specs.Indents.{written_indent};
 ghost use Rattle.wit_notes.specs.PlainComments.{IsIndented, IsPlainOf, IsPushed, all_lines, all_said, ends_in_line, first_indent};
@@ -161,7 +161,7 @@ fn unindented(text: &str, count: usize) -> Option<&str>
 
 /// Adds a line and its LF.
 fn push_line(text: &mut String, line: &str) -> Result<(), AllocError>
-    ensures { OnOk result (string_bytes text.new ≡ string_bytes text.old ++ ended line.now) }
+    ensures { OnOk result (string_bytes text.new ≡ string_bytes text.old ++ (line.now ++ 10 ∷ [])) }
 {
     text.push_str(line)?;
     text.push('\n')?;

@@ -1,6 +1,6 @@
 -- Scopes: what a key finds among their names, and setters with their getters.
 use Rattle.std.proofs.Common.{◌≡◌, ℕ, ◌<◌, Bool, true, false, List, [], ◌∷◌, ◌++◌, length, take, drop, Some, None, Option, nat_eq, inl, inr, IfNone, IfSome, refl, subst, sym, ap, ◌∙◌}
-use Rattle.wit_syntax.proofs.Common.{ParseError, Refused, at_either, at_within, cases_Bool, codes, differ_at, differ_more, fault_in, find, find_passes, folded_key, getter_of, is_after, is_dotted, is_label, is_mangled, is_setter, keys_of, lookup, map, map-append, map_at, name_equal, option_map, passes, pointwise, position, rest_after, setter_words, slice_get, slice_get-map, starts_with, take-append-drop}
+use Rattle.wit_syntax.proofs.Common.{ParseError, Refused, at_either, at_within, cases_Bool, codes, differ_at, differ_more, find, find_passes, folded_key, getter_of, is_after, is_dotted, is_label, is_mangled, is_setter, keys_of, lookup, map, map-append, map_at, name_equal, option_map, passes, pointwise, position, rest_after, slice_get, slice_get-map, starts_with, take-append-drop, lone_setter}
 use Rattle.wit_names.proofs.MadeNames.{is_mangled-get, is_mangled-method_get, is_mangled-static_get}
 use Rattle.indexmap.proofs.MapLemmas.{Found-position}
 use Rattle.wit_maps.proofs.Indexed.{lookup_nowhere}
@@ -121,7 +121,7 @@ paired-more names place n at paired lone =
     let has = paired sets in
     lone.none has.place has.span (has.at ∙ ap (λ (m : Name). Some (getter_of m.0, has.span)) one)
 
-pub first-lone : (names : List Name) (place : ℕ) (n : Name) (e : ParseError) → slice_get names place ≡ Some n → ((i : ℕ) → i < place → IsLoneSetter names i → ⊥) → Refused (λ f. (is_setter n.0 ≡ true) × (HasName names (getter_of n.0) → ⊥) × (f ≡ fault_in 18 n.1 (setter_words n.0))) e → Refused (IsFirstLoneSetter names) e
+pub first-lone : (names : List Name) (place : ℕ) (n : Name) (e : ParseError) → slice_get names place ≡ Some n → ((i : ℕ) → i < place → IsLoneSetter names i → ⊥) → Refused (λ f. (is_setter n.0 ≡ true) × (HasName names (getter_of n.0) → ⊥) × (f ≡ lone_setter n.0 n.1)) e → Refused (IsFirstLoneSetter names) e
 first-lone names place n e at first r = elim r [
   | inl memory ↦ inl memory
   | inr h ↦ inr (record {

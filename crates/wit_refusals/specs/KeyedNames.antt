@@ -5,8 +5,8 @@ use Rattle.wit_names.specs.Setter.{getter_of, is_setter}
 use Rattle.wit_values.specs.declared.span.Span.{Span}
 use Rattle.wit_type_tree.specs.RefusalText.{IsAllocationFailure}
 use Rattle.wit_type_tree.specs.declared.error.ParseError.{ParseError}
-use Rattle.wit_syntax.specs.Fault.{Fault, fault_in, fault_of}
-use Rattle.wit_syntax.specs.Words.{clash, setter_words}
+use Rattle.wit_syntax.specs.Fault.{Fault, fault_in, fault_of, lone_setter}
+use Rattle.wit_syntax.specs.Words.{clash}
 use Rattle.wit_syntax.specs.Repeats.{AllDiffer}
 use Rattle.wit_refusals.specs.declared.name_scope.DefinedName.{DefinedName}
 use Rattle.wit_refusals.specs.NameScopes.{Name}
@@ -42,7 +42,7 @@ pub record HasName (names : List Name) (name : List ℕ) : Type 0 where
 
 -- a name is a setter, and its getter is not there
 abbrev pub IsWithoutGetter : List Name → List ℕ → Span → Fault → Type 0
-IsWithoutGetter names name span f = IsTrue (is_setter name) × (HasName names (getter_of name) → ⊥) × (f ≡ fault_in 18 span (setter_words name))
+IsWithoutGetter names name span f = IsTrue (is_setter name) × (HasName names (getter_of name) → ⊥) × (f ≡ lone_setter name span)
 
 -- the fault of a name whose key an entry has
 abbrev pub defined_again_fault : Entry → List ℕ → Span → Fault

@@ -3,8 +3,8 @@ use Rattle.std.specs.Prelude.{◌≡◌, ℕ, ◌<◌, List, Some, slice_get, Is
 use Rattle.wit_names.specs.Folded.{folded_key}
 use Rattle.wit_names.specs.Setter.{getter_of, is_setter}
 use Rattle.wit_values.specs.declared.span.Span.{Span}
-use Rattle.wit_syntax.specs.Fault.{Fault, fault_in}
-use Rattle.wit_syntax.specs.Words.{clash, setter_words}
+use Rattle.wit_syntax.specs.Fault.{Fault, fault_in, lone_setter}
+use Rattle.wit_syntax.specs.Words.{clash}
 
 -- a name of a scope, with the place where it is written
 abbrev pub Name : Type 0
@@ -35,4 +35,4 @@ pub record IsFirstLoneSetter (names : List Name) (f : Fault) : Type 0 where
   pub place : ℕ
   pub lone : IsLoneSetter names place
   pub first : (i : ℕ) → i < place → IsLoneSetter names i → ⊥
-  pub is : f ≡ fault_in 18 lone.setter.1 (setter_words lone.setter.0)
+  pub is : f ≡ lone_setter lone.setter.0 lone.setter.1

@@ -1,9 +1,8 @@
 //! The names of a scope, which differ once folded.
-ghost use Rattle.std.specs.Prelude.{◌≡◌, ◌++◌, ◌∷◌, [], ◌↔◌, ℕ, IfErr, IfOk, IsTrue, OnErr, OnOk, Some, string_bytes};
+ghost use Rattle.std.specs.Prelude.{◌≡◌, ◌++◌, ◌∷◌, [], ◌↔◌, ℕ, IfErr, IfOk, IsTrue, OnErr, OnOk, Some, codes, string_bytes};
 ghost use Rattle.wit_names.specs.Mangled.{is_mangled};
 ghost use Rattle.wit_names.specs.Setter.{getter_of, is_setter};
 ghost use Rattle.wit_syntax.specs.Broken.{Refused};
-ghost use Rattle.wit_syntax.specs.Words.{setter_words};
 ghost use Rattle.wit_refusals.specs.NameScopes.{IsDefinedAgain, IsFirstLoneSetter, IsLoneSetter, AreUsed};
 ghost use Rattle.wit_refusals.specs.KeyedNames.{HasName, IsDefinedAgainAt, IsKeyed, IsWithoutGetter, names_of, spelled, spelling};
 
@@ -120,7 +119,7 @@ fn is_getter_at(names: &Table<Folded, DefinedName>, place: usize, setter: &str) 
 
 /// The words for a setter whose getter is missing.
 fn lone_setter(alloc: Global, setter: &str, getter: &str) -> Result<String, AllocError>
-    ensures { getter.now ≡ getter_of setter.now → IfOk result (λ words. string_bytes words ≡ setter_words setter.now) }
+    ensures { IfOk result (λ words. string_bytes words ≡ codes "setter `" ++ (setter.now ++ (codes "` has no corresponding getter `" ++ (getter.now ++ codes "`")))) }
 {
     format!(in alloc; "setter `{setter}` has no corresponding getter `{getter}`")
 }

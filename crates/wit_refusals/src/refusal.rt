@@ -1,9 +1,8 @@
 //! Refusals of a broken rule.
-ghost use Rattle.std.specs.Prelude.{◌≡◌, ◌⊎◌, IfOk, List, None, Some, ℕ, string_bytes};
+ghost use Rattle.std.specs.Prelude.{◌≡◌, ◌⊎◌, ◌++◌, IfOk, codes, List, None, Some, ℕ, string_bytes};
 ghost use Rattle.std.specs.Option.{option_map};
 ghost use Rattle.wit_type_tree.specs.RefusalText.{IsAllocationFailure, IsItemNotFound, IsTypeCycle};
-ghost use Rattle.wit_syntax.specs.Fault.{fault_in, fault_of, missing_at, missing_type_at, cyclic_at, type_word};
-ghost use Rattle.wit_syntax.specs.Words.{world_words};
+ghost use Rattle.wit_syntax.specs.Fault.{fault_in, fault_of, missing_at, missing_type_at, cyclic_at, type_word, world_there};
 ghost use Rattle.wit_syntax.specs.Hint.{hint_of, renamed, type_hint};
 
 use std::alloc::{AllocError, Global};
@@ -64,7 +63,7 @@ pub fn refuse_missing(alloc: Global, rule: u8, sort: &str, id: Id<'_>) -> ParseE
 
 /// The words for a name that leads to a world where an interface is wanted.
 fn a_world(alloc: Global, name: &str) -> Result<String, AllocError>
-    ensures { IfOk result (λ words. string_bytes words ≡ world_words name.now) }
+    ensures { IfOk result (λ words. string_bytes words ≡ codes "name `" ++ (name.now ++ codes "` is defined as a world, not an interface")) }
 {
     format!(in alloc; "name `{name}` is defined as a world, not an interface")
 }
@@ -73,7 +72,7 @@ fn a_world(alloc: Global, name: &str) -> Result<String, AllocError>
 #[cold]
 #[inline(never)]
 pub fn refuse_world(alloc: Global, id: Id<'_>) -> ParseError
-    ensures { IsAllocationFailure result ⊎ (fault_of result ≡ fault_in 10 id.entry.span (world_words id.entry.name.now)) }
+    ensures { IsAllocationFailure result ⊎ (fault_of result ≡ world_there id.entry) }
 {
     refuse_in(10, id.span, a_world(alloc, id.name))
 }

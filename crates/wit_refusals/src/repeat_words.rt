@@ -1,6 +1,6 @@
 //! The words of refusals of a name that occurs twice.
-ghost use Rattle.std.specs.Prelude.{◌≡◌, IfOk, string_bytes};
-ghost use Rattle.wit_syntax.specs.Words.{clash, conflicting, defined_twice, duplicate};
+ghost use Rattle.std.specs.Prelude.{◌≡◌, IfOk, string_bytes, ◌++◌, codes};
+ghost use Rattle.wit_syntax.specs.Words.{clash, defined_twice};
 
 use std::alloc::{AllocError, Global};
 
@@ -13,14 +13,14 @@ pub fn defined_twice(alloc: Global, desc: &str, name: &str) -> Result<String, Al
 
 /// The words for a name that is spelled as an earlier one.
 fn duplicate(alloc: Global, desc: &str, name: &str) -> Result<String, AllocError>
-    ensures { IfOk result (λ words. string_bytes words ≡ duplicate desc.now name.now) }
+    ensures { IfOk result (λ words. string_bytes words ≡ codes "duplicate " ++ (desc.now ++ (codes " `" ++ (name.now ++ codes "`")))) }
 {
     format!(in alloc; "duplicate {desc} `{name}`")
 }
 
 /// The words for a name that differs from an earlier one in case alone.
 fn conflicting(alloc: Global, desc: &str, earlier: &str, later: &str) -> Result<String, AllocError>
-    ensures { IfOk result (λ words. string_bytes words ≡ conflicting desc.now earlier.now later.now) }
+    ensures { IfOk result (λ words. string_bytes words ≡ desc.now ++ (codes " `" ++ (later.now ++ (codes "` conflicts with previous " ++ (desc.now ++ (codes " `" ++ (earlier.now ++ codes "`"))))))) }
 {
     format!(in alloc; "{desc} `{later}` conflicts with previous {desc} `{earlier}`")
 }

@@ -5,7 +5,7 @@ ghost use Rattle.std.specs.List.{list_any};
 ghost use Rattle.std.specs.Map.{update};
 ghost use Rattle.std.specs.Str.{bytes_eq};
 ghost use Rattle.wit_refusals.specs.Lent.{place_of};
-ghost use Rattle.wit_syntax.specs.Bodies.{folded};
+ghost use Rattle.wit_names.specs.Folded.{lower_case};
 ghost use Rattle.wit_syntax.specs.Repeats.{IsRepeatAt, AllDiffer};
 
 use crate::key_hashes::have_own_key_hashes;
@@ -108,7 +108,7 @@ fn have_upper_case(texts: &[&str]) -> bool
 
 /// The texts in lower case.
 fn in_lower_case(alloc: Global, texts: &[&str]) -> Result<Vec<Text>, AllocError>
-    ensures { IfOk result (λ lower. lower.items ≡ map (λ t. folded t.now) texts.now) }
+    ensures { IfOk result (λ lower. lower.items ≡ map (λ t. lower_case t.now) texts.now) }
 {
     let mut lower = Vec::with_capacity(alloc, texts.len())?;
     for text in texts {
@@ -136,9 +136,9 @@ pub fn first_folded_repeat(
     alloc: Global,
     texts: &[&str],
 ) -> Result<Option<(usize, usize)>, AllocError>
-    ensures some { IfOk result (λ found. IfSome found (λ p. IsRepeatAt (map (λ t. folded t.now) texts.now) p.0 p.1)) }
-    ensures first { IfOk result (λ found. IfSome found (λ p. AllDiffer (take p.1 (map (λ t. folded t.now) texts.now)))) }
-    ensures none { IfOk result (λ found. IfNone found (AllDiffer (map (λ t. folded t.now) texts.now))) }
+    ensures some { IfOk result (λ found. IfSome found (λ p. IsRepeatAt (map (λ t. lower_case t.now) texts.now) p.0 p.1)) }
+    ensures first { IfOk result (λ found. IfSome found (λ p. AllDiffer (take p.1 (map (λ t. lower_case t.now) texts.now)))) }
+    ensures none { IfOk result (λ found. IfNone found (AllDiffer (map (λ t. lower_case t.now) texts.now))) }
 {
     if have_upper_case(texts) {
         let lower = in_lower_case(alloc, texts)?;

@@ -32,17 +32,17 @@ pub use Rattle.indexmap.specs.Layout.{set_value_at}
 pub use Rattle.semver.specs.Grammar.{IsValid}
 pub use Rattle.semver.specs.Identifiers.{build_text, parts_of, pre_text}
 pub use Rattle.semver.specs.declared.Version.{Version}
-pub use Rattle.wit_names.specs.Folded.{folded_key}
+pub use Rattle.wit_names.specs.Folded.{folded_key, lower_case}
 pub use Rattle.wit_names.specs.Label.{fragments, is_fragment, is_label, starts_with_letter}
 pub use Rattle.wit_names.specs.Mangled.{is_dotted, is_mangled}
 pub use Rattle.wit_names.specs.Prefix.{is_after, passes, rest_after}
-pub use Rattle.wit_names.specs.Setter.{getter_of, is_setter, with_prefix}
+pub use Rattle.wit_names.specs.Setter.{getter_of, is_setter}
 pub use Rattle.wit_values.specs.ReleaseText.{release_parts}
 pub use Rattle.wit_values.specs.declared.release.Release.{Release}
 pub use Rattle.wit_values.specs.declared.span.Span.{Span}
 pub use Rattle.wit_type_tree.proofs.Rows.{tuple_types, types_of_borrowed}
 pub use Rattle.wit_type_tree.specs.Attributes.{attribute_span, attribute_text, attribute_version, first_of, is_of, kind_of, stated_text, stated_version}
-pub use Rattle.wit_type_tree.specs.RefusalText.{Cyclic, IsAllocationFailure, Missing, kind_text, span_of}
+pub use Rattle.wit_type_tree.specs.RefusalText.{IsAllocationFailure, kind_text, span_of}
 pub use Rattle.wit_type_tree.specs.TypeParts.{body_types, boxed_types, case_types, err_type, field_types, ok_type, part_types, result_types, row_types}
 pub use Rattle.wit_type_tree.specs.declared.attribute_kind.AttributeKind.{AttributeKind}
 pub use Rattle.wit_type_tree.specs.declared.attribute_kind.AttributeKind.TheVariants.{ExternalId}
@@ -82,7 +82,7 @@ pub use Rattle.wit_tree.specs.declared.tree.WorldSide.TheVariants.{Exported, Imp
 pub use Rattle.wit_graph.proofs.Greedy.{IsGreedy, greedy_least, greedy_nil, greedy_push, greedy_sorted, own_greedy, placed_no_cycle}
 pub use Rattle.wit_graph.proofs.SameEdges.{complete_back, leads_onward, one_answer, same_edges, same_place}
 pub use Rattle.wit_graph.proofs.Tables.{known, matched, not_missing, place_by_key, row_at_place, slice_get-take}
-pub use Rattle.wit_graph.specs.Edges.{IsEarlier, IsFirstEdge}
+pub use Rattle.wit_graph.specs.Edges.{IsFirstEdge}
 pub use Rattle.wit_graph.specs.Laws.{AreAccepted, AreRefused, HaveSameEdges, NeedsAll}
 pub use Rattle.wit_graph.specs.Order.{IsBefore, IsDependencyFirst, ReachesCycle}
 pub use Rattle.wit_graph.specs.Table.{IsComplete, IsCyclic, IsEdge, IsMissing, IsOrder, Leads, Row, entry_row, place_of, rows, target}
@@ -97,6 +97,7 @@ pub use Rattle.wit_types.specs.declared.types.TypeDefKind.{TypeDefKind}
 pub use Rattle.wit_types.specs.declared.types.TypeOwner.{TypeOwner}
 pub use Rattle.wit_package_names.specs.declared.package_name.PackageName.{PackageName}
 pub use Rattle.wit_syntax.proofs.Addresses.{same_address-equal, same_address-from, same_address-itself, same_package-equal, same_package-from, same_package-itself, same_side-equal, side_itself}
+pub use Rattle.wit_syntax.proofs.NeededPaths.{needed-paths}
 pub use Rattle.wit_syntax.proofs.Ends.{meant_end}
 pub use Rattle.wit_syntax.proofs.Externs.{extern_at}
 pub use Rattle.wit_syntax.proofs.Firsts.{firsts-more, firsts_at, firsts_differ, firsts_has}
@@ -122,23 +123,23 @@ pub use Rattle.wit_syntax.proofs.Tables.{none_if, place_of-Some}
 pub use Rattle.wit_syntax.proofs.Turns.{AreOwn, at_part, defined_at, defined_has, distinct_names, distinct_none, either_at, in_order_all, in_order_among, in_turn_among, in_turn_distinct, in_turn_has, names_within, used_at, used_has, used_is}
 pub use Rattle.wit_syntax.proofs.Unnoted.{unbroken_metadata}
 pub use Rattle.wit_syntax.specs.Address.{Address, ForeignNamed, InlineAt, InterfaceNamed, WorldNamed, is_foreign, package_of, release_of, same_address, same_package, same_version}
-pub use Rattle.wit_syntax.specs.Bodies.{AreBroken, CanBeKey, Inside, IsBrokenBody, IsBrokenForm, IsBrokenList, IsBrokenType, IsDuplicateName, IsEmpty, IsFlagTooMany, IsInvalidKey, IsKey, IsSecond, IsSecondIn, Itself, folded}
+pub use Rattle.wit_syntax.specs.Bodies.{AreBroken, CanBeKey, Inside, IsBrokenBody, IsBrokenForm, IsBrokenList, IsBrokenType, IsDuplicateName, IsEmpty, IsFlagTooMany, IsInvalidKey, IsKey, IsSecond, IsSecondIn, Itself}
 pub use Rattle.wit_syntax.specs.Broken.{AttributedUse, Body, CyclicItem, CyclicType, DefinedTwice, DuplicateItem, DuplicateTopName, ForeignStability, Function, Handle, Headerless, IncludeStability, InterfaceIncluded, IsBroken, IsBrokenItems, IsBrokenNames, IsBrokenScope, IsBrokenUse, IsCyclicEdge, IsDocumented, IsDocumentedTwice, IsLegal, IsLinkedTwice, IsMismatch, IsMissingEdge, IsOtherPackage, IsSamePackage, IsSecondDocs, IsSetterAlone, IsWrongTop, ItemStability, Items, LinkedTwice, LostUse, MissingItem, MissingName, MissingType, MissingUse, Names, Refused, Scope, Setter, Sides, TopUse, UseMetadata, WorldUsed, headers, is_world_at, last_header}
-pub use Rattle.wit_syntax.specs.Docs.{after_slashes, after_spaces, common_indent, docs_text, ended, ended_lines, indent, is_written, joined, said, unmarked, without_end, without_last_lines, without_spaces}
+pub use Rattle.wit_syntax.specs.Docs.{after_slashes, after_spaces, common_indent, docs_text, ended_lines, indent, is_written, joined, said, unmarked, without_end, without_last_lines, without_spaces}
 pub use Rattle.wit_syntax.specs.ExternPart.{extern_paths, inline_uses, item_uses, same_side}
-pub use Rattle.wit_syntax.specs.Fault.{Fault, as_stated, cyclic_at, fault, fault_about, fault_in, fault_of, function_as_type, function_used, interface_there, item_twice, item_word, linked_twice, lone_setter, missing_at, missing_type_at, name_twice, name_word, no_resource, param_twice, top_twice, type_word, world_there}
-pub use Rattle.wit_syntax.specs.Foreign.{ForeignVisit, declaration_visits, extern_visits, file_visits, foreign_at, foreign_interfaces, foreign_items, foreign_packages, foreign_visits, foreign_worlds, part_visits, path_visits, same_item, visited}
+pub use Rattle.wit_syntax.specs.Fault.{Cyclic, Fault, Missing, as_stated, cyclic_at, fault, fault_in, fault_of, function_as_type, function_used, interface_there, item_twice, item_word, linked_twice, lone_setter, missing_at, missing_type_at, name_twice, name_word, no_resource, param_twice, top_twice, type_word, world_there}
+pub use Rattle.wit_syntax.specs.Foreign.{ForeignVisit, declaration_visits, extern_visits, foreign_at, foreign_interfaces, foreign_items, foreign_packages, foreign_visits, foreign_worlds, part_visits, path_visits, same_item, visited}
 pub use Rattle.wit_syntax.specs.Form.{AliasForm, BorrowForm, EnumForm, FixedLengthListForm, FlagsForm, Form, FutureForm, ListForm, MapForm, Member, OptionForm, OwnForm, RecordForm, ResourceForm, ResultForm, StreamForm, TupleForm, UnknownForm, VariantForm}
-pub use Rattle.wit_syntax.specs.Function.{Constructor, Freestanding, Method, OnSide, Role, SourceFunction, SourceParam, Static, accessor, all_params, all_types, constructor_of, definition_functions, dotted, extern_functions, free_function, function_of, functions, item_types, name_types, part_functions, resource_function, role_names, self_param, side_function, signature, written_param, written_types}
+pub use Rattle.wit_syntax.specs.Function.{Constructor, Freestanding, Method, OnSide, Role, SourceFunction, SourceParam, Static, accessor, all_params, all_types, constructor_of, definition_functions, extern_functions, free_function, function_of, functions, item_types, name_types, part_functions, resource_function, role_names, self_param, side_function, signature, written_param, written_types}
 pub use Rattle.wit_syntax.specs.Metadata.{AreMetadata, DeprecatedAlone, DeprecatedTwice, IsBrokenMetadata, IsBrokenStability, IsTwice, Metadata, SinceAndUnstable, SinceTwice, UnstableTwice, deprecation, docs_of, first_known, metadata, no_docs, no_metadata, stability_of}
 pub use Rattle.wit_syntax.specs.NameEnds.{AtForeign, AtResource, Elsewhere, End, EndsAt, IsNoResource, named_end, shape_end}
 pub use Rattle.wit_syntax.specs.Node.{Head, Leaf, Named, Nothing, Tree, Unnamed, node_map, primitive_type}
 pub use Rattle.wit_syntax.specs.Repeats.{AllDiffer, IsRepeatAt, firsts}
-pub use Rattle.wit_syntax.specs.ScopeTables.{AreDistinct, defined, in_order, in_turn, include_path, include_paths, includes, interfaces_of, is_defined, item_row, item_rows, local_names, local_target, needed_ids, needed_paths, part_includes, part_uses, rows_of, use_path, use_paths, used, uses, worlds_of}
+pub use Rattle.wit_syntax.specs.ScopeTables.{AreDistinct, defined, in_order, in_turn, include_path, include_paths, includes, interfaces_of, is_defined, item_row, item_rows, local_names, local_target, needed_ids, needed_paths, part_includes, part_uses, rows_of, use_path, use_paths, used, uses, worlds_of, own_uses}
 pub use Rattle.wit_syntax.specs.ScopesOfTrees.{scope, source_node, source_tree}
 pub use Rattle.wit_syntax.specs.Shape.{More, Of, Prim, Shape, Shapes, Word, all_handles, all_shapes, all_words, body_of, handles, head, member, one, result_shapes, row_handles, row_shapes, shape_of, words, written_body}
-pub use Rattle.wit_syntax.specs.Sides.{CrossedTwice, FoldedTwice, FunctionKey, InterfaceMetadata, IsBrokenSides, IsCrossedTwice, IsExternPart, IsFoldedTwice, Link, SideFunction, SideInline, SideItem, SideLink, all_scopes, extern_items, extern_link, function_key, inline_after, inline_item, inline_items, interface_attributes, is_interface, item_called, item_function, item_inline, item_link, item_side, items_on, names_on, on_side, part_items, role_side, side_called, side_items, with_inline}
+pub use Rattle.wit_syntax.specs.Sides.{CrossedTwice, FoldedTwice, FunctionKey, InterfaceMetadata, IsBrokenSides, IsCrossedTwice, IsExternPart, IsFoldedTwice, Link, SideFunction, SideInline, SideItem, SideLink, all_scopes, extern_items, extern_link, function_key, inline_after, inline_item, inline_items, interface_attributes, is_interface, item_called, item_function, item_inline, item_link, item_side, items_on, names_on, on_side, part_items, role_side, side_called, side_items}
 pub use Rattle.wit_syntax.specs.SignatureRules.{BrokenMetadata, BrokenTypes, Called, ConstructorOfOther, ConstructorWithoutResult, DuplicateParam, GetterGiven, GetterWithoutResult, IsBrokenFunction, IsConstructorOfOther, IsConstructorWithoutResult, IsEntered, IsGetterGiven, IsGetterWithoutResult, IsNoType, IsSetterGiven, IsSetterWithResult, IsUnpairedSetter, IsWrittenAs, MissingInSignature, OfFunction, OfNothing, SetterGiven, SetterWithResult, body_ok, meant_ok, name_called, ok_of, ok_span, result_ok, type_span}
 pub use Rattle.wit_syntax.specs.Source.{Declared, Defined, DefinitionPart, ExternPart, Foreign, ForeignName, ForeignUse, FunctionPart, IncludePart, Item, Local, Part, Place, ScopeName, Target, TheInline, TheInterface, TheWorld, TopName, UsePart, Used, about, about_name, address, all_items, at_side, declared_items, declared_metadata, file_items, first_foreign_uses, foreign_uses, interface_part, is_world, item_at, item_name, item_named, leads, local_id, local_name, meaning, named_node, part_foreign_uses, part_names, parts, path_id, path_scope, placed, same_foreign_use, scope_names, target_scope, top_name, top_names, top_text, use_foreign_uses, use_of_foreign, used_names, walk, world_part}
 pub use Rattle.wit_syntax.specs.Splitting.{IsJoined, declarations, declared_of, file_declarations}
-pub use Rattle.wit_syntax.specs.Words.{around, clash, conflict, defined_twice, function_words, handle_words, interface_words, item_words, mismatch, package_words, setter_words, top_words, used_words, words_of, world_words}
+pub use Rattle.wit_syntax.specs.Words.{around, clash, defined_twice, mismatch, package_words, side_word, words_of}

@@ -19,7 +19,7 @@ use Rattle.wit_syntax.specs.Function.{SourceFunction, functions, definition_func
 use Rattle.wit_syntax.specs.Repeats.{AllDiffer}
 use Rattle.wit_syntax.specs.Source.{TheInline, interface_part, Part, DefinitionPart, UsePart, IncludePart, FunctionPart, ExternPart, parts, Item, address, item_name, is_world}
 use Rattle.wit_syntax.specs.ScopeTables.{part_uses, uses}
-use Rattle.wit_syntax.specs.Sides.{SideItem, SideFunction, SideLink, SideInline, extern_items, part_items, item_inline, item_side, items_on, is_interface, side_items, inline_item, inline_after, inline_items, with_inline}
+use Rattle.wit_syntax.specs.Sides.{SideItem, SideFunction, SideLink, SideInline, extern_items, part_items, item_inline, item_side, items_on, is_interface, side_items, inline_item, inline_after, inline_items}
 use Rattle.wit_syntax.proofs.Lists.{at_split, map_at, flat_map_at, flat_map_has}
 use Rattle.wit_syntax.proofs.Addresses.{side_itself}
 use Rattle.wit_syntax.proofs.Kept.{differ_cons}
@@ -226,7 +226,7 @@ inline_uses_at w k i at u among =
     contains_at (uses w) k.0 u k.1
 
 -- so the uses of each scope of an item are, and its paths are read where the item is
-pub with_uses : (w : Item) (j : ℕ) (i : Item) → slice_get (with_inline w) j ≡ Some i → (i.top ≡ w.top) × ((u : Use) → Contains (uses i) u → Contains (uses w) u)
+pub with_uses : (w : Item) (j : ℕ) (i : Item) → slice_get (w ∷ inline_items w) j ≡ Some i → (i.top ≡ w.top) × ((u : Use) → Contains (uses i) u → Contains (uses w) u)
 with_uses w zero i at =
     let same : w ≡ i = cc in
     (ap (λ (v : Item). v.top) (sym same), λ u among. subst (λ (v : Item). Contains (uses v) u) (sym same) among)

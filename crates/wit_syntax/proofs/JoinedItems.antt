@@ -9,7 +9,7 @@ use Rattle.wit_graph.proofs.Tables.{matched}
 use Rattle.wit_syntax.specs.Address.{Address, is_foreign}
 use Rattle.wit_syntax.specs.ExternPart.{same_side, inline_uses}
 use Rattle.wit_syntax.specs.Source.{TopName, Declared, TheInline, Part, DefinitionPart, UsePart, IncludePart, FunctionPart, ExternPart, Item, item_name, parts, Used, part_names, scope_names, ForeignUse, use_of_foreign, use_foreign_uses, part_foreign_uses, at_side, walk}
-use Rattle.wit_syntax.specs.Sides.{SideItem, SideFunction, SideLink, SideInline, side_items, inline_after, inline_items, with_inline}
+use Rattle.wit_syntax.specs.Sides.{SideItem, SideFunction, SideLink, SideInline, side_items, inline_after, inline_items}
 use Rattle.wit_syntax.specs.Splitting.{declared_of}
 use Rattle.wit_syntax.proofs.Lists.{flat_map_at}
 use Rattle.wit_syntax.proofs.Found.{contains_at, at_contains}
@@ -138,20 +138,20 @@ inline_twins i j own other same = record {
 }
 
 abbrev inline_declared : Item → List Declared
-inline_declared i = map declared_of (with_inline i)
+inline_declared i = map declared_of (i ∷ inline_items i)
 
 inline_stated : (i : Item) → AreThemselves i.top → inline_declared i ≡ inline_declared (bare i.declared)
 inline_stated i own = ap (λ (l : List Declared). i.declared ∷ l) (inline_retop i [] [] (side_items i))
 
-all_plain : (is : List Item) → ArePlain is → ArePlain (flat_map with_inline is)
+all_plain : (is : List Item) → ArePlain is → ArePlain (flat_map (λ (i : Item). i ∷ inline_items i) is)
 all_plain is plain k i at =
-    let it = flat_map_at with_inline is k i at in
+    let it = flat_map_at (λ (i : Item). i ∷ inline_items i) is k i at in
     subst AreThemselves (sym (with_uses it.1 it.3.0 i it.3.1).0) (plain it.0 it.1 it.2)
 
 -- with those, twins are twins
-pub twins_inside : (is js : List Item) → AreTwins is js → AreTwins (flat_map with_inline is) (flat_map with_inline js)
+pub twins_inside : (is js : List Item) → AreTwins is js → AreTwins (flat_map (λ (i : Item). i ∷ inline_items i) is) (flat_map (λ (i : Item). i ∷ inline_items i) js)
 twins_inside is js t = record {
   left = all_plain is t.left;
   right = all_plain js t.right;
-  same = map-flat_map declared_of with_inline is ∙ twins_become inline_declared inline_stated is js t ∙ sym (map-flat_map declared_of with_inline js);
+  same = map-flat_map declared_of (λ (i : Item). i ∷ inline_items i) is ∙ twins_become inline_declared inline_stated is js t ∙ sym (map-flat_map declared_of (λ (i : Item). i ∷ inline_items i) js);
 }

@@ -31,4 +31,5 @@ pub mod JoinedNames
 pub mod JoinedUses
 pub mod JoinedLegal
 pub mod Joined
+pub mod NeededPaths
 pub mod Common

@@ -11,7 +11,7 @@ use Rattle.wit_tree.specs.declared.tree.AstItem.TheVariants as ast
 use Rattle.wit_syntax.specs.Address.{Address, same_address}
 use Rattle.wit_syntax.specs.Repeats.{AllDiffer}
 use Rattle.wit_syntax.specs.Source.{TopName, top_names, Declared, TheInterface, TheWorld, TheInline, Item, address, item_name, declared_items, file_items, all_items, item_named, item_at, about}
-use Rattle.wit_syntax.specs.Sides.{inline_items, with_inline, all_scopes}
+use Rattle.wit_syntax.specs.Sides.{inline_items, all_scopes}
 use Rattle.wit_syntax.proofs.Lists.{map_at, flat_map_at, flat_map_has}
 use Rattle.wit_syntax.proofs.Names.{name_itself}
 use Rattle.wit_syntax.proofs.Addresses.{same_address-itself, same_address-equal}
@@ -44,12 +44,12 @@ declared_outer (TheWorld w) h = refl
 declared_outer (TheInline world place x name items) h = absurd (let f : ⊥ = cc in f)
 
 -- each scope of an item is in it
-pub with_outer : (w : Item) → is_inside (address w) ≡ false → (j : ℕ) (i : Item) → slice_get (with_inline w) j ≡ Some i → outer_name (address i) ≡ item_name w
+pub with_outer : (w : Item) → is_inside (address w) ≡ false → (j : ℕ) (i : Item) → slice_get (w ∷ inline_items w) j ≡ Some i → outer_name (address i) ≡ item_name w
 with_outer w own zero i at = ap (λ (v : Item). outer_name (address v)) (let same : i ≡ w = cc in same) ∙ declared_outer w.declared own
 with_outer w own (suc j) i at = inline_outer w j i at
 
 -- no two scopes of an item have one address
-pub with_inline_differ : (w : Item) → is_inside (address w) ≡ false → AllDiffer (map address (with_inline w))
+pub with_inline_differ : (w : Item) → is_inside (address w) ≡ false → AllDiffer (map address (w ∷ inline_items w))
 with_inline_differ w own = differ_cons address w (inline_items w) (λ j i at same. (
     let wrong : true ≡ false = sym (inline_inside w j i at) ∙ ap is_inside same ∙ own in
     let f : ⊥ = cc in
@@ -108,7 +108,7 @@ find_past test (y ∷ xs) ys none = elim (cases_Bool (test y)) [
 ]
 
 -- the first item of a name is at its address among all scopes, and each that is written in it at its own
-pub scope_item_at : (ws : List Item) (w : Item) (j : ℕ) (i : Item) → AreDeclared ws → item_named ws (item_name w) ≡ Some w → slice_get (with_inline w) j ≡ Some i → item_at (flat_map with_inline ws) (address i) ≡ Some i
+pub scope_item_at : (ws : List Item) (w : Item) (j : ℕ) (i : Item) → AreDeclared ws → item_named ws (item_name w) ≡ Some w → slice_get (w ∷ inline_items w) j ≡ Some i → item_at (flat_map (λ (i : Item). i ∷ inline_items i) ws) (address i) ≡ Some i
 scope_item_at [] w j i own found at = absurd (let f : ⊥ = cc in f)
 scope_item_at (v ∷ ws) w j i own found at =
     let test = λ (u : Item). same_address (address u) (address i) in
@@ -116,13 +116,13 @@ scope_item_at (v ∷ ws) w j i own found at =
       | inl hit ↦ (
           let here : Some v ≡ Some w = rw hit at found in
           let same : v ≡ w = cc in
-          let there : slice_get (with_inline v) j ≡ Some i = ap (λ u. slice_get (with_inline u) j) same ∙ at in
-          find_prefix test (with_inline v) (flat_map with_inline ws) i (item_at_its (with_inline v) j i (with_inline_differ v (own 0 v refl)) there))
+          let there : slice_get (v ∷ inline_items v) j ≡ Some i = ap (λ u. slice_get (u ∷ inline_items u) j) same ∙ at in
+          find_prefix test (v ∷ inline_items v) (flat_map (λ (i : Item). i ∷ inline_items i) ws) i (item_at_its (v ∷ inline_items v) j i (with_inline_differ v (own 0 v refl)) there))
       | inr miss ↦ (
           let rest : item_named ws (item_name w) ≡ Some w = rw miss at found in
           let its = find_at (λ (u : Item). bytes_eq (item_name u) (item_name w)) ws w rest in
           let outer : outer_name (address i) ≡ item_name w = with_outer w (own (suc its.0) w its.1) j i at in
-          find_past test (with_inline v) (flat_map with_inline ws) (λ m u u_at one. (
+          find_past test (v ∷ inline_items v) (flat_map (λ (i : Item). i ∷ inline_items i) ws) (λ m u u_at one. (
           let same : item_name v ≡ item_name w = sym (with_outer v (own 0 v refl) m u u_at) ∙ ap outer_name (same_address-equal (address u) (address i) one) ∙ outer in
           let wrong : false ≡ true = sym miss ∙ ap (λ n. bytes_eq n (item_name w)) same ∙ name_itself (item_name w) in
           let f : ⊥ = cc in
@@ -134,21 +134,21 @@ module _ (files : List PackageFile) where
   pub scopes_declared : (w : Item) → Contains (all_items files) w → Contains (all_scopes files) w
   scopes_declared w is =
       let t = at_contains (all_items files) w is in
-      let it = flat_map_has with_inline (all_items files) t.0 0 w w t.1 refl in
+      let it = flat_map_has (λ (i : Item). i ∷ inline_items i) (all_items files) t.0 0 w w t.1 refl in
       contains_at (all_scopes files) it.0 w it.1
 
   pub scopes_inline : (w i : Item) → Contains (all_items files) w → Contains (inline_items w) i → Contains (all_scopes files) i
   scopes_inline w i is inside =
       let t = at_contains (all_items files) w is in
       let j = at_contains (inline_items w) i inside in
-      let it = flat_map_has with_inline (all_items files) t.0 (suc j.0) w i t.1 j.1 in
+      let it = flat_map_has (λ (i : Item). i ∷ inline_items i) (all_items files) t.0 (suc j.0) w i t.1 j.1 in
       contains_at (all_scopes files) it.0 i it.1
 
   -- and each of all scopes is such
   pub scopes_either : (i : Item) → Contains (all_scopes files) i → Contains (all_items files) i ⊎ ((w : Item) × Contains (all_items files) w × Contains (inline_items w) i)
   scopes_either i is =
       let k = at_contains (all_scopes files) i is in
-      let it = flat_map_at with_inline (all_items files) k.0 i k.1 in
+      let it = flat_map_at (λ (i : Item). i ∷ inline_items i) (all_items files) k.0 i k.1 in
       elim (after_one it.1 (inline_items it.1) it.3.0 i it.3.1) [
         | inl own ↦ inl (subst (λ (w : Item). Contains (all_items files) w) own (contains_at (all_items files) it.0 it.1 it.2))
         | inr inside ↦ inr (it.1, contains_at (all_items files) it.0 it.1 it.2, contains_at (inline_items it.1) inside.0 i inside.1)

@@ -11,7 +11,7 @@ use Rattle.wit_package_names.specs.declared.package_name.PackageName.{PackageNam
 use Rattle.wit_syntax.specs.ExternPart.{same_side}
 
 -- a scope: the declared interface, or the declared world, of a name; the interface that is written in a world, at a place on a side of it; or
--- the item of a name in another package
+-- the item of a name in another package. A label would do for a place in legal files; others may have it twice on a side, and have a first fault too.
 pub data Address : Type 0 where
   InterfaceNamed WorldNamed : (name : List ℕ) → Address
   InlineAt : (world : List ℕ) (side : WorldSide) (place : ℕ) → Address

@@ -1,7 +1,6 @@
 -- The rules of what is written in definitions, and what it is that breaks each.
 use Rattle.std.specs.Prelude.{◌≡◌, ℕ, ◌<◌, ◌⊎◌, List, [], map, Some, Contains, slice_get}
 use Rattle.std.specs.Option.{option_map}
-use Rattle.std.specs.Char.{to_ascii_lowercase}
 use Rattle.wit_values.specs.declared.span.Span.{Span}
 use Rattle.wit_type_tree.specs.declared.leaves.Id.{Id}
 use Rattle.wit_type_tree.specs.declared.types.Field.{Field}
@@ -15,11 +14,8 @@ use Rattle.wit_type_tree.specs.declared.types.«Type».TheVariants as written
 use Rattle.wit_type_tree.specs.declared.types.TypeBody.{TypeBody}
 use Rattle.wit_type_tree.specs.declared.types.TypeBody.TheVariants.{Record, Flags, Variant, Enum}
 use Rattle.wit_type_tree.specs.TypeParts.{part_types, row_types, body_types}
+use Rattle.wit_names.specs.Folded.{lower_case}
 use Rattle.wit_syntax.specs.Fault.{Fault, fault, fault_in}
-
--- the key by which labels are distinguished: the label in lower case
-abbrev pub folded : List ℕ → List ℕ
-folded name = map to_ascii_lowercase name
 
 -- an earlier item of a list has the key of a later one
 abbrev pub IsRepeated : {X : Type 0} → (X → List ℕ) → List X → X → Type 0
@@ -43,7 +39,7 @@ IsFlagTooMany flags f = option_map (λ (flag : Flag). fault 21 flag.name.span) (
 
 -- an earlier one of the names of fields, flags or cases is the same once case is folded
 abbrev pub IsDuplicateName : List Id → Fault → Type 0
-IsDuplicateName names f = IsSecondIn (λ (id : Id). folded id.name.now) (λ (id : Id) (words : List ℕ). fault_in 25 id.span words) names f
+IsDuplicateName names f = IsSecondIn (λ (id : Id). lower_case id.name.now) (λ (id : Id) (words : List ℕ). fault_in 25 id.span words) names f
 
 -- the keys of a map can be of a primitive type, but of no float and no context of errors
 abbrev pub CanBeKey : Primitive → Type 0

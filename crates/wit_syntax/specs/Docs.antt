@@ -48,17 +48,9 @@ after_spaces (suc n) (b ∷ text) = if b == 32 then after_spaces n text else Non
 abbrev pub without_spaces : ℕ → List ℕ → List ℕ
 without_spaces n text = unwrap_or (after_spaces n text) text
 
--- the lines of a text, where a CR before an LF belongs to the end of the line; an empty text is one empty line
-abbrev pub text_lines : List ℕ → List (List ℕ)
-text_lines text = if length text == 0 then [] ∷ [] else lines text
-
--- a line with an LF
-abbrev pub ended : List ℕ → List ℕ
-ended line = line ++ 10 ∷ []
-
--- the lines of a text, each with an LF
+-- the lines of a text, each with an LF, where a CR before an LF belongs to the end of the line; an empty text is one empty line
 abbrev pub ended_lines : List ℕ → List ℕ
-ended_lines text = flat_map ended (text_lines text)
+ended_lines text = flat_map (λ (line : List ℕ). line ++ 10 ∷ []) (if length text == 0 then [] ∷ [] else lines text)
 
 -- the text without the LFs at its end
 abbrev pub without_last_lines : List ℕ → List ℕ

@@ -46,12 +46,9 @@ declaration_visits (ast.Interface i) = walk part_visits extern_visits (about (Th
 declaration_visits (ast.World w) = walk part_visits extern_visits (about (TheWorld w)).parts
 declaration_visits (ast.Use u) = path_visits u.attributes.items false u.item
 
-abbrev pub file_visits : PackageFile → List ForeignVisit
-file_visits f = flat_map declaration_visits f.decl_list.items.items
-
 -- the paths with a package of all files, in source order
 abbrev pub foreign_visits : List PackageFile → List ForeignVisit
-foreign_visits files = flat_map file_visits files
+foreign_visits files = flat_map (λ (f : PackageFile). flat_map declaration_visits f.decl_list.items.items) files
 
 abbrev pub same_item : ForeignVisit → ForeignVisit → Bool
 same_item a b = same_address (visited a) (visited b)

@@ -68,10 +68,6 @@ accessor form.Getter = codes "[get]"
 accessor form.Setter = codes "[set]"
 accessor _ = []
 
--- a function of a resource, without what marks its role
-abbrev pub dotted : Id → Id → List ℕ
-dotted r f = r.name.now ++ codes "." ++ f.name.now
-
 -- a method is first given its resource, lent, where the function is
 abbrev pub self_param : Id → Span → SourceParam
 self_param r span = record { name = codes "self"; span = span; shape = Of span BorrowForm (one (Word r)) }
@@ -101,8 +97,8 @@ constructor_of r docs attributes f =
 
 -- a function of a resource
 abbrev pub resource_function : Id → ResourceFunc → SourceFunction
-resource_function r (resource.Method f) = function_of (codes "[method]" ++ accessor f.func.form ++ dotted r f.name) (Method r f.func.form) (self_param r f.func.span ∷ []) f.docs f.attributes.items f.name f.func
-resource_function r (resource.Static f) = function_of (codes "[static]" ++ accessor f.func.form ++ dotted r f.name) (Static r f.func.form) [] f.docs f.attributes.items f.name f.func
+resource_function r (resource.Method f) = function_of (codes "[method]" ++ accessor f.func.form ++ (r.name.now ++ codes "." ++ f.name.name.now)) (Method r f.func.form) (self_param r f.func.span ∷ []) f.docs f.attributes.items f.name f.func
+resource_function r (resource.Static f) = function_of (codes "[static]" ++ accessor f.func.form ++ (r.name.now ++ codes "." ++ f.name.name.now)) (Static r f.func.form) [] f.docs f.attributes.items f.name f.func
 resource_function r (resource.Constructor docs attributes span params result) = constructor_of r docs attributes.items (record { span = span; form = form.Plain; params = params; result = result })
 
 -- the functions of a definition: those of a resource

@@ -63,9 +63,18 @@ use_paths i = flat_map use_path (parts i)
 abbrev pub include_paths : Item → List UsePath
 include_paths i = flat_map include_path (parts i)
 
+-- the includes of an item, in source order
+abbrev pub includes : Item → List Include
+includes i = flat_map part_includes (parts i)
+
+-- the uses of a part that are its own: those of an interface that is written in a world are that one's
+abbrev pub own_uses : Part → List Use
+own_uses (UsePart u) = u ∷ []
+own_uses _ = []
+
 -- the paths to items that have to come before: of an interface those of uses, of a world those of includes
 abbrev pub needed_paths : Item → List UsePath
-needed_paths i = if is_world i then include_paths i else use_paths i
+needed_paths i = if is_world i then map (λ (n : Include). n.from) (includes i) else map (λ (u : Use). u.from) (flat_map own_uses (parts i))
 
 -- the name of an item of the package that a path leads to
 abbrev pub local_target : Target → List Id
@@ -96,10 +105,6 @@ part_uses _ = []
 -- the uses of an item, and of interfaces that are written in it, in source order
 abbrev pub uses : Item → List Use
 uses i = flat_map part_uses (parts i)
-
--- the includes of an item, in source order
-abbrev pub includes : Item → List Include
-includes i = flat_map part_includes (parts i)
 
 abbrev pub local_names : List ScopeName → List (List ℕ)
 local_names xs = map local_name xs

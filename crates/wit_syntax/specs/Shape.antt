@@ -16,6 +16,7 @@ use Rattle.wit_type_tree.specs.TypeParts.{ok_type, err_type, field_types, case_t
 use Rattle.wit_type_tree.specs.declared.leaves.Docs.{Docs as Comments}
 use Rattle.wit_syntax.specs.Metadata.{docs_of}
 use Rattle.wit_syntax.specs.Form.{Member, Form, RecordForm, FlagsForm, VariantForm, EnumForm, OptionForm, ResultForm, TupleForm, ListForm, MapForm, FixedLengthListForm, FutureForm, StreamForm, AliasForm, OwnForm, BorrowForm, ResourceForm}
+use Rattle.std.specs.List.{flat_map}
 
 -- a type is a primitive, a name, or an unnamed type: a form over parts, with its span
 mutual
@@ -128,5 +129,4 @@ abbrev mutual
   row_handles (more_of-Type t rest) = handles t ++ row_handles rest
 
 abbrev pub all_handles : List Written → List Id
-all_handles [] = []
-all_handles (t ∷ ts) = handles t ++ all_handles ts
+all_handles ts = flat_map handles ts

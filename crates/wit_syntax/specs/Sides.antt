@@ -122,13 +122,9 @@ inline_after i before (x ∷ xs) = inline_item i (length (filter is_interface (i
 abbrev pub inline_items : Item → List Item
 inline_items i = inline_after i [] (side_items i)
 
--- an item, and those that are written in it
-abbrev pub with_inline : Item → List Item
-with_inline i = i ∷ inline_items i
-
 -- all items: those that files declare, each with those that are written in it
 abbrev pub all_scopes : List PackageFile → List Item
-all_scopes files = flat_map with_inline (all_items files)
+all_scopes files = flat_map (λ (i : Item). i ∷ inline_items i) (all_items files)
 
 -- the name that it has: an interface by its path may have none of its own
 abbrev pub item_called : SideItem → List Called

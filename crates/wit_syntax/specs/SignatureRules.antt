@@ -18,7 +18,8 @@ use Rattle.wit_syntax.specs.Shape.{Word, shape_of, words}
 use Rattle.wit_syntax.specs.Source.{ScopeName, Defined, local_id, local_name, meaning}
 use Rattle.wit_syntax.specs.Function.{Freestanding, Constructor, SourceParam, SourceFunction, all_params, written_types, signature}
 use Rattle.wit_syntax.specs.Metadata.{IsBrokenMetadata}
-use Rattle.wit_syntax.specs.Bodies.{folded, IsSecond, IsBrokenPart}
+use Rattle.wit_names.specs.Folded.{lower_case}
+use Rattle.wit_syntax.specs.Bodies.{IsSecond, IsBrokenPart}
 
 -- a name of a scope, and where it is: no two of them may clash
 pub record Called : Type 0 where
@@ -84,7 +85,7 @@ IsSetterGiven fn f = (fn.func.form ≡ form.Setter) × (length fn.func.params.it
 
 -- an earlier parameter has the name once case is folded
 abbrev pub IsDuplicateParam : SourceFunction → Fault → Type 0
-IsDuplicateParam fn f = IsSecond (λ (p : SourceParam). folded p.name) (λ (p : SourceParam). param_twice p.name p.span) (all_params fn) f
+IsDuplicateParam fn f = IsSecond (λ (p : SourceParam). lower_case p.name) (λ (p : SourceParam). param_twice p.name p.span) (all_params fn) f
 
 -- a getter gives nothing
 abbrev pub IsGetterWithoutResult : SourceFunction → Fault → Type 0

@@ -1,12 +1,12 @@
 -- Tables of names with what they mean, one name more, and what is found in them.
-use Rattle.std.proofs.Common.{◌≡◌, ℕ, zero, suc, Bool, true, false, cond, List, [], ◌∷◌, ◌++◌, map, Option, Some, None, inl, inr, refl, sym, ap, ◌∙◌, subst, Result, Ok, Err, Vec, Global, Bor}
+use Rattle.std.proofs.Common.{◌≡◌, ℕ, zero, suc, Bool, true, false, cond, List, [], ◌∷◌, ◌++◌, map, Option, Some, None, inl, inr, refl, sym, ap, ◌∙◌, subst, Result, Ok, Err, Vec, Global, Bor, is_none}
 use Rattle.std.specs.Prelude.{IfOk}
-use Rattle.wit_syntax.proofs.Common.{AllDiffer, Id, Item, Local, Row, TopName, bytes_eq, cases_Bool, cond-false, cond-true, differ_more, entry_row, find, find-append, find_at, find_passes, insert_entry, is_some, item_name, item_named, item_row, leads, list_any, lookup, map-append, map_at, map_map, name_cases, name_equal, name_itself, none-some, option_copied, option_map, option_map_or, option_or, slice_get, top_text}
+use Rattle.wit_syntax.proofs.Common.{AllDiffer, Id, Item, Local, Row, TopName, bytes_eq, cases_Bool, cond-false, cond-true, differ_more, entry_row, find, find-append, find_at, find_passes, insert_entry, is_some, item_name, item_named, item_row, leads, list_any, lookup, map-append, map_at, map_map, name_cases, name_equal, name_itself, none-some, option_copied, option_map, option_map_or, option_or, slice_get, top_text, if◌then◌else◌}
 use Rattle.wit_graph.proofs.Rows.{key_eq}
 use Rattle.wit_type_tree.specs.declared.error.ParseError.{ParseError}
 use Rattle.wit_tree.specs.declared.tree.UsePath.TheVariants as path
 use Rattle.wit_top_names.specs.declared.top_name.Target.{Target as Borrowed}
-use Rattle.wit_first.specs.FileFaults.{lost_fault, unless_named, unnamed_fault}
+use Rattle.wit_first.specs.FileFaults.{lost_fault, unnamed_fault}
 use Rattle.wit_top_names.specs.Tops.{target_view, item_top, Named, AreNamed, AreDeclared}
 
 abbrev pub found : List ℕ → Named → Option Borrowed
@@ -137,12 +137,12 @@ leads_none top es id finds none = go (find (λ (each : TopName). bytes_eq (top_t
 pub named_later : (is : List Item) (top : List TopName) (es : Named) (id : Id) (v : Borrowed) → Finds top es → found id.name.now es ≡ Some v → unnamed_fault is top (path.Id id) ≡ None
 named_later is top es id v finds some =
     let t = unmapped_some (λ (t : TopName). t.target) (find (λ (each : TopName). bytes_eq (top_text each) id.name.now) top) (target_view v) (sym (finds id.name.now) ∙ ap (option_map target_view) some) in
-    ap (λ (o : Option TopName). unless_named o (lost_fault is (Local id))) t.1
+    ap (λ (o : Option TopName). if is_none o then lost_fault is (Local id) else None) t.1
 
 pub named_nowhere : (is : List Item) (top : List TopName) (es : Named) (id : Id) → Finds top es → found id.name.now es ≡ None → unnamed_fault is top (path.Id id) ≡ lost_fault is (Local id)
 named_nowhere is top es id finds none =
     let missing = unmapped_none (λ (t : TopName). t.target) (find (λ (each : TopName). bytes_eq (top_text each) id.name.now) top) (sym (finds id.name.now) ∙ ap (option_map target_view) none) in
-    ap (λ (o : Option TopName). unless_named o (lost_fault is (Local id))) missing
+    ap (λ (o : Option TopName). if is_none o then lost_fault is (Local id) else None) missing
 
 mapped_some : {X Y : Type 0} (f : X → Y) (o : Option X) → is_some (option_map f o) ≡ is_some o
 mapped_some f None = refl

@@ -1,11 +1,12 @@
 //! Names at the top of files, and what paths lead to.
 ghost use Rattle.std.specs.Prelude.{◌≡◌, ◌++◌, List, [], map, IfOk, OnOk, string_bytes};
+ghost use Rattle.wit_tree.specs.declared.tree.AstItem.TheVariants.{Use as TheUse};
 ghost use Rattle.wit_syntax.specs.Source.{Local as TheLocal, TopName as Top, Item, itself as the_itself, top_name as the_name, top_names as the_names, top_text, leads as the_leads, file_items, all_items};
 ghost use Rattle.wit_syntax.specs.ScopeTables.{local_target};
 ghost use Rattle.wit_syntax.specs.Words.{around};
 ghost use Rattle.wit_syntax.specs.Fault.{fault_in};
-ghost use Rattle.wit_first.specs.FileFaults.{file_tops_fault, lost_fault, top_use_fault};
-ghost use Rattle.wit_first.specs.First.{Finds, first_repeat};
+ghost use Rattle.wit_first.specs.FileFaults.{lost_fault, top_fault};
+ghost use Rattle.wit_first.specs.First.{Finds, first_repeat, first_in};
 ghost use Rattle.wit_first.specs.NameFaults.{item_names_fault, top_names_fault};
 ghost use Rattle.wit_top_names.specs.Checks.{AddsEdge, FindsUnnamed};
 ghost use Rattle.wit_top_names.specs.Tops.{target_view, top_view, item_top, AreNamed, AreDeclared};
@@ -261,7 +262,7 @@ fn check_top_use<V>(
     declared: &Table<&str, V>,
     used: &ToplevelUse<'_>,
 ) -> ParseResult<()>
-    ensures { (is : List Item) → AreDeclared is declared.now → Finds (top_use_fault is used.now) result }
+    ensures { (is : List Item) → AreDeclared is declared.now → Finds (top_fault is (TheUse used.now)) result }
 {
     if !used.attributes.is_empty() {
         let words = "attributes not allowed on top-level use";
@@ -277,7 +278,7 @@ pub fn check_top_uses<V>(
     file: &PackageFile<'_>,
     declared: &Table<&str, V>,
 ) -> ParseResult<()>
-    ensures { (is : List Item) → AreDeclared is declared.now → Finds (file_tops_fault is file.now) result }
+    ensures { (is : List Item) → AreDeclared is declared.now → Finds (first_in (top_fault is) file.now.decl_list.items.items) result }
 {
     let items = declarations(file);
     for item in items {

@@ -13,14 +13,6 @@ span_of (ItemNotFound span name kind hint) = span
 span_of (TypeCycle span name kind) = span
 span_of OutOfMemory = record { start = 0; end = 0 }
 
--- which kind of refusal it is: a broken rule in words, a name that means nothing of a sort, or a thing of a sort that depends on itself
-pub data Sort : Type 0 where
-  Said : Sort
-  Missing : (sort : List ℕ) → Sort
-  Cyclic : (sort : List ℕ) → Sort
-  -- a failed allocation
-  Wanting : Sort
-
 -- an allocation failed
 pub record IsAllocationFailure (e : ParseError) : Type 0 where
   pub kind : e.kind ≡ OutOfMemory

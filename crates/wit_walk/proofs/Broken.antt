@@ -1,10 +1,10 @@
 -- The first fault of files is that of a broken rule.
-use Rattle.std.proofs.Common.{◌≡◌, ◌<◌, ℕ, suc, Bool, false, not, List, [], ◌++◌, Option, Some, None, inl, inr, refl, sym, ap, ◌∙◌, subst, arith}
-use Rattle.wit_syntax.proofs.Common.{AllDiffer, Attribute, CyclicItem, CyclicType, Declared, DuplicateItem, Fault, ForeignStability, Headerless, InterfaceMetadata, IsBroken, IsBrokenStability, IsOrder, Item, ItemStability, Items, MissingItem, MissingType, Names, PackageFile, Scope, ScopeName, Setter, SideInline, Sides, TheInline, TheInterface, TheWorld, TopUse, about, address, all_declared, all_items, all_scopes, at_contains, contains_at, cyclic_at, defined, defined_at, fault, filter, foreign_visits, in_order, in_order_among, in_order_at, in_turn, includes, inline_items, inline_items_at, interfaces_of, is_world, item_at, item_name, item_row, item_rows, item_word, kept_at, last_header, length-map, map, missing_at, missing_type_at, name_called, option_map_or, option_or, order_within, rows_of, scope, scope_item_at, scope_names, scopes_declared, scopes_inline, side_items, slice_get, type_word, used, with_inline, worlds_of}
+use Rattle.std.proofs.Common.{◌≡◌, ◌<◌, ℕ, suc, Bool, false, not, List, [], ◌++◌, Option, Some, None, inl, inr, refl, sym, ap, ◌∙◌, subst, arith, ◌∷◌}
+use Rattle.wit_syntax.proofs.Common.{AllDiffer, Attribute, CyclicItem, CyclicType, Declared, DuplicateItem, Fault, ForeignStability, Headerless, InterfaceMetadata, IsBroken, IsBrokenStability, IsOrder, Item, ItemStability, Items, MissingItem, MissingType, Names, PackageFile, Scope, ScopeName, Setter, SideInline, Sides, TheInline, TheInterface, TheWorld, TopUse, about, address, all_declared, all_items, all_scopes, at_contains, contains_at, cyclic_at, defined, defined_at, fault, filter, foreign_visits, in_order, in_order_among, in_order_at, in_turn, includes, inline_items, inline_items_at, interfaces_of, is_world, item_at, item_name, item_row, item_rows, item_word, kept_at, last_header, length-map, map, missing_at, missing_type_at, name_called, option_map_or, option_or, order_within, rows_of, scope, scope_item_at, scope_names, scopes_declared, scopes_inline, side_items, slice_get, type_word, used, worlds_of, Row, ForeignVisit, if◌then◌else◌, is_none}
 use Rattle.wit_tree.specs.declared.tree.PackageName.{PackageName as Header}
 use Rattle.wit_syntax.proofs.Setters.{includes_none}
 use Rattle.wit_first.specs.AttributeFaults.{stability_fault}
-use Rattle.wit_first.specs.FileFaults.{files_fault, tops_fault, visits_fault}
+use Rattle.wit_first.specs.FileFaults.{files_fault, tops_fault}
 use Rattle.wit_first.specs.First.{first_in, first_after}
 use Rattle.wit_first.specs.NameFaults.{item_names_fault}
 use Rattle.wit_first.specs.UseFaults.{all_uses_fault}
@@ -13,10 +13,10 @@ use Rattle.wit_first.proofs.FileFaults.{tops_agree, visits_agree}
 use Rattle.wit_walk.specs.Definitions.{definition_fault, handle_fault}
 use Rattle.wit_walk.specs.Members.{member_fault}
 use Rattle.wit_walk.specs.Names.{folded_fault, name_fault}
-use Rattle.wit_walk.specs.Orders.{Outcome, AreOutcomes, order_fault, order_of}
+use Rattle.wit_walk.specs.Orders.{Outcome, IsOutcome, order_fault, order_of}
 use Rattle.wit_walk.specs.Paths.{include_fault}
 use Rattle.wit_walk.specs.Setters.{setters_fault}
-use Rattle.wit_walk.specs.Walk.{Known, IsFirst, ordered_fault, inline_fault, contents_fault, header_fault, first_fault}
+use Rattle.wit_walk.specs.Walk.{Known, IsFirst, ordered_fault, contents_fault, first_fault}
 use Rattle.wit_walk.proofs.FileFaults.{files_broken, uses_broken}
 use Rattle.wit_walk.proofs.MemberFaults.{IsScope, BreaksInside, members_broken, turned_broken}
 use Rattle.wit_walk.proofs.ScopeFaults.{definition_broken, includes_broken, names_broken, outcome_broken, named_first, outcome_order, same_fault}
@@ -27,7 +27,7 @@ abbrev BreaksBefore : List PackageFile → Item → Type 0
 BreaksBefore files i = (f : Fault) → IsBrokenStability (about i.declared).attributes f → IsBroken files f
 
 -- the first fault of a scope, one step after another
-module _ (files : List PackageFile) (differ : AllDiffer (map item_name (all_items files))) (known : Known) (outcomes : AreOutcomes known.outcome)
+module _ (files : List PackageFile) (differ : AllDiffer (map item_name (all_items files))) (known : Known) (outcomes : (rs : List Row) → IsOutcome rs (known.outcome rs))
     (i : Item) (is : IsScope files i) (own : BreaksBefore files i) (inside : Item → Option Fault) (breaks : BreaksInside files i inside) (f : Fault) where
   abbrev xs : List ScopeName
   xs = scope_names i
@@ -39,7 +39,7 @@ module _ (files : List PackageFile) (differ : AllDiffer (map item_name (all_item
   order = order_of outcome
 
   lost_order : order_fault missing_type_at (cyclic_at 16 type_word) outcome ≡ Some f → IsBroken files f
-  lost_order h = elim (outcome_broken missing_type_at 16 type_word (rows_of xs) outcome f (outcomes.each (rows_of xs)) h) [
+  lost_order h = elim (outcome_broken missing_type_at 16 type_word (rows_of xs) outcome f (outcomes (rows_of xs)) h) [
     | inl missing ↦ Scope i is.among (MissingType missing)
     | inr cyclic ↦ Scope i is.among (CyclicType cyclic)
   ]
@@ -110,7 +110,7 @@ module _ (files : List PackageFile) (differ : AllDiffer (map item_name (all_item
     | inl it ↦ names_broken files i is.among differ f it
     | inr h3 ↦ elim (or_some (order_fault missing_type_at (cyclic_at 16 type_word) outcome) from4 f h3.1) [
       | inl it ↦ lost_order it
-      | inr h4 ↦ step4 (outcome_order missing_type_at (cyclic_at 16 type_word) (rows_of xs) outcome (outcomes.each (rows_of xs)) h4.0) h4.1
+      | inr h4 ↦ step4 (outcome_order missing_type_at (cyclic_at 16 type_word) (rows_of xs) outcome (outcomes (rows_of xs)) h4.0) h4.1
     ]
   ]
 
@@ -126,15 +126,15 @@ own_scope files i (TheInterface x) is at = ap (λ (o : Option Item). option_map_
 own_scope files i (TheWorld w) is at = ap (λ (o : Option Item). option_map_or scope_names o []) at
 own_scope files i (TheInline world place x name items) is at = ap (λ (o : Option Item). option_map_or scope_names o []) at
 
-module _ (files : List PackageFile) (differ : AllDiffer (map item_name (all_items files))) (known : Known) (outcomes : AreOutcomes known.outcome) where
-  meant_at : (w : Item) (t j : ℕ) (i : Item) → slice_get (all_items files) t ≡ Some w → slice_get (with_inline w) j ≡ Some i → scope files (address i) ≡ scope_names i
+module _ (files : List PackageFile) (differ : AllDiffer (map item_name (all_items files))) (known : Known) (outcomes : (rs : List Row) → IsOutcome rs (known.outcome rs)) where
+  meant_at : (w : Item) (t j : ℕ) (i : Item) → slice_get (all_items files) t ≡ Some w → slice_get (w ∷ inline_items w) j ≡ Some i → scope files (address i) ≡ scope_names i
   meant_at w t j i at inside = own_scope files i i.declared refl (scope_item_at (all_items files) w j i (all_declared files) (named_first (all_items files) t w differ at) inside)
 
   nothing_inside : (i : Item) → BreaksInside files i (λ other. None)
   nothing_inside i j f among h = absurd (let g : ⊥ = cc in g)
 
   -- an interface that is written in an item
-  inline_broken : (w : Item) (t : ℕ) → slice_get (all_items files) t ≡ Some w → BreaksInside files w (inline_fault files known)
+  inline_broken : (w : Item) (t : ℕ) → slice_get (all_items files) t ≡ Some w → BreaksInside files w (ordered_fault files known (λ (v : Item). None))
   inline_broken w t at i f inside h =
       let k = at_contains (inline_items w) i inside in
       let it = inline_items_at w k.0 i k.1 in
@@ -150,7 +150,7 @@ module _ (files : List PackageFile) (differ : AllDiffer (map item_name (all_item
   contents_broken t i f at h =
       let here = contains_at (all_items files) t i at in
       let scope_of : IsScope files i = record { among = scopes_declared files i here; meant = meant_at i t 0 i at refl; outer = inl here } in
-      scope_broken files differ known outcomes i scope_of (λ g rule. ItemStability i here rule) (inline_fault files known) (inline_broken i t at) f h
+      scope_broken files differ known outcomes i scope_of (λ g rule. ItemStability i here rule) (ordered_fault files known (λ (v : Item). None)) (inline_broken i t at) f h
 
   some_contents : (places : List ℕ) (test : Item → Bool) (f : Fault) → IsOrder (item_rows files) places → first_in (contents_fault files known) (filter test (in_order (all_items files) places)) ≡ Some f → IsBroken files f
   some_contents places test f least h =
@@ -160,12 +160,12 @@ module _ (files : List PackageFile) (differ : AllDiffer (map item_name (all_item
       contents_broken p.0 it.1 f p.2 it.3
 
 -- where no file has a header
-headerless : (o : Option Header) (f : Fault) → header_fault o ≡ Some f → (o ≡ None) × (f ≡ fault 4 (record { start = 0; end = 0 }))
+headerless : (o : Option Header) (f : Fault) → (if is_none o then Some (fault 4 (record { start = 0; end = 0 })) else None) ≡ Some f → (o ≡ None) × (f ≡ fault 4 (record { start = 0; end = 0 }))
 headerless None f h = (refl, same_fault f (fault 4 (record { start = 0; end = 0 })) h)
 headerless (Some header) f h = absurd (let g : ⊥ = cc in g)
 
 -- the first fault of files, one step after another
-module _ (files : List PackageFile) (known : Known) (outcomes : AreOutcomes known.outcome) (f : Fault) where
+module _ (files : List PackageFile) (known : Known) (outcomes : (rs : List Row) → IsOutcome rs (known.outcome rs)) (f : Fault) where
   abbrev turns : Outcome
   turns = known.outcome (item_rows files)
 
@@ -194,7 +194,7 @@ module _ (files : List PackageFile) (known : Known) (outcomes : AreOutcomes know
   rest3 = option_or (item_names_fault files) rest4
 
   abbrev rest2 : Option Fault
-  rest2 = option_or (visits_fault (foreign_visits files)) rest3
+  rest2 = option_or (first_in (λ (v : ForeignVisit). stability_fault v.attributes) (foreign_visits files)) rest3
 
   stage8 : AllDiffer (map item_name (all_items files)) → IsOrder (item_rows files) (order_of turns) → rest8 ≡ Some f → IsBroken files f
   stage8 differ least h = elim (or_some (first_in (contents_fault files known) (interfaces_of items)) rest9 f h) [
@@ -218,16 +218,16 @@ module _ (files : List PackageFile) (known : Known) (outcomes : AreOutcomes know
   stage4 differ h = elim (or_some (files_fault files) rest5 f h) [
     | inl it ↦ Names (Items (files_broken files f it))
     | inr h5 ↦ elim (or_some (order_fault (missing_at 7 item_word) (cyclic_at 8 item_word) turns) rest6 f h5.1) [
-      | inl it ↦ elim (outcome_broken (missing_at 7 item_word) 8 item_word (item_rows files) turns f (outcomes.each (item_rows files)) it) [
+      | inl it ↦ elim (outcome_broken (missing_at 7 item_word) 8 item_word (item_rows files) turns f (outcomes (item_rows files)) it) [
         | inl missing ↦ Names (Items (MissingItem missing))
         | inr cyclic ↦ Names (Items (CyclicItem cyclic))
       ]
-      | inr h6 ↦ stage6 differ (outcome_order (missing_at 7 item_word) (cyclic_at 8 item_word) (item_rows files) turns (outcomes.each (item_rows files)) h6.0) h6.1
+      | inr h6 ↦ stage6 differ (outcome_order (missing_at 7 item_word) (cyclic_at 8 item_word) (item_rows files) turns (outcomes (item_rows files)) h6.0) h6.1
     ]
   ]
 
   stage2 : rest2 ≡ Some f → IsBroken files f
-  stage2 h = elim (or_some (visits_fault (foreign_visits files)) rest3 f h) [
+  stage2 h = elim (or_some (first_in (λ (v : ForeignVisit). stability_fault v.attributes) (foreign_visits files)) rest3 f h) [
     | inl it ↦ (let v = (visits_agree (foreign_visits files)).broken f it in Names (ForeignStability v.0 v.1 v.2))
     | inr h3 ↦ elim (or_some (item_names_fault files) rest4 f h3.1) [
       | inl it ↦ Names (Items (DuplicateItem ((item_names_agree files).broken f it)))
@@ -236,7 +236,7 @@ module _ (files : List PackageFile) (known : Known) (outcomes : AreOutcomes know
   ]
 
   pub first_broken : first_fault files known ≡ Some f → IsBroken files f
-  first_broken h = elim (or_some (header_fault (last_header files)) rest2 f h) [
+  first_broken h = elim (or_some (if is_none (last_header files) then Some (fault 4 (record { start = 0; end = 0 })) else None) rest2 f h) [
     | inl it ↦ (let none = headerless (last_header files) f it in Headerless none.0 none.1)
     | inr h2 ↦ stage2 h2.1
   ]

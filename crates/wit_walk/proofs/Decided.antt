@@ -6,8 +6,8 @@ use Rattle.wit_first.specs.First.{first_in, first_after}
 use Rattle.wit_walk.specs.Definitions.{definition_fault, end_fault, handle_fault}
 use Rattle.wit_walk.specs.Functions.{function_fault, signed_fault}
 use Rattle.wit_walk.specs.Members.{item_fault, member_fault, own_fault}
-use Rattle.wit_walk.specs.Orders.{Outcome, AreOutcomes, order_of}
-use Rattle.wit_walk.specs.Walk.{Known, ComesTo, IsFirst, earliest, scope_faults, ordered_fault, inline_fault, contents_fault, walk_faults, first_fault}
+use Rattle.wit_walk.specs.Orders.{Outcome, IsOutcome, order_of}
+use Rattle.wit_walk.specs.Walk.{Known, ComesTo, IsFirst, earliest, scope_faults, ordered_fault, contents_fault, walk_faults, first_fault}
 use Rattle.wit_walk.proofs.Legal.{legal}
 use Rattle.wit_walk.proofs.Outcomes.{outcome_of}
 use Rattle.wit_walk.proofs.Steps.{enough}
@@ -44,11 +44,11 @@ module _ (files : List PackageFile) (outcome : List Row → Outcome) (n m : ℕ)
   ordered_same : (inside : Item → Option Fault) (i : Item) → ordered_fault files one inside i ≡ ordered_fault files other inside i
   ordered_same inside i = ap earliest (scope_same inside i (outcome (rows_of (scope_names i))))
 
-  inline_same : inline_fault files one ≡ inline_fault files other
+  inline_same : (ordered_fault files one (λ (v : Item). None)) ≡ (ordered_fault files other (λ (v : Item). None))
   inline_same = fun_ext (λ (i : Item). ordered_same (λ it. None) i)
 
   contents_same : contents_fault files one ≡ contents_fault files other
-  contents_same = fun_ext (λ (i : Item). ap (λ (w : Item → Option Fault). ordered_fault files one w i) inline_same ∙ ordered_same (inline_fault files other) i)
+  contents_same = fun_ext (λ (i : Item). ap (λ (w : Item → Option Fault). ordered_fault files one w i) inline_same ∙ ordered_same (ordered_fault files other (λ (v : Item). None)) i)
 
   walk_same : (o : Outcome) → walk_faults files one o ≡ walk_faults files other o
   walk_same o =
@@ -60,7 +60,7 @@ module _ (files : List PackageFile) (outcome : List Row → Outcome) (n m : ℕ)
 comes : (files : List PackageFile) → (first : Option Fault) × ComesTo files first
 comes files =
     let outcome : List Row → Outcome = λ rs. (outcome_of rs).0 in
-    let outcomes : AreOutcomes outcome = record { each = λ rs. (outcome_of rs).1 } in
+    let outcomes : (rs : List Row) → IsOutcome rs (outcome rs) = λ rs. (outcome_of rs).1 in
     let it = enough files in (
       first_fault files (record { outcome = outcome; steps = it.0 }),
       record {

@@ -1,12 +1,12 @@
 -- What the first fault of the names of files breaks, and that of the uses of their items.
 use Rattle.std.proofs.Common.{◌≡◌, ℕ, zero, suc, Bool, true, false, List, [], ◌∷◌, ◌++◌, Option, Some, None, inl, inr, refl, sym, ap, ◌∙◌, Contains}
-use Rattle.wit_syntax.proofs.Common.{Contains-append_cases, DefinitionPart, DuplicateTopName, Exported, Extern, ExternPart, Fault, FunctionPart, Id, Imported, IncludePart, IsBroken, IsBrokenItems, IsBrokenUse, Item, MissingItem, MissingUse, PackageFile, Part, Target, Use as WrittenUse, UseMetadata, UsePart, UsePath, WorldSide, WorldUsed, all_items, at_contains, at_prefix, at_side, bytes_eq, contains_at, extern_paths, file_items, find_some, flat_map, flat_map_at, flat_map_has, if◌then◌else◌, inline_uses, is_world_at, item_name, item_named, item_row, item_row_at, leads, local_target, map, map_at, name_itself, needed_paths, none-some, none_if, option_map, part_uses, parts, path_id, place_of, place_of-Some, same_side, slice_get, slice_get-map, use_path, use_paths, uses, walk, world_there}
+use Rattle.wit_syntax.proofs.Common.{Contains-append_cases, DefinitionPart, DuplicateTopName, Exported, Extern, ExternPart, Fault, FunctionPart, Id, Imported, IncludePart, IsBroken, IsBrokenItems, IsBrokenUse, Item, MissingItem, MissingUse, PackageFile, Part, Target, Use as WrittenUse, UseMetadata, UsePart, UsePath, WorldSide, WorldUsed, all_items, at_contains, at_prefix, at_side, bytes_eq, contains_at, extern_paths, file_items, find_some, flat_map, flat_map_at, flat_map_has, if◌then◌else◌, inline_uses, is_world_at, item_name, item_named, item_row, item_row_at, leads, local_target, map, map_at, name_itself, needed_paths, none-some, none_if, option_map, part_uses, parts, path_id, place_of, place_of-Some, same_side, slice_get, slice_get-map, use_path, use_paths, uses, walk, world_there, own_uses}
 use Rattle.wit_syntax.specs.Broken.{Use}
 use Rattle.wit_first.specs.AttributeFaults.{metadata_fault}
 use Rattle.wit_first.specs.FileFaults.{file_fault, files_fault, lost_fault, paths_fault, unnamed_fault}
 use Rattle.wit_first.specs.First.{first_in}
 use Rattle.wit_first.specs.NameFaults.{top_names_fault}
-use Rattle.wit_first.specs.UseFaults.{all_uses_fault, item_uses_fault, own_uses, path_fault, reached_fault, use_fault}
+use Rattle.wit_first.specs.UseFaults.{all_uses_fault, item_uses_fault, path_fault, reached_fault, use_fault}
 use Rattle.wit_first.proofs.Bridge.{in_some, metadata_agree, or_some, top_names_agree}
 use Rattle.wit_first.proofs.FileFaults.{IsLost, lost_agrees, unnamed_broken}
 
@@ -42,10 +42,10 @@ pub files_broken : (files : List PackageFile) (f : Fault) → files_fault files 
 files_broken files f h = let it = in_some (file_fault (all_items files)) files f h in file_broken files it.0 it.1 f it.2 it.3
 
 -- where a path of an item leads
-pub path_broken : (files : List PackageFile) (i : Item) (from : UsePath) (f : Fault) → Contains (use_paths i) from → path_fault files i.top from ≡ Some f → IsBrokenUse files i f
+pub path_broken : (files : List PackageFile) (i : Item) (from : UsePath) (f : Fault) → Contains (use_paths i) from → path_fault files i.top from None ≡ Some f → IsBrokenUse files i f
 path_broken files i from f among h = by (is_world_at files (leads i.top from)) refl h
   where
-    by : (o : Option Bool) → is_world_at files (leads i.top from) ≡ o → reached_fault o (path_id from) (lost_fault (all_items files) (leads i.top from)) ≡ Some f → IsBrokenUse files i f
+    by : (o : Option Bool) → is_world_at files (leads i.top from) ≡ o → reached_fault o (path_id from) (lost_fault (all_items files) (leads i.top from)) None ≡ Some f → IsBrokenUse files i f
     by None is h = (let lost = (lost_agrees (all_items files) (leads i.top from)).broken f h in MissingUse from lost.id among lost.local lost.missing lost.is)
     by (Some true) is h = (let same : Some (world_there (path_id from)) ≡ Some f = h in WorldUsed from among is (let says : f ≡ world_there (path_id from) = cc in says))
     by (Some false) is h = absurd (let g : ⊥ = cc in g)
@@ -117,7 +117,7 @@ uses_broken files f h =
     let u = it.1 in
     let here = contains_at (all_items files) own.0 i own.2 in
     let among : Contains (uses i) u = walked (parts i) u (contains_at all it.0 u it.2) in
-    elim (or_some (metadata_fault u.attributes.items) (path_fault files i.top u.from) f it.3) [
+    elim (or_some (metadata_fault u.attributes.items) (path_fault files i.top u.from None) f it.3) [
       | inl noted ↦ UseMetadata i here u among ((metadata_agree u.attributes.items).broken f noted)
       | inr far ↦ Use i here (path_broken files i u.from f (path_of_use (parts i) u among) far.1)
     ]

@@ -1,12 +1,12 @@
 -- Where the walk finds nothing in the names of files, no rule about them is broken; nor in the uses of items, and in where paths lead.
 use Rattle.std.proofs.Common.{◌≡◌, ◌⊎◌, ℕ, zero, suc, Bool, true, false, List, [], ◌∷◌, ◌++◌, Option, Some, None, inl, inr, refl, sym, ap, ◌∙◌, subst, Contains}
-use Rattle.wit_syntax.proofs.Common.{Contains-append_left, Contains-append_right, DefinitionPart, Exported, Extern, ExternKind, ExternPart, Fault, FunctionPart, Id, Imported, Include, IncludePart, IsBrokenMetadata, IsBrokenStability, IsBrokenUse, IsSecond, Item, Link, Local, MissingUse, PackageFile, Part, SideItem, SideLink, TopName, Use as WrittenUse, UsePart, UsePath, WorldSide, WorldUsed, all_items, at_contains, at_split, contains_at, extern_items, extern_link, extern_paths, file_items, flat_map, flat_map_at, flat_map_has, if◌then◌else◌, include_path, include_paths, includes, inline_uses, interface_there, is_world, is_world_at, item_named, item_word, leads, map, map_at, missing_at, option_map, part_includes, part_items, part_uses, parts, path_id, same_side, side_items, slice_get, top_names, top_text, top_twice, use_path, use_paths, uses, walk, world_there}
+use Rattle.wit_syntax.proofs.Common.{Contains-append_left, Contains-append_right, DefinitionPart, Exported, Extern, ExternKind, ExternPart, Fault, FunctionPart, Id, Imported, Include, IncludePart, IsBrokenMetadata, IsBrokenStability, IsBrokenUse, IsSecond, Item, Link, Local, MissingUse, PackageFile, Part, SideItem, SideLink, TopName, Use as WrittenUse, UsePart, UsePath, WorldSide, WorldUsed, all_items, at_contains, at_split, contains_at, extern_items, extern_link, extern_paths, file_items, flat_map, flat_map_at, flat_map_has, if◌then◌else◌, include_path, include_paths, includes, inline_uses, interface_there, is_world, is_world_at, item_named, item_word, leads, map, map_at, missing_at, option_map, part_includes, part_items, part_uses, parts, path_id, same_side, side_items, slice_get, top_names, top_text, top_twice, use_path, use_paths, uses, walk, world_there, own_uses}
 use Rattle.wit_tree.specs.declared.tree.ExternKind.TheVariants as extern
 use Rattle.wit_first.specs.AttributeFaults.{metadata_fault, stability_fault}
 use Rattle.wit_first.specs.FileFaults.{file_fault, files_fault, lost_fault, paths_fault}
 use Rattle.wit_first.specs.First.{first_in}
 use Rattle.wit_first.specs.NameFaults.{top_names_fault}
-use Rattle.wit_first.specs.UseFaults.{all_uses_fault, item_uses_fault, own_uses, path_fault, reached_fault, use_fault}
+use Rattle.wit_first.specs.UseFaults.{all_uses_fault, item_uses_fault, path_fault, reached_fault, use_fault}
 use Rattle.wit_first.proofs.Bridge.{in_only, metadata_agree, or_none_both, stability_agrees, top_names_agree}
 use Rattle.wit_first.proofs.FileFaults.{lost_agrees}
 use Rattle.wit_walk.specs.Paths.{include_fault, interface_fault}
@@ -57,12 +57,12 @@ walked_has ps u h =
     ]
 
 -- so nothing is wrong with a `use` of an item
-use_none : (files : List PackageFile) → all_uses_fault files ≡ None → (i : Item) → Contains (all_items files) i → (u : WrittenUse) → Contains (uses i) u → (metadata_fault u.attributes.items ≡ None) × (path_fault files i.top u.from ≡ None)
+use_none : (files : List PackageFile) → all_uses_fault files ≡ None → (i : Item) → Contains (all_items files) i → (u : WrittenUse) → Contains (uses i) u → (metadata_fault u.attributes.items ≡ None) × (path_fault files i.top u.from None ≡ None)
 use_none files none i here u among =
     let k = at_contains (all_items files) i here in
     let all = walk own_uses (λ (x : Extern). inline_uses x.kind) (parts i) in
     let j = at_contains all u (walked_has (parts i) u among) in
-    or_none_both (metadata_fault u.attributes.items) (path_fault files i.top u.from) (in_only (use_fault files i.top) all (in_only (item_uses_fault files) (all_items files) none k.0 i k.1) j.0 u j.1)
+    or_none_both (metadata_fault u.attributes.items) (path_fault files i.top u.from None) (in_only (use_fault files i.top) all (in_only (item_uses_fault files) (all_items files) none k.0 i k.1) j.0 u j.1)
 
 pub use_legal : (files : List PackageFile) → all_uses_fault files ≡ None → (i : Item) → Contains (all_items files) i → (u : WrittenUse) → Contains (uses i) u → (f : Fault) → IsBrokenMetadata u.attributes.items f → ⊥
 use_legal files none i here u among = (metadata_agree u.attributes.items).unbroken (use_none files none i here u among).0
@@ -104,31 +104,31 @@ path_cases i path h =
     ]
 
 -- where nothing is wrong with a path, something is there, and it is no world
-world_none : (o : Option Bool) (id : Id) (lost : Option Fault) → reached_fault o id lost ≡ None → o ≡ Some true → ⊥
+world_none : (o : Option Bool) (id : Id) (lost : Option Fault) → reached_fault o id lost None ≡ None → o ≡ Some true → ⊥
 world_none o id lost none is =
-    let wrong : Some (world_there id) ≡ None = subst (λ (p : Option Bool). reached_fault p id lost ≡ None) is none in
+    let wrong : Some (world_there id) ≡ None = subst (λ (p : Option Bool). reached_fault p id lost None ≡ None) is none in
     (let f : ⊥ = cc in f)
 
-lost_none : (o : Option Bool) (id : Id) (lost : Option Fault) → reached_fault o id lost ≡ None → o ≡ None → lost ≡ None
-lost_none o id lost none is = subst (λ (p : Option Bool). reached_fault p id lost ≡ None) is none
+lost_none : (o : Option Bool) (id : Id) (lost : Option Fault) → reached_fault o id lost None ≡ None → o ≡ None → lost ≡ None
+lost_none o id lost none is = subst (λ (p : Option Bool). reached_fault p id lost None ≡ None) is none
 
-path_legal : (files : List PackageFile) (top : List TopName) (path : UsePath) → path_fault files top path ≡ None → (id : Id) → leads top path ≡ Local id → item_named (all_items files) id.name.now ≡ None → ⊥
+path_legal : (files : List PackageFile) (top : List TopName) (path : UsePath) → path_fault files top path None ≡ None → (id : Id) → leads top path ≡ Local id → item_named (all_items files) id.name.now ≡ None → ⊥
 path_legal files top path none id local missing =
     let there : is_world_at files (leads top path) ≡ None = ap (is_world_at files) local ∙ ap (option_map is_world) missing in
     let lost = lost_none (is_world_at files (leads top path)) (path_id path) (lost_fault (all_items files) (leads top path)) none there in
     (lost_agrees (all_items files) (leads top path)).unbroken lost (missing_at 7 item_word id) (record { id = id; local = local; missing = missing; is = refl })
 
 -- so the paths of an item lead where they have to, where nothing is wrong with those of its links
-pub paths_legal : (files : List PackageFile) → all_uses_fault files ≡ None → (i : Item) → Contains (all_items files) i → ((k : ℕ) (link : Link) → slice_get (side_items i) k ≡ Some (SideLink link) → path_fault files i.top link.path ≡ None) → (f : Fault) → IsBrokenUse files i f → ⊥
+pub paths_legal : (files : List PackageFile) → all_uses_fault files ≡ None → (i : Item) → Contains (all_items files) i → ((k : ℕ) (link : Link) → slice_get (side_items i) k ≡ Some (SideLink link) → path_fault files i.top link.path None ≡ None) → (f : Fault) → IsBrokenUse files i f → ⊥
 paths_legal files none i here links f broken = elim broken [
   | MissingUse path id among local missing says ↦ path_legal files i.top path (right path among) id local missing
   | WorldUsed path among is says ↦ world_none (is_world_at files (leads i.top path)) (path_id path) (lost_fault (all_items files) (leads i.top path)) (right path among) is
 ]
   where
-    right : (path : UsePath) → Contains (use_paths i) path → path_fault files i.top path ≡ None
+    right : (path : UsePath) → Contains (use_paths i) path → path_fault files i.top path None ≡ None
     right path among = elim (path_cases i path among) [
-      | inl own ↦ ap (path_fault files i.top) (sym own.2) ∙ (use_none files none i here own.0 own.1).1
-      | inr link ↦ ap (path_fault files i.top) (sym link.3) ∙ links link.0 link.1 link.2
+      | inl own ↦ ap (λ (p : UsePath). path_fault files i.top p None) (sym own.2) ∙ (use_none files none i here own.0 own.1).1
+      | inr link ↦ ap (λ (p : UsePath). path_fault files i.top p None) (sym link.3) ∙ links link.0 link.1 link.2
     ]
 
 -- an include

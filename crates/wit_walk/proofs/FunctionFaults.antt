@@ -1,6 +1,6 @@
 -- What the first fault of a function of an item breaks.
 use Rattle.std.proofs.Common.{◌≡◌, ◌⊎◌, ◌+◌, ℕ, zero, suc, true, false, List, [], ◌∷◌, ◌++◌, length, take, Option, Some, None, inl, inr, refl, sym, ap, ◌∙◌, subst, append_assoc, length-append, Contains, arith}
-use Rattle.wit_syntax.proofs.Common.{Attribute, BrokenMetadata, BrokenTypes, Constructor, ConstructorOfOther, ConstructorWithoutResult, Contains-append_left, Contains-append_right, DefinitionPart, DuplicateParam, Extern, ExternKind, ExternPart, Fault, Freestanding, Func, FuncForm, Function, FunctionPart, GetterGiven, GetterWithoutResult, Id, IncludePart, IsBroken, IsBrokenFunction, IsConstructorOfOther, IsConstructorWithoutResult, IsEntered, IsGetterGiven, IsNoType, IsSetterGiven, IsSetterWithResult, Item, Method, MissingInSignature, NamedFunc, OfFunction, OfNothing, OnSide, PackageFile, Param, Part, ResourceFunc, Role, Scope, SetterGiven, SetterWithResult, SourceFunction, SourceParam, Static, TypeBody, UsePart, Word, WorldSide, address, all_params, all_scopes, at_back, at_contains, at_prefix, at_split, bytes_eq, cases_Bool, contains_at, definition_functions, extern_functions, flat_map, flat_map_at, flat_map_has, folded, free_function, function_as_type, functions, item_types, list_any, map, map_at, meaning, missing_at, name_equal, name_itself, name_types, name_word, option_map, option_map_or, option_or, option_to_list, param_twice, part_functions, parts, resource_function, scope, scope_names, shape_of, side_function, signature, slice_get, slice_get-map, slice_get_within, take-append-add, take-map, words, written_param, written_types}
+use Rattle.wit_syntax.proofs.Common.{Attribute, BrokenMetadata, BrokenTypes, Constructor, ConstructorOfOther, ConstructorWithoutResult, Contains-append_left, Contains-append_right, DefinitionPart, DuplicateParam, Extern, ExternKind, ExternPart, Fault, Freestanding, Func, FuncForm, Function, FunctionPart, GetterGiven, GetterWithoutResult, Id, IncludePart, IsBroken, IsBrokenFunction, IsConstructorOfOther, IsConstructorWithoutResult, IsEntered, IsGetterGiven, IsNoType, IsSetterGiven, IsSetterWithResult, Item, Method, MissingInSignature, NamedFunc, OfFunction, OfNothing, OnSide, PackageFile, Param, Part, ResourceFunc, Role, Scope, SetterGiven, SetterWithResult, SourceFunction, SourceParam, Static, TypeBody, UsePart, Word, WorldSide, address, all_params, all_scopes, at_back, at_contains, at_prefix, at_split, bytes_eq, cases_Bool, contains_at, definition_functions, extern_functions, flat_map, flat_map_at, flat_map_has, lower_case, free_function, function_as_type, functions, item_types, list_any, map, map_at, meaning, missing_at, name_equal, name_itself, name_types, name_word, option_map, option_map_or, option_or, option_to_list, param_twice, part_functions, parts, resource_function, scope, scope_names, shape_of, side_function, signature, slice_get, slice_get-map, slice_get_within, take-append-add, take-map, words, written_param, written_types, result_ok}
 use Rattle.wit_type_tree.specs.declared.leaves.Docs.{Docs as Comments}
 use Rattle.wit_type_tree.specs.declared.types.FuncForm.TheVariants as form
 use Rattle.wit_type_tree.specs.declared.types.ResourceFunc.TheVariants as resource
@@ -9,7 +9,7 @@ use Rattle.wit_type_tree.specs.declared.types.«Type».{«Type» as Written}
 use Rattle.wit_tree.specs.declared.tree.ExternKind.TheVariants as extern
 use Rattle.wit_first.specs.AttributeFaults.{metadata_fault}
 use Rattle.wit_first.specs.First.{first_after, repeat_of}
-use Rattle.wit_first.specs.FunctionFaults.{given_fault, gives_fault}
+use Rattle.wit_first.specs.FunctionFaults.{given_fault, result_fault}
 use Rattle.wit_first.proofs.Bridge.{after_some, any_found, metadata_agree, or_some}
 use Rattle.wit_first.proofs.First.{any_some}
 use Rattle.wit_first.proofs.FunctionFaults.{given_agrees, gives_agrees, no_result_agrees}
@@ -196,7 +196,7 @@ module _ (files : List PackageFile) (i : Item) (among : Contains (all_scopes fil
   as_stated q = param_twice q.name q.span
 
   abbrev key : SourceParam → List ℕ
-  key q = folded q.name
+  key q = lower_case q.name
 
   params_broken : (f : Fault) → first_after (param_fault wrong fn) [] ps ≡ Some f → IsBroken files f
   params_broken f h =
@@ -219,7 +219,7 @@ module _ (files : List PackageFile) (i : Item) (among : Contains (all_scopes fil
 
   result_broken : (f : Fault) (o : Option Written) → fn.func.result ≡ o → return_fault wrong (scope_names i) fn o ≡ Some f → IsBroken files f
   result_broken f None is h = broken f (GetterWithoutResult ((no_result_agrees fn is).broken f h))
-  result_broken f (Some t) is h = elim (or_some (wrong t) (gives_fault (scope_names i) fn t) f h) [
+  result_broken f (Some t) is h = elim (or_some (wrong t) (result_fault fn.func.form fn.role t (result_ok (scope_names i) t)) f h) [
     | inl own ↦ (
         let has = Contains-append_right types (option_to_list fn.func.result) t (contains_at (option_to_list fn.func.result) 0 t (option_has fn.func.result t is)) in
         type_broken t f has own)

@@ -1,6 +1,6 @@
 -- A function in which the walk finds nothing breaks no rule.
 use Rattle.std.proofs.Common.{◌≡◌, ◌⊎◌, ◌≤◌, ◌<◌, ℕ, zero, suc, List, [], ◌∷◌, ◌++◌, length, take, Option, Some, None, inl, inr, refl, sym, ap, ◌∙◌, subst, Contains, arith}
-use Rattle.wit_syntax.proofs.Common.{Attribute, BrokenMetadata, BrokenTypes, ConstructorOfOther, ConstructorWithoutResult, Defined, DefinitionPart, DuplicateParam, ExternPart, Fault, Func, FunctionPart, GetterGiven, GetterWithoutResult, Id, IncludePart, IsBrokenFunction, IsConstructorOfOther, IsConstructorWithoutResult, IsGetterWithoutResult, IsSecond, IsSetterWithResult, Item, MissingInSignature, NamedFunc, Param, Part, ResourceFunc, ScopeName, SetterGiven, SetterWithResult, Shape, SourceFunction, SourceParam, Span, TypeBody, UsePart, Word, WorldSide, all_params, at_contains, at_split, bytes_eq, contains_at, definition_functions, extern_at, find_some, flat_map, flat_map_at, flat_map_has, folded, free_function, functions, local_name, map, map_at, meaning, name_itself, none-some, option_map, option_map_or, option_or, option_to_list, param_twice, part_functions, part_names, parts, resource_function, scope_names, self_param, shape_of, side_function, signature, slice_get, slice_get_within, words, written_param, written_types}
+use Rattle.wit_syntax.proofs.Common.{Attribute, BrokenMetadata, BrokenTypes, ConstructorOfOther, ConstructorWithoutResult, Defined, DefinitionPart, DuplicateParam, ExternPart, Fault, Func, FunctionPart, GetterGiven, GetterWithoutResult, Id, IncludePart, IsBrokenFunction, IsConstructorOfOther, IsConstructorWithoutResult, IsGetterWithoutResult, IsSecond, IsSetterWithResult, Item, MissingInSignature, NamedFunc, Param, Part, ResourceFunc, ScopeName, SetterGiven, SetterWithResult, Shape, SourceFunction, SourceParam, Span, TypeBody, UsePart, Word, WorldSide, all_params, at_contains, at_split, bytes_eq, contains_at, definition_functions, extern_at, find_some, flat_map, flat_map_at, flat_map_has, lower_case, free_function, functions, local_name, map, map_at, meaning, name_itself, none-some, option_map, option_map_or, option_or, option_to_list, param_twice, part_functions, part_names, parts, resource_function, scope_names, self_param, shape_of, side_function, signature, slice_get, slice_get_within, words, written_param, written_types, if◌then◌else◌, is_none, result_ok}
 use Rattle.wit_type_tree.specs.declared.leaves.Docs.{Docs as Comments}
 use Rattle.wit_type_tree.specs.declared.types.ResourceFunc.TheVariants as resource
 use Rattle.wit_type_tree.specs.declared.types.TypeBody.TheVariants as body
@@ -8,12 +8,11 @@ use Rattle.wit_type_tree.specs.declared.types.TypeDef.{TypeDef}
 use Rattle.wit_type_tree.specs.declared.types.«Type».{«Type» as Written}
 use Rattle.wit_first.specs.AttributeFaults.{metadata_fault}
 use Rattle.wit_first.specs.First.{first_after, repeat_of}
-use Rattle.wit_first.specs.FunctionFaults.{given_fault, gives_fault}
+use Rattle.wit_first.specs.FunctionFaults.{given_fault, result_fault}
 use Rattle.wit_first.proofs.Bridge.{after_only, metadata_agree, or_none_both}
 use Rattle.wit_first.proofs.First.{any_used}
 use Rattle.wit_first.proofs.FunctionFaults.{given_agrees, gives_agrees, no_result_agrees}
 use Rattle.wit_walk.specs.Functions.{lost_word, word_fault, signed_fault, param_fault, return_fault, function_fault}
-use Rattle.wit_walk.specs.Names.{unless_meant}
 use Rattle.wit_walk.proofs.FunctionFaults.{at_option, made, params_before}
 use Rattle.wit_walk.proofs.TypesLegal.{single_is, type_legal, words_free}
 
@@ -82,12 +81,12 @@ given : (i : Item) (k : ℕ) (fn : SourceFunction) → slice_get (functions i) k
 given i k fn at = (let it = flat_map_at part_functions (parts i) k fn at in given_part i it.0 it.1 it.2 it.3.0 fn it.3.1)
 
 -- a name that means nothing has a fault
-pub meant_none : (m : Option ScopeName) (lost : Fault) → unless_meant m lost ≡ None → m ≡ None → ⊥
+pub meant_none : (m : Option ScopeName) (lost : Fault) → (if is_none m then Some lost else None) ≡ None → m ≡ None → ⊥
 meant_none None lost none is = (let f : ⊥ = cc in f)
 meant_none (Some x) lost none is = (let f : ⊥ = cc in f)
 
 abbrev key : SourceParam → List ℕ
-key q = folded q.name
+key q = lower_case q.name
 
 abbrev as_stated : SourceParam → Fault
 as_stated q = param_twice q.name q.span
@@ -124,8 +123,8 @@ module _ (i : Item) (k : ℕ) (fn : SourceFunction) (at : slice_get (functions i
   param_none : (j : ℕ) (p : Param) → slice_get ps j ≡ Some p → (repeat_of key as_stated (fn.given ++ map written_param (take j ps)) (written_param p) ≡ None) × (wrong p.ty ≡ None)
   param_none j p there = or_none_both (repeat_of key as_stated (fn.given ++ map written_param (take j ps)) (written_param p)) (wrong p.ty) (after_only (param_fault wrong fn) [] ps apart.2 j p there)
 
-  result_none : (t : Written) → fn.func.result ≡ Some t → (wrong t ≡ None) × (gives_fault xs fn t ≡ None)
-  result_none t is = or_none_both (wrong t) (gives_fault xs fn t) (subst (λ (o : Option Written). return_fault wrong xs fn o ≡ None) is apart.3)
+  result_none : (t : Written) → fn.func.result ≡ Some t → (wrong t ≡ None) × (result_fault fn.func.form fn.role t (result_ok xs t) ≡ None)
+  result_none t is = or_none_both (wrong t) (result_fault fn.func.form fn.role t (result_ok xs t)) (subst (λ (o : Option Written). return_fault wrong xs fn o ≡ None) is apart.3)
 
   pub type_none : (t : Written) → Contains (written_types fn) t → wrong t ≡ None
   type_none t among =

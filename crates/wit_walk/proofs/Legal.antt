@@ -1,6 +1,6 @@
 -- Files in which the walk finds nothing break no rule; and in files that break none it finds nothing.
 use Rattle.std.proofs.Common.{◌≡◌, ◌+◌, ◌≤◌, ℕ, false, not, List, [], ◌∷◌, ◌++◌, length, take, Option, Some, None, inl, inr, refl, sym, ap, ◌∙◌, Contains, arith}
-use Rattle.wit_syntax.proofs.Common.{AllDiffer, Body, CyclicItem, CyclicType, DefinedTwice, DuplicateItem, DuplicateTopName, Extern, Fault, ForeignStability, Function, Handle, Headerless, Id, IncludeStability, InterfaceIncluded, InterfaceItem, IsBrokenItems, IsBrokenNames, IsBrokenScope, IsLegal, IsNoResource, IsOrder, Item, ItemStability, Items, LinkedTwice, MissingItem, MissingName, MissingType, Names, PackageFile, Row, Scope, Setter, SideFunction, SideInline, SideItem, Sides, TopUse, UseMetadata, about, address, all_items, all_scopes, at_contains, cases_Bool, cyclic_at, defined, foreign_visits, functions, in_order, in_order_has, in_turn, includes, index_of, inline_interface, inline_items, inline_items_at, inlined, interfaces_of, interfaces_on, is_world, item_name, item_row, item_rows, item_types, item_word, kept_has, last_header, length-map, map, map_at, missing_at, missing_type_at, name_called, no_cyclic_edge, no_missing_edge, not_from_false, rows_of, scope_names, scopes_either, side_items, side_items_functions, slice_get, slice_get_within, type_word, used, worlds_of}
+use Rattle.wit_syntax.proofs.Common.{AllDiffer, Body, CyclicItem, CyclicType, DefinedTwice, DuplicateItem, DuplicateTopName, Extern, Fault, ForeignStability, Function, Handle, Headerless, Id, IncludeStability, InterfaceIncluded, InterfaceItem, IsBrokenItems, IsBrokenNames, IsBrokenScope, IsLegal, IsNoResource, IsOrder, Item, ItemStability, Items, LinkedTwice, MissingItem, MissingName, MissingType, Names, PackageFile, Row, Scope, Setter, SideFunction, SideInline, SideItem, Sides, TopUse, UseMetadata, about, address, all_items, all_scopes, at_contains, cases_Bool, cyclic_at, defined, foreign_visits, functions, in_order, in_order_has, in_turn, includes, index_of, inline_interface, inline_items, inline_items_at, inlined, interfaces_of, interfaces_on, is_world, item_name, item_row, item_rows, item_types, item_word, kept_has, last_header, length-map, map, map_at, missing_at, missing_type_at, name_called, no_cyclic_edge, no_missing_edge, not_from_false, rows_of, scope_names, scopes_either, side_items, side_items_functions, slice_get, slice_get_within, type_word, used, worlds_of, fault, if◌then◌else◌, is_none}
 use Rattle.wit_tree.specs.declared.tree.PackageName.{PackageName as Header}
 use Rattle.wit_syntax.specs.Broken.{Metadata, Use}
 use Rattle.wit_first.specs.AttributeFaults.{external_fault, stability_fault}
@@ -10,10 +10,10 @@ use Rattle.wit_first.proofs.FileFaults.{tops_agree, visits_agree}
 use Rattle.wit_walk.specs.Definitions.{definition_fault, handle_fault}
 use Rattle.wit_walk.specs.Members.{member_fault}
 use Rattle.wit_walk.specs.Names.{name_fault, folded_fault}
-use Rattle.wit_walk.specs.Orders.{Outcome, AreOutcomes, order_of}
+use Rattle.wit_walk.specs.Orders.{Outcome, IsOutcome, order_of}
 use Rattle.wit_walk.specs.Paths.{include_fault}
 use Rattle.wit_walk.specs.Setters.{setters_fault}
-use Rattle.wit_walk.specs.Walk.{Known, IsFaultless, ordered_fault, inline_fault, contents_fault, earliest, header_fault, first_fault, scope_faults, walk_faults}
+use Rattle.wit_walk.specs.Walk.{Known, IsFaultless, ordered_fault, contents_fault, earliest, first_fault, scope_faults, walk_faults}
 use Rattle.wit_walk.proofs.Broken.{first_broken}
 use Rattle.wit_walk.proofs.FilesLegal.{include_legal, included_legal, paths_legal, tops_legal, use_legal}
 use Rattle.wit_walk.proofs.MembersLegal.{functions_legal, item_none, link_reached, links_legal, sides_legal, signed_handles}
@@ -45,7 +45,7 @@ record IsClear (files : List PackageFile) (n : ℕ) (i : Item) : Type 0 where
   setters : setters_fault i ≡ None
   stable : (k : ℕ) (x : Extern) (name : Id) (items : List InterfaceItem) → slice_get (side_items i) k ≡ Some (SideInline x name items) → stability_fault x.attributes.items ≡ None
 
-module _ (files : List PackageFile) (known : Known) (outcomes : AreOutcomes known.outcome) where
+module _ (files : List PackageFile) (known : Known) (outcomes : (rs : List Row) → IsOutcome rs (known.outcome rs)) where
   abbrev IsStable : Item → Type 0
   IsStable i = (k : ℕ) (x : Extern) (name : Id) (items : List InterfaceItem) → slice_get (side_items i) k ≡ Some (SideInline x name items) → stability_fault x.attributes.items ≡ None
 
@@ -53,7 +53,7 @@ module _ (files : List PackageFile) (known : Known) (outcomes : AreOutcomes know
   clear inside i none stable =
       let outcome = known.outcome (rows_of (scope_names i)) in
       let all = are_none (scope_faults files known.steps inside i outcome) none in
-      let least = outcome_order missing_type_at (cyclic_at 16 type_word) (rows_of (scope_names i)) outcome (outcomes.each (rows_of (scope_names i))) all.1.1.0 in
+      let least = outcome_order missing_type_at (cyclic_at 16 type_word) (rows_of (scope_names i)) outcome (outcomes (rows_of (scope_names i))) all.1.1.0 in
       record {
         inside = inside;
         order = order_of outcome;
@@ -80,15 +80,15 @@ module _ (files : List PackageFile) (known : Known) (outcomes : AreOutcomes know
     abbrev turns : List ℕ
     turns = order_of (known.outcome (rows_of (scope_names i)))
 
-    inline_none : (k : ℕ) (x : Extern) (name : Id) (items : List InterfaceItem) → slice_get (side_items i) k ≡ Some (SideInline x name items) → inline_fault files known (inlined i (length (interfaces_on x.side (take k (side_items i)))) x name items) ≡ None
+    inline_none : (k : ℕ) (x : Extern) (name : Id) (items : List InterfaceItem) → slice_get (side_items i) k ≡ Some (SideInline x name items) → ordered_fault files known (λ (v : Item). None) (inlined i (length (interfaces_on x.side (take k (side_items i)))) x name items) ≡ None
     inline_none k x name items at =
         let written = inlined i (length (interfaces_on x.side (take k (side_items i)))) x name items in
-        let all = are_none (scope_faults files known.steps (inline_fault files known) i (known.outcome (rows_of (scope_names i)))) none in
-        let own = item_none files known.steps (inline_fault files known) i turns all.1.1.1.1.1.1.0 k (SideInline x name items) at in
-        in_only (inline_fault files known) (written ∷ []) (or_none_both (first_in (inline_fault files known) (written ∷ [])) (external_fault x.attributes.items) own).0 0 written refl
+        let all = are_none (scope_faults files known.steps (ordered_fault files known (λ (v : Item). None)) i (known.outcome (rows_of (scope_names i)))) none in
+        let own = item_none files known.steps (ordered_fault files known (λ (v : Item). None)) i turns all.1.1.1.1.1.1.0 k (SideInline x name items) at in
+        in_only (ordered_fault files known (λ (v : Item). None)) (written ∷ []) (or_none_both (first_in (ordered_fault files known (λ (v : Item). None)) (written ∷ [])) (external_fault x.attributes.items) own).0 0 written refl
 
     declared_clear : IsClear files known.steps i
-    declared_clear = clear (inline_fault files known) i none (λ k x name items at. (
+    declared_clear = clear (ordered_fault files known (λ (v : Item). None)) i none (λ k x name items at. (
         let written = inlined i (length (interfaces_on x.side (take k (side_items i)))) x name items in
         (are_none (scope_faults files known.steps (λ other. None) written (known.outcome (rows_of (scope_names written)))) (inline_none k x name items at)).0))
 
@@ -96,11 +96,11 @@ module _ (files : List PackageFile) (known : Known) (outcomes : AreOutcomes know
     inside_clear j among =
         let k = at_contains (inline_items i) j among in
         let it = inline_items_at i k.0 j k.1 in
-        let own : inline_fault files known j ≡ None = ap (inline_fault files known) (sym it.is) ∙ inline_none it.place it.x it.name it.items it.at in
+        let own : ordered_fault files known (λ (v : Item). None) j ≡ None = ap (ordered_fault files known (λ (v : Item). None)) (sym it.is) ∙ inline_none it.place it.x it.name it.items it.at in
         clear (λ other. None) j own (inline_stable j (inline_interface i k.0 j k.1))
 
 -- files in which the walk finds nothing
-module _ (files : List PackageFile) (known : Known) (outcomes : AreOutcomes known.outcome) (none : first_fault files known ≡ None) where
+module _ (files : List PackageFile) (known : Known) (outcomes : (rs : List Row) → IsOutcome rs (known.outcome rs)) (none : first_fault files known ≡ None) where
   abbrev order : List ℕ
   order = order_of (known.outcome (item_rows files))
 
@@ -111,7 +111,7 @@ module _ (files : List PackageFile) (known : Known) (outcomes : AreOutcomes know
   steps = are_none (walk_faults files known (known.outcome (item_rows files))) none
 
   least : IsOrder (item_rows files) order
-  least = outcome_order missing (cyclic_at 8 item_word) (item_rows files) (known.outcome (item_rows files)) (outcomes.each (item_rows files)) steps.1.1.1.1.0
+  least = outcome_order missing (cyclic_at 8 item_word) (item_rows files) (known.outcome (item_rows files)) (outcomes (item_rows files)) steps.1.1.1.1.0
 
   differ : AllDiffer (map item_name (all_items files))
   differ = item_names_differ files steps.1.1.0
@@ -171,7 +171,7 @@ module _ (files : List PackageFile) (known : Known) (outcomes : AreOutcomes know
       let it = scope_clear i among in
       handle_legal files i known.steps (defined_handles (scope_names i) it.order it.least (handle_fault files known.steps (address i)) it.definitions) (signed_handles files known.steps it.inside i it.order it.members) f h le
 
-headed : (o : Option Header) → header_fault o ≡ None → o ≡ None → ⊥
+headed : (o : Option Header) → (if is_none o then Some (fault 4 (record { start = 0; end = 0 })) else None) ≡ None → o ≡ None → ⊥
 headed None none is = (let f : ⊥ = cc in f)
 headed (Some header) none is = (let f : ⊥ = cc in f)
 
@@ -219,7 +219,7 @@ no_fault (Some f) none = absurd (none f refl)
 pub faultless : (files : List PackageFile) → IsLegal files → IsFaultless files
 faultless files legal =
     let outcome : List Row → Outcome = λ rs. (outcome_of rs).0 in
-    let outcomes : AreOutcomes outcome = record { each = λ rs. (outcome_of rs).1 } in
+    let outcomes : (rs : List Row) → IsOutcome rs (outcome rs) = λ rs. (outcome_of rs).1 in
     record {
       outcome = outcome;
       outcomes = outcomes;

@@ -1,9 +1,10 @@
 -- What the first fault of what is on the sides of an item breaks.
 use Rattle.std.proofs.Common.{◌≡◌, ◌⊎◌, ◌+◌, ℕ, zero, suc, Bool, true, false, ◌&&◌, List, [], ◌∷◌, ◌++◌, length, take, Option, Some, None, inl, inr, refl, sym, ap, ◌∙◌, subst, append_assoc, Contains}
-use Rattle.wit_syntax.proofs.Common.{Called, Constructor, CrossedTwice, DefinitionPart, Extern, ExternKind, ExternPart, Fault, FoldedTwice, Freestanding, FuncForm, FunctionPart, Id, Imported, IncludePart, InterfaceItem, InterfaceMetadata, IsBroken, IsExternPart, IsLinkedTwice, IsOrder, IsSecond, Item, Link, LinkedTwice, Method, MissingUse, OnSide, PackageFile, Part, Role, ScopeName, SideFunction, SideInline, SideItem, SideLink, Sides, SourceFunction, Static, Use as WrittenUse, UsePart, WorldSide, WorldUsed, address, all_items, all_scopes, and_parts, at_back, at_contains, at_prefix, bytes_eq, clash, codes, cond-true, conflict, contains_at, definition_functions, extern_items, extern_link, extern_paths, fault_in, filter, filter-append, flat_map, flat_map-append, flat_map_at, flat_map_has, folded_key, functions, functions_items, if◌then◌else◌, in_turn, inline_after, inline_after-append, inline_item, inline_items, inline_uses, is_interface, is_none, is_world, is_world_at, item_called, item_function, item_link, item_side, items_on, leads, linked_twice, links_none, list_any, map, map_at, name_called, name_equal, names_on, option_map_or, part_items, parts, path_id, path_scope, rows_of, same_address, same_address-equal, same_side, scope, scope_names, side_called, side_items, side_itself, slice_get, take_seam, use_path, use_paths, world_there}
+use Rattle.wit_syntax.proofs.Common.{Called, Constructor, CrossedTwice, DefinitionPart, Extern, ExternKind, ExternPart, Fault, FoldedTwice, Freestanding, FuncForm, FunctionPart, Id, Imported, IncludePart, InterfaceItem, InterfaceMetadata, IsBroken, IsExternPart, IsLinkedTwice, IsOrder, IsSecond, Item, Link, LinkedTwice, Method, MissingUse, OnSide, PackageFile, Part, Role, ScopeName, SideFunction, SideInline, SideItem, SideLink, Sides, SourceFunction, Static, Use as WrittenUse, UsePart, WorldSide, WorldUsed, address, all_items, all_scopes, and_parts, at_back, at_contains, at_prefix, bytes_eq, clash, codes, cond-true, contains_at, definition_functions, extern_items, extern_link, extern_paths, fault_in, filter, filter-append, flat_map, flat_map-append, flat_map_at, flat_map_has, folded_key, functions, functions_items, if◌then◌else◌, in_turn, inline_after, inline_after-append, inline_item, inline_items, inline_uses, is_interface, is_none, is_world, is_world_at, item_called, item_function, item_link, item_side, items_on, leads, linked_twice, links_none, list_any, map, map_at, name_called, name_equal, names_on, option_map_or, part_items, parts, path_id, path_scope, rows_of, same_address, same_address-equal, same_side, scope, scope_names, side_called, side_items, side_itself, slice_get, take_seam, use_path, use_paths, world_there, side_word}
 use Rattle.wit_tree.specs.declared.tree.ExternKind.TheVariants as extern
 use Rattle.wit_syntax.specs.Broken.{Use}
 use Rattle.wit_first.specs.AttributeFaults.{external_fault, metadata_fault}
+use Rattle.wit_first.specs.UseFaults.{reached_fault}
 use Rattle.wit_first.specs.FileFaults.{lost_fault}
 use Rattle.wit_first.specs.First.{first_in, first_after, repeat_of}
 use Rattle.wit_first.proofs.Bridge.{clash_repeat, after_some, any_found, external_agrees, in_some, metadata_agree, or_some, repeat_some}
@@ -14,7 +15,7 @@ use Rattle.wit_walk.specs.Definitions.{handle_fault}
 use Rattle.wit_walk.specs.Functions.{function_fault, signed_fault}
 use Rattle.wit_walk.specs.Members.{called_fault, crossed, is_extern, is_on_side, item_fault, member_fault, own_fault, side_sorted, sort_among}
 use Rattle.wit_walk.specs.Names.{folded_fault}
-use Rattle.wit_walk.specs.Paths.{is_same_link, link_fault, linked_fault, there_fault}
+use Rattle.wit_walk.specs.Paths.{is_same_link, link_fault, linked_fault}
 use Rattle.wit_walk.proofs.FunctionFaults.{function_broken}
 use Rattle.wit_walk.proofs.ScopeFaults.{if_some, same_fault}
 
@@ -157,7 +158,7 @@ module _ (files : List PackageFile) (i : Item) (known : IsScope files i) (n : �
       let has : Contains (take (length before) (items_on link.side all)) (SideLink it.1) = subst (λ (l : List SideItem). Contains l (SideLink it.1)) (sym prefix) (contains_at before y.0 (SideLink it.1) (y.2 ∙ ap Some is)) in
       (link.side, length before, it.1, link, has, own, none_is it.1.name names.0, none_is link.name paths.0, same_address-equal (path_scope i.top it.1.path) (path_scope i.top link.path) paths.1, there, found.1)
 
-  there_broken : (k : ℕ) (link : Link) (f : Fault) → slice_get all k ≡ Some (SideLink link) → (o : Option Bool) → is_world_at files (leads i.top link.path) ≡ o → there_fault o (path_id link.path) (lost_fault (all_items files) (leads i.top link.path)) (linked_fault i.top (take k all) link) ≡ Some f → IsBroken files f
+  there_broken : (k : ℕ) (link : Link) (f : Fault) → slice_get all k ≡ Some (SideLink link) → (o : Option Bool) → is_world_at files (leads i.top link.path) ≡ o → reached_fault o (path_id link.path) (lost_fault (all_items files) (leads i.top link.path)) (linked_fault i.top (take k all) link) ≡ Some f → IsBroken files f
   there_broken k link f at None is h = (let lost = (lost_agrees (all_items files) (leads i.top link.path)).broken f h in Use i (here k link at) (MissingUse link.path lost.id (path_among i k link at) lost.local lost.missing lost.is))
   there_broken k link f at (Some true) is h = Use i (here k link at) (WorldUsed link.path (path_among i k link at) is (same_fault f (world_there (path_id link.path)) h))
   there_broken k link f at (Some false) is h = LinkedTwice i (here k link at) (linked_again k link f at is h)
@@ -165,7 +166,7 @@ module _ (files : List PackageFile) (i : Item) (known : IsScope files i) (n : �
   link_on : (k : ℕ) (link : Link) (f : Fault) → slice_get all k ≡ Some (SideLink link) → link_fault files i.top (take k all) link ≡ Some f → IsBroken files f
   link_on k link f at h =
       let there = is_world_at files (leads i.top link.path) in
-      elim (or_some (metadata_fault link.attributes) (there_fault there (path_id link.path) (lost_fault (all_items files) (leads i.top link.path)) (linked_fault i.top (take k all) link)) f h) [
+      elim (or_some (metadata_fault link.attributes) (reached_fault there (path_id link.path) (lost_fault (all_items files) (leads i.top link.path)) (linked_fault i.top (take k all) link)) f h) [
         | inl metadata ↦ Sides i known.among (InterfaceMetadata (SideLink link) (contains_at all k (SideLink link) at) ((metadata_agree link.attributes).broken f metadata))
         | inr later ↦ there_broken k link f at there refl later.1
       ]
@@ -212,7 +213,7 @@ module _ (files : List PackageFile) (i : Item) (known : IsScope files i) (n : �
             let at_place : slice_get (items_on side all) (length before) ≡ Some x = ap (λ (l : List SideItem). slice_get l (length before)) on ∙ middle before x rest in
             let prefix : take (length before) (items_on side all) ≡ before = ap (take (length before)) on ∙ take_seam before (x ∷ rest) in
             let has : Contains (side_called side xs (take (length before) (items_on side all)) order) e.1 = subst (λ (l : List SideItem). Contains (side_called side xs l order) e.1) (sym prefix) (contains_at names e.0 e.1 e.2) in
-            Sides i known.among (CrossedTwice (side, order, least, length before, x, at_place, extern_is x own_crossed.0, c, only, e.1, has, name_equal e.1.name c.name e.3, conflict side c.name (sort_among there c.name), twice.1)))
+            Sides i known.among (CrossedTwice (side, order, least, length before, x, at_place, extern_is x own_crossed.0, c, only, e.1, has, name_equal e.1.name c.name e.3, side_word side ++ (codes " `" ++ (c.name ++ (codes "` conflicts with prior " ++ (sort_among there c.name ++ codes " of same name")))), twice.1)))
         | inr far ↦ (
             let again = clash_repeat (λ (d : Called). folded_key d.name) (λ (d : Called) (w : List ℕ). fault_in 17 d.span w) (λ (y : Called) (d : Called). clash (codes "name") y.name d.name) names c f far.1 in
             let own = flat_map item_called before in

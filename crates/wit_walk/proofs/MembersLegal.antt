@@ -1,6 +1,6 @@
 -- Where the walk finds nothing in what is on the sides of an item, no rule about it is broken.
 use Rattle.std.proofs.Common.{◌≡◌, ◌≤◌, ℕ, zero, suc, Bool, true, false, ◌&&◌, List, [], ◌∷◌, ◌++◌, length, take, Option, Some, None, inl, inr, refl, sym, ap, ◌∙◌, subst, append_assoc, Contains, arith}
-use Rattle.wit_syntax.proofs.Common.{AllDiffer, Called, CrossedTwice, Exported, Extern, Fault, FoldedTwice, Id, Imported, InterfaceItem, InterfaceMetadata, IsBrokenFunction, IsBrokenMetadata, IsBrokenSides, IsLinkedTwice, IsOrder, Item, Link, PackageFile, ScopeName, SideFunction, SideInline, SideItem, SideLink, SourceFunction, Span, WorldSide, address, all_items, and_from, append-nil, at_contains, cases_Bool, cond-false, cond-true, contains_at, filter, filter-append, flat_map, flat_map-append, flat_map_at, flat_map_has, folded_key, functions, functions_items, handles, if◌then◌else◌, in_turn, inline_item, interface_attributes, is_interface, is_none, is_world_at, item_called, item_function, item_link, item_side, items_on, leads, linked_twice, list_any, map, name_called, names_on, no_crossed, no_fold, option_or, path_id, path_scope, rows_of, same_address, same_address-from, same_side, same_side-equal, scope_names, side_called, side_items, slice_get, written_types}
+use Rattle.wit_syntax.proofs.Common.{AllDiffer, Called, CrossedTwice, Exported, Extern, Fault, FoldedTwice, Id, Imported, InterfaceItem, InterfaceMetadata, IsBrokenFunction, IsBrokenMetadata, IsBrokenSides, IsLinkedTwice, IsOrder, Item, Link, PackageFile, ScopeName, SideFunction, SideInline, SideItem, SideLink, SourceFunction, Span, WorldSide, address, all_items, and_from, append-nil, at_contains, cases_Bool, cond-false, cond-true, contains_at, filter, filter-append, flat_map, flat_map-append, flat_map_at, flat_map_has, folded_key, functions, functions_items, handles, if◌then◌else◌, in_turn, inline_item, interface_attributes, is_interface, is_none, is_world_at, item_called, item_function, item_link, item_side, items_on, leads, linked_twice, list_any, map, name_called, names_on, no_crossed, no_fold, option_or, path_id, path_scope, rows_of, same_address, same_address-from, same_side, same_side-equal, scope_names, side_called, side_items, slice_get, written_types, clash, codes, fault_in}
 use Rattle.wit_type_tree.specs.declared.types.«Type».{«Type» as Written}
 use Rattle.wit_first.specs.AttributeFaults.{external_fault, metadata_fault, stability_fault}
 use Rattle.wit_first.specs.FileFaults.{lost_fault}
@@ -11,8 +11,8 @@ use Rattle.wit_first.proofs.First.{after-append, any_some, none_both}
 use Rattle.wit_walk.specs.Definitions.{handle_fault}
 use Rattle.wit_walk.specs.Functions.{function_fault, signed_fault, word_fault}
 use Rattle.wit_walk.specs.Members.{called_fault, crossed, is_extern, item_fault, member_fault, own_fault, side_sorted}
-use Rattle.wit_walk.specs.Names.{folded_clash, folded_fault}
-use Rattle.wit_walk.specs.Paths.{is_same_link, linked_fault, there_fault}
+use Rattle.wit_walk.specs.Names.{folded_fault}
+use Rattle.wit_walk.specs.Paths.{is_same_link, linked_fault}
 use Rattle.wit_walk.proofs.FilesLegal.{flat_has}
 use Rattle.wit_walk.proofs.FunctionsLegal.{function_legal, type_none}
 use Rattle.wit_walk.proofs.ScopeFaults.{if_none}
@@ -62,7 +62,7 @@ function_is (SideLink link) r fn at = absurd (let f : ⊥ = cc in f)
 function_is (SideInline x name items) r fn at = absurd (let f : ⊥ = cc in f)
 
 -- a path by which an interface is imported or exported leads where it has to
-there_reached : (o : Option Bool) (id : Id) (lost twice : Option Fault) → there_fault o id lost twice ≡ None → reached_fault o id lost ≡ None
+there_reached : (o : Option Bool) (id : Id) (lost twice : Option Fault) → reached_fault o id lost twice ≡ None → reached_fault o id lost None ≡ None
 there_reached None id lost twice none = none
 there_reached (Some true) id lost twice none = none
 there_reached (Some false) id lost twice none = refl
@@ -107,12 +107,12 @@ module _ (files : List PackageFile) (n : ℕ) (inside : Item → Option Fault) (
 
   -- links
   abbrev there_none : ℕ → Link → Option Fault
-  there_none k link = there_fault (is_world_at files (leads i.top link.path)) (path_id link.path) (lost_fault (all_items files) (leads i.top link.path)) (linked_fault i.top (take k all) link)
+  there_none k link = reached_fault (is_world_at files (leads i.top link.path)) (path_id link.path) (lost_fault (all_items files) (leads i.top link.path)) (linked_fault i.top (take k all) link)
 
   link_none : (k : ℕ) (link : Link) → slice_get all k ≡ Some (SideLink link) → (metadata_fault link.attributes ≡ None) × (there_none k link ≡ None)
   link_none k link at = or_none_both (metadata_fault link.attributes) (there_none k link) (item_none k (SideLink link) at)
 
-  pub link_reached : (k : ℕ) (link : Link) → slice_get all k ≡ Some (SideLink link) → path_fault files i.top link.path ≡ None
+  pub link_reached : (k : ℕ) (link : Link) → slice_get all k ≡ Some (SideLink link) → path_fault files i.top link.path None ≡ None
   link_reached k link at = there_reached (is_world_at files (leads i.top link.path)) (path_id link.path) (lost_fault (all_items files) (leads i.top link.path)) (linked_fault i.top (take k all) link) (link_none k link at).1
 
   same_link : (a b : Link) → a.name ≡ None → b.name ≡ None → path_scope i.top a.path ≡ path_scope i.top b.path → is_same_link i.top a b ≡ true
@@ -131,7 +131,7 @@ module _ (files : List PackageFile) (n : ℕ) (inside : Item → Option Fault) (
       let own = flat_map_has item_link (items_on later.side (take k all)) e.0 0 (SideLink earlier) earlier (ap (λ (l : List SideItem). slice_get l e.0) before ∙ e.1) refl in
       let test = λ (l : Link). is_same_link i.top l later in
       let found = any_some test (flat_map item_link (items_on later.side (take k all))) own.0 earlier own.1 (same_link earlier later no_a no_b paths) in
-      let right : linked_fault i.top (take k all) later ≡ None = subst (λ (o : Option Bool). there_fault o (path_id later.path) (lost_fault (all_items files) (leads i.top later.path)) (linked_fault i.top (take k all) later) ≡ None) there (link_none k later it.1).1 in
+      let right : linked_fault i.top (take k all) later ≡ None = subst (λ (o : Option Bool). reached_fault o (path_id later.path) (lost_fault (all_items files) (leads i.top later.path)) (linked_fault i.top (take k all) later) ≡ None) there (link_none k later it.1).1 in
       if_none (list_any test (flat_map item_link (items_on later.side (take k all)))) (linked_twice later.side (path_id later.path).span) right found
 
   -- the attributes of interfaces, where nothing is wrong with those that say how stable one is that is written here
@@ -198,7 +198,7 @@ module _ (files : List PackageFile) (n : ℕ) (inside : Item → Option Fault) (
         let called = flat_map item_called (items_on side all) in
         let nothing : types side ≡ names side [] = sym (append-nil (types side)) in
         let later : first_after folded_fault (types side) called ≡ None = ap (λ (l : List Called). first_after folded_fault l called) nothing ∙ names_from side [] all none in
-        clash_differs (λ (c : Called). folded_key c.name) folded_clash (types side ++ called) (after-append folded_fault [] (types side) called ∙ none_both (types_none side) later)
+        clash_differs (λ (c : Called). folded_key c.name) (λ (earlier later : Called). fault_in 17 later.span (clash (codes "name") earlier.name later.name)) (types side ++ called) (after-append folded_fault [] (types side) called ∙ none_both (types_none side) later)
 
     pub sides_legal : IsOrder (rows_of xs) order → ((k : ℕ) (x : Extern) (name : Id) (items : List InterfaceItem) → slice_get all k ≡ Some (SideInline x name items) → stability_fault x.attributes.items ≡ None) → (f : Fault) → IsBrokenSides i f → ⊥
     sides_legal least stable f broken = elim broken [

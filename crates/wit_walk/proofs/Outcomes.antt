@@ -179,14 +179,14 @@ module _ (rs : List Row) where
 
   pub outcome_of : (o : Outcome) × IsOutcome rs o
   outcome_of = elim (first_edge rs (IsMissing rs) missing_or_not) [
-    | inl (i, k, id, first) ↦ (AtMissing id, (i, k, record { id = id; first = first }, refl))
+    | inl (i, k, id, first) ↦ (AtMissing id, (i, k, first))
     | inr present ↦ (
         let complete : IsComplete rs = λ i k id edge. elim (none_or_some (target rs id)) [
           | inl gone ↦ absurd (present i k id edge gone)
           | inr (w, there) ↦ known (target rs id) w there
         ] in
         elim (first_edge rs (IsCyclic rs) cyclic_or_not) [
-          | inl (i, k, id, first) ↦ (AtCycle id, (i, k, record { complete = complete; id = id; first = first }, refl))
+          | inl (i, k, id, first) ↦ (AtCycle id, (complete, i, k, first))
           | inr acyclic ↦ (let accepted = in_order_or_not present acyclic (one_answer rs).either in (InOrder accepted.0, accepted.1))
         ])
   ]

@@ -1,6 +1,6 @@
 -- What the first fault of the names of a scope breaks, of the order of its definitions, of a definition, and of an include.
 use Rattle.std.proofs.Common.{◌≡◌, ◌⊎◌, ℕ, Bool, true, false, List, [], ◌++◌, take, Option, Some, None, inl, inr, refl, sym, ap, ◌∙◌, Contains}
-use Rattle.wit_syntax.proofs.Common.{Address, AllDiffer, AtForeign, AtResource, Body, Contains-append_left, Defined, DefinedTwice, Elsewhere, End, Fault, ForeignName, Handle, Id, Include, IncludeStability, InterfaceIncluded, IsBroken, IsCyclicEdge, IsMissingEdge, IsNoType, IsOrder, Item, MissingName, OfFunction, OfNothing, PackageFile, Part, Row, Scope, ScopeName, SourceFunction, UseName, Used, Word, address, all_items, all_scopes, at_contains, at_part, body_types, bytes_eq, cases_Bool, contains_at, cyclic_at, defined, defined_at, differ_at, find_at, find_passes, find_some, flat_map, flat_map_at, flat_map_has, function_used, functions, handles, if◌then◌else◌, include_path, includes, interface_there, is_world_at, item_at, item_name, item_named, item_types, leads, list_any, local_id, local_name, map, meaning, missing_at, name_equal, name_itself, name_twice, name_types, name_word, no_resource, option_map, option_map_or, option_or, part_includes, parts, path_id, role_names, same_address, same_address-equal, scope, scope_names, shape_end, shape_of, slice_get, slice_get-map, used, used_at, words, written_types}
+use Rattle.wit_syntax.proofs.Common.{Address, AllDiffer, AtForeign, AtResource, Body, Contains-append_left, Defined, DefinedTwice, Elsewhere, End, Fault, ForeignName, Handle, Id, Include, IncludeStability, InterfaceIncluded, IsBroken, IsCyclicEdge, IsMissingEdge, IsNoType, IsOrder, Item, MissingName, OfFunction, OfNothing, PackageFile, Part, Row, Scope, ScopeName, SourceFunction, UseName, Used, Word, address, all_items, all_scopes, at_contains, at_part, body_types, bytes_eq, cases_Bool, contains_at, cyclic_at, defined, defined_at, differ_at, find_at, find_passes, find_some, flat_map, flat_map_at, flat_map_has, function_used, functions, handles, if◌then◌else◌, include_path, includes, interface_there, is_world_at, item_at, item_name, item_named, item_types, leads, list_any, local_id, local_name, map, meaning, missing_at, name_equal, name_itself, name_twice, name_types, name_word, no_resource, option_map, option_map_or, option_or, part_includes, parts, path_id, role_names, same_address, same_address-equal, scope, scope_names, shape_end, shape_of, slice_get, slice_get-map, used, used_at, words, written_types, is_none}
 use Rattle.wit_type_tree.specs.declared.types.TypeDef.{TypeDef}
 use Rattle.wit_type_tree.specs.declared.types.«Type».{«Type» as Written}
 use Rattle.wit_syntax.specs.Broken.{Metadata}
@@ -13,7 +13,7 @@ use Rattle.wit_first.proofs.First.{any_some}
 use Rattle.wit_first.proofs.OrderFaults.{order_broken}
 use Rattle.wit_first.proofs.Repeats.{repeat_second}
 use Rattle.wit_walk.specs.Definitions.{definition_fault, end_fault, handle_fault}
-use Rattle.wit_walk.specs.Names.{lost_use, name_fault, unless_meant, use_fault}
+use Rattle.wit_walk.specs.Names.{lost_use, name_fault, use_fault}
 use Rattle.wit_walk.specs.Orders.{Outcome, InOrder, AtMissing, AtCycle, IsOutcome, order_fault, order_of}
 use Rattle.wit_walk.specs.Paths.{include_fault, interface_fault}
 use Rattle.wit_walk.proofs.TypeFaults.{IsOf, handles_among, type_wrong}
@@ -39,7 +39,7 @@ if_false true g h is = absurd (let e : ⊥ = cc in e)
 if_false false g h is = refl
 
 -- a name that means nothing
-pub unmeant : (m : Option ScopeName) (lost f : Fault) → unless_meant m lost ≡ Some f → (m ≡ None) × (f ≡ lost)
+pub unmeant : (m : Option ScopeName) (lost f : Fault) → (if is_none m then Some lost else None) ≡ Some f → (m ≡ None) × (f ≡ lost)
 unmeant None lost f h = (refl, same_fault f lost h)
 unmeant (Some x) lost f h = absurd (let g : ⊥ = cc in g)
 
@@ -76,15 +76,15 @@ record IsLostUse (files : List PackageFile) (from : Address) (n : UseName) (f : 
   pub missing : meaning (scope_names target) n.name.name.now ≡ None
   pub is : f ≡ lost_use target n.name
 
-lost_by : (files : List PackageFile) (from : Address) (n : UseName) (f : Fault) (o : Option Item) → item_at (all_items files) from ≡ o → option_map_or (λ (target : Item). unless_meant (meaning (scope_names target) n.name.name.now) (lost_use target n.name)) o None ≡ Some f → IsLostUse files from n f
+lost_by : (files : List PackageFile) (from : Address) (n : UseName) (f : Fault) (o : Option Item) → item_at (all_items files) from ≡ o → option_map_or (λ (target : Item). if is_none (meaning (scope_names target) n.name.name.now) then Some (lost_use target n.name) else None) o None ≡ Some f → IsLostUse files from n f
 lost_by files from n f None at h = absurd (let g : ⊥ = cc in g)
 lost_by files from n f (Some t) at h = let it = unmeant (meaning (scope_names t) n.name.name.now) (lost_use t n.name) f h in record { target = t; at = at; missing = it.0; is = it.1 }
 
 -- the first fault of the order of a table
 pub outcome_broken : (lost : Id → Fault) (number : ℕ) (sort : List ℕ) (rs : List Row) (o : Outcome) (f : Fault) → IsOutcome rs o → order_fault lost (cyclic_at number sort) o ≡ Some f → IsMissingEdge lost rs f ⊎ IsCyclicEdge number sort rs f
 outcome_broken lost number sort rs (InOrder order) f x h = absurd (let g : ⊥ = cc in g)
-outcome_broken lost number sort rs (AtMissing id) f x h = order_broken lost number sort rs f (inl (x.0, x.1, x.2, same_fault f (lost id) h ∙ ap lost (sym x.3)))
-outcome_broken lost number sort rs (AtCycle id) f x h = order_broken lost number sort rs f (inr (x.0, x.1, x.2, same_fault f (cyclic_at number sort id) h ∙ ap (cyclic_at number sort) (sym x.3)))
+outcome_broken lost number sort rs (AtMissing id) f x h = order_broken lost number sort rs f (inl (x.0, x.1, record { id = id; first = x.2 }, same_fault f (lost id) h))
+outcome_broken lost number sort rs (AtCycle id) f x h = order_broken lost number sort rs f (inr (x.1, x.2, record { complete = x.0; id = id; first = x.3 }, same_fault f (cyclic_at number sort id) h))
 
 pub outcome_order : (lost round : Id → Fault) (rs : List Row) (o : Outcome) → IsOutcome rs o → order_fault lost round o ≡ None → IsOrder rs (order_of o)
 outcome_order lost round rs (InOrder order) x h = x

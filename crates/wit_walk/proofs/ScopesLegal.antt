@@ -1,6 +1,6 @@
 -- Where the walk finds nothing in the names and definitions of an item, no rule about them is broken.
 use Rattle.std.proofs.Common.{◌≡◌, ◌≤◌, ℕ, zero, suc, List, [], ◌++◌, take, Option, Some, None, inl, inr, ap, ◌∙◌, subst, Contains, arith}
-use Rattle.wit_syntax.proofs.Common.{Address, AliasForm, AllDiffer, Attribute, Contains-append_cases, Defined, Elsewhere, End, Fault, ForeignName, Form, Id, IsBrokenBody, IsBrokenMetadata, IsNoResource, IsOrder, IsSecond, Item, More, Of, PackageFile, Prim, ScopeName, Shape, Shapes, UseName, Used, Word, about_name, address, all_declared, all_items, at_contains, at_prefix, body_types, contains_at, defined, defined_has, first_named, flat_map, functions, handles, in_order, in_order_all, item_at, item_name, item_named, item_types, local_id, local_name, map, meaning, meant_end, name_twice, name_types, named_end, no_resource, option_map_or, option_or, rows_of, scope, scope_names, shape_end, slice_get, unwrap_or, used, used_has, written_types}
+use Rattle.wit_syntax.proofs.Common.{Address, AliasForm, AllDiffer, Attribute, Contains-append_cases, Defined, Elsewhere, End, Fault, ForeignName, Form, Id, IsBrokenBody, IsBrokenMetadata, IsNoResource, IsOrder, IsSecond, Item, More, Of, PackageFile, Prim, ScopeName, Shape, Shapes, UseName, Used, Word, about_name, address, all_declared, all_items, at_contains, at_prefix, body_types, contains_at, defined, defined_has, first_named, flat_map, functions, handles, in_order, in_order_all, item_at, item_name, item_named, item_types, local_id, local_name, map, meaning, meant_end, name_twice, name_types, named_end, no_resource, option_map_or, option_or, rows_of, scope, scope_names, shape_end, slice_get, unwrap_or, used, used_has, written_types, if◌then◌else◌, is_none}
 use Rattle.wit_type_tree.specs.declared.types.TypeDef.{TypeDef}
 use Rattle.wit_type_tree.specs.declared.types.«Type».{«Type» as Written}
 use Rattle.wit_syntax.specs.Shape.{End as NoShape}
@@ -11,7 +11,7 @@ use Rattle.wit_first.specs.TypeFaults.{type_fault}
 use Rattle.wit_first.proofs.Bridge.{after_only, in_only, list_agrees, metadata_agree, or_none_both, repeat_agrees}
 use Rattle.wit_first.proofs.Repeats.{after_kept}
 use Rattle.wit_walk.specs.Definitions.{definition_fault, end_fault, handle_fault}
-use Rattle.wit_walk.specs.Names.{lost_use, name_fault, unless_meant, use_fault}
+use Rattle.wit_walk.specs.Names.{lost_use, name_fault, use_fault}
 use Rattle.wit_walk.proofs.FilesLegal.{flat_has}
 use Rattle.wit_walk.proofs.FunctionsLegal.{meant_none}
 use Rattle.wit_walk.proofs.TypesLegal.{handles_at, handles_free, type_legal}
@@ -52,7 +52,7 @@ module _ (files : List PackageFile) (i : Item) (none : first_after (name_fault f
   pub names_legal : AllDiffer (map item_name (all_items files)) → (from : Address) (attributes : List Attribute) (n : UseName) → Contains xs (Used from attributes n) → (target : Item) → from ≡ address target → item_named (all_items files) (item_name target) ≡ Some target → meaning (scope_names target) n.name.name.now ≡ None → ⊥
   names_legal differ from attributes n among target is found =
       let at : item_at (all_items files) from ≡ Some target = ap (item_at (all_items files)) is ∙ first_named (all_items files) target (all_declared files) differ found in
-      meant_none (meaning (scope_names target) n.name.name.now) (lost_use target n.name) (subst (λ (o : Option Item). option_map_or (λ (t : Item). unless_meant (meaning (scope_names t) n.name.name.now) (lost_use t n.name)) o None ≡ None) at (use_none from attributes n among))
+      meant_none (meaning (scope_names target) n.name.name.now) (lost_use target n.name) (subst (λ (o : Option Item). option_map_or (λ (t : Item). if is_none (meaning (scope_names t) n.name.name.now) then Some (lost_use t n.name) else None) o None ≡ None) at (use_none from attributes n among))
 
   -- no name repeats
   pub twice_legal : (f : Fault) → IsSecond local_name as_stated (used xs ++ defined xs) f → ⊥

@@ -4,7 +4,7 @@ use Rattle.wit_syntax.proofs.Common.{Exported, Fault, FuncForm, Imported, Includ
 use Rattle.wit_type_tree.specs.declared.types.FuncForm.TheVariants as form
 use Rattle.wit_first.proofs.Bridge.{any_found, in_some, or_some}
 use Rattle.wit_first.proofs.First.{any_some}
-use Rattle.wit_walk.specs.Setters.{is_setter, setter_fault, setters_beside, setters_fault, side_setters_fault}
+use Rattle.wit_walk.specs.Setters.{is_setter, setter_fault, setters_fault, side_setters_fault, setters_beside}
 use Rattle.wit_walk.proofs.ScopeFaults.{if_some}
 
 form_is : (it : FuncForm) → is_setter it ≡ true → it ≡ form.Setter

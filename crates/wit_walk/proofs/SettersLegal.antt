@@ -1,8 +1,8 @@
 -- Where the walk finds no setter without its getter, each has one.
-use Rattle.std.proofs.Common.{◌≡◌, ◌&&◌, not, List, [], None, inl, inr, ap, subst}
+use Rattle.std.proofs.Common.{◌≡◌, ◌&&◌, not, List, None, inl, inr, ap, subst, []}
 use Rattle.wit_syntax.proofs.Common.{Exported, Fault, Imported, Include, IsSetterAlone, Item, SourceFunction, WorldSide, and_from, at_contains, bytes_eq, cases_Bool, contains_at, functions, getter_of, list_any, lone_setter, name_equal, not_from_false, on_side}
 use Rattle.wit_first.proofs.Bridge.{any_found, in_only, or_none_both}
-use Rattle.wit_walk.specs.Setters.{is_setter, setter_fault, setters_beside, setters_fault, side_setters_fault}
+use Rattle.wit_walk.specs.Setters.{is_setter, setter_fault, setters_fault, side_setters_fault, setters_beside}
 use Rattle.wit_walk.proofs.ScopeFaults.{if_none}
 
 side_none : (i : Item) → setters_beside i [] ≡ None → (side : WorldSide) → side_setters_fault i side ≡ None

@@ -6,7 +6,7 @@ use Rattle.std.specs.Str.{bytes_eq}
 use Rattle.wit_tree.specs.declared.tree.PackageFile.{PackageFile}
 use Rattle.wit_tree.specs.declared.tree.WorldSide.{WorldSide}
 use Rattle.wit_values.specs.declared.span.Span.{Span}
-use Rattle.wit_syntax.specs.Fault.{Fault, name_crossed}
+use Rattle.wit_syntax.specs.Fault.{Fault, fault_in}
 use Rattle.wit_syntax.specs.Function.{Role, OnSide}
 use Rattle.wit_syntax.specs.SignatureRules.{Called, name_called}
 use Rattle.wit_syntax.specs.Sides.{SideItem, SideFunction, SideLink, SideInline, item_called, item_function, item_side, items_on, inline_item, is_interface, names_on, side_called}
@@ -18,6 +18,7 @@ use Rattle.wit_walk.specs.Definitions.{handle_fault}
 use Rattle.wit_walk.specs.Functions.{function_fault, signed_fault}
 use Rattle.wit_walk.specs.Names.{folded_fault}
 use Rattle.wit_walk.specs.Paths.{link_fault}
+use Rattle.wit_syntax.specs.Words.{side_word}
 
 -- what a world imports or exports, and no function of an interface or a resource
 abbrev pub is_on_side : Role → Bool
@@ -34,8 +35,7 @@ Sorted = List ℕ × List ℕ
 
 abbrev pub sort_of : SideItem → List ℕ
 sort_of (SideFunction fn) = codes "func"
-sort_of (SideLink link) = codes "interface"
-sort_of (SideInline x name items) = codes "interface"
+sort_of x = codes "interface"
 
 abbrev pub item_sorted : SideItem → List Sorted
 item_sorted x = map (λ (c : Called). (c.name, sort_of x)) (item_called x)
@@ -51,7 +51,7 @@ sort_among (s ∷ rest) name = if bytes_eq s.0 name then s.1 else sort_among res
 
 -- what is imported or exported has the name of one of these
 abbrev pub crossed : WorldSide → List Sorted → List ℕ → Span → Fault
-crossed side there name span = name_crossed side (sort_among there name) name span
+crossed side there name span = fault_in 44 span (side_word side ++ (codes " `" ++ (name ++ (codes "` conflicts with prior " ++ (sort_among there name ++ codes " of same name")))))
 
 -- of a name after these of its side: one of them is spelled alike, where it is that of an import or export, and then one has its folded key
 abbrev pub called_fault : Bool → (List ℕ → Span → Fault) → List Called → Called → Option Fault

@@ -1,8 +1,8 @@
 -- What comes of ordering a table: an order, or the name at which there is none.
-use Rattle.std.specs.Prelude.{◌≡◌, ℕ, List, [], Option, None, Some}
+use Rattle.std.specs.Prelude.{ℕ, List, [], Option, None, Some}
 use Rattle.wit_type_tree.specs.declared.leaves.Id.{Id}
-use Rattle.wit_graph.specs.Table.{Row, IsOrder}
-use Rattle.wit_graph.specs.TableFaults.{IsFirstMissing, IsFirstCyclic}
+use Rattle.wit_graph.specs.Edges.{IsFirstEdge}
+use Rattle.wit_graph.specs.Table.{Row, IsComplete, IsCyclic, IsEdge, IsMissing, IsOrder}
 use Rattle.wit_syntax.specs.Fault.{Fault}
 
 pub data Outcome : Type 0 where
@@ -13,12 +13,8 @@ pub data Outcome : Type 0 where
 -- the least order; or the first missing name; or, where none is missing, the first whose edge has two ends that reach a cycle
 abbrev pub IsOutcome : List Row → Outcome → Type 0
 IsOutcome rs (InOrder order) = IsOrder rs order
-IsOutcome rs (AtMissing id) = (place index : ℕ) × (first : IsFirstMissing rs place index) × (first.id ≡ id)
-IsOutcome rs (AtCycle id) = (place index : ℕ) × (first : IsFirstCyclic rs place index) × (first.id ≡ id)
-
--- an outcome for each table
-pub record AreOutcomes (outcome : List Row → Outcome) : Type 0 where
-  pub each : (rs : List Row) → IsOutcome rs (outcome rs)
+IsOutcome rs (AtMissing id) = (place index : ℕ) × IsFirstEdge (IsEdge rs) (IsMissing rs) place index id
+IsOutcome rs (AtCycle id) = IsComplete rs × (place index : ℕ) × IsFirstEdge (IsEdge rs) (IsCyclic rs) place index id
 
 abbrev pub order_of : Outcome → List ℕ
 order_of (InOrder order) = order

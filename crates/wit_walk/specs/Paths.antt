@@ -1,5 +1,5 @@
 -- The first fault of an include, E30 to E34 and E11; and of an import or export by a path, E30 to E35, E7, E10 and E43.
-use Rattle.std.specs.Prelude.{◌&&◌, if◌then◌else◌, Bool, true, false, List, Option, None, Some, is_none}
+use Rattle.std.specs.Prelude.{◌&&◌, if◌then◌else◌, Bool, false, List, Option, None, Some, is_none}
 use Rattle.std.specs.List.{flat_map, list_any}
 use Rattle.std.specs.Option.{option_or}
 use Rattle.wit_type_tree.specs.declared.leaves.Id.{Id}
@@ -7,11 +7,11 @@ use Rattle.wit_tree.specs.declared.tree.Include.{Include}
 use Rattle.wit_tree.specs.declared.tree.PackageFile.{PackageFile}
 use Rattle.wit_syntax.specs.Address.{same_address}
 use Rattle.wit_syntax.specs.Broken.{is_world_at}
-use Rattle.wit_syntax.specs.Fault.{Fault, world_there, interface_there, linked_twice}
+use Rattle.wit_syntax.specs.Fault.{Fault, interface_there, linked_twice}
 use Rattle.wit_syntax.specs.Sides.{Link, SideItem, item_link, items_on}
-use Rattle.wit_syntax.specs.Source.{TopName, all_items, leads, path_id, path_scope}
+use Rattle.wit_syntax.specs.Source.{TopName, leads, path_id, path_scope}
 use Rattle.wit_first.specs.AttributeFaults.{metadata_fault, stability_fault}
-use Rattle.wit_first.specs.FileFaults.{lost_fault}
+use Rattle.wit_first.specs.UseFaults.{path_fault}
 
 -- where a world is wanted: an interface is there
 abbrev pub interface_fault : Option Bool → Id → Option Fault
@@ -29,11 +29,6 @@ is_same_link top a b = is_none a.name && (is_none b.name && same_address (path_s
 abbrev pub linked_fault : List TopName → List SideItem → Link → Option Fault
 linked_fault top before link = if list_any (λ (l : Link). is_same_link top l link) (flat_map item_link (items_on link.side before)) then Some (linked_twice link.side (path_id link.path).span) else None
 
--- where the path of an import or export leads, by what is there: nothing, a world, or an interface
-abbrev pub there_fault : Option Bool → Id → (lost twice : Option Fault) → Option Fault
-there_fault None id lost twice = lost
-there_fault (Some true) id lost twice = Some (world_there id)
-there_fault (Some false) id lost twice = twice
-
+-- and of an import or export by its path, which leads to an interface
 abbrev pub link_fault : List PackageFile → List TopName → List SideItem → Link → Option Fault
-link_fault files top before link = option_or (metadata_fault link.attributes) (there_fault (is_world_at files (leads top link.path)) (path_id link.path) (lost_fault (all_items files) (leads top link.path)) (linked_fault top before link))
+link_fault files top before link = option_or (metadata_fault link.attributes) (path_fault files top link.path (linked_fault top before link))

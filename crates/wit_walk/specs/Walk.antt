@@ -1,24 +1,23 @@
 -- The first fault of files: what `resolve` looks for, in this order.
-use Rattle.std.specs.Prelude.{◌≡◌, ℕ, ◌≤◌, List, [], ◌∷◌, ◌++◌, map, Option, None, Some}
-use Rattle.wit_tree.specs.declared.tree.PackageName.{PackageName as Header}
+use Rattle.std.specs.Prelude.{◌≡◌, ℕ, ◌≤◌, List, [], ◌∷◌, ◌++◌, map, Option, None, Some, if◌then◌else◌, is_none}
 use Rattle.wit_tree.specs.declared.tree.PackageFile.{PackageFile}
 use Rattle.wit_graph.specs.Table.{Row}
 use Rattle.wit_syntax.specs.Broken.{last_header}
 use Rattle.wit_syntax.specs.Fault.{Fault, fault, missing_at, missing_type_at, cyclic_at, item_word, type_word}
-use Rattle.wit_syntax.specs.Foreign.{foreign_visits}
+use Rattle.wit_syntax.specs.Foreign.{foreign_visits, ForeignVisit}
 use Rattle.wit_syntax.specs.ScopeTables.{item_rows, rows_of, in_order, in_turn, used, defined, includes, interfaces_of, worlds_of}
 use Rattle.wit_syntax.specs.Sides.{side_items}
 use Rattle.wit_syntax.specs.SignatureRules.{name_called}
 use Rattle.wit_syntax.specs.Source.{Item, about, address, all_items, scope_names}
 use Rattle.wit_first.specs.AttributeFaults.{stability_fault}
-use Rattle.wit_first.specs.FileFaults.{files_fault, tops_fault, visits_fault}
+use Rattle.wit_first.specs.FileFaults.{files_fault, tops_fault}
 use Rattle.wit_first.specs.First.{first_in, first_after}
 use Rattle.wit_first.specs.NameFaults.{item_names_fault}
 use Rattle.wit_first.specs.UseFaults.{all_uses_fault}
 use Rattle.wit_walk.specs.Definitions.{definition_fault, handle_fault}
 use Rattle.wit_walk.specs.Members.{member_fault}
 use Rattle.wit_walk.specs.Names.{name_fault, folded_fault}
-use Rattle.wit_walk.specs.Orders.{Outcome, AreOutcomes, order_of, order_fault}
+use Rattle.wit_walk.specs.Orders.{Outcome, IsOutcome, order_of, order_fault}
 use Rattle.wit_walk.specs.Paths.{include_fault}
 use Rattle.wit_walk.specs.Setters.{setters_fault}
 
@@ -48,23 +47,15 @@ scope_faults files steps inside i outcome =
 abbrev pub ordered_fault : List PackageFile → Known → (Item → Option Fault) → Item → Option Fault
 ordered_fault files known inside i = earliest (scope_faults files known.steps inside i (known.outcome (rows_of (scope_names i))))
 
--- of an inline interface, in which there is none; and of an item with those that are written in it
-abbrev pub inline_fault : List PackageFile → Known → Item → Option Fault
-inline_fault files known i = ordered_fault files known (λ other. None) i
-
 abbrev pub contents_fault : List PackageFile → Known → Item → Option Fault
-contents_fault files known i = ordered_fault files known (inline_fault files known) i
-
-abbrev pub header_fault : Option Header → Option Fault
-header_fault None = Some (fault 4 (record { start = 0; end = 0 }))
-header_fault (Some header) = None
+contents_fault files known i = ordered_fault files known (ordered_fault files known (λ (v : Item). None)) i
 
 -- Of files, where this is the outcome of ordering their items. A line a step: E4; E30 to E34 before paths to other packages; E5; E6 and E7, file by
 -- file; E7 and E8; E9 and E7; E30 to E35, E7 and E10 of uses; and what is in interfaces, and then in worlds.
 abbrev pub walk_faults : List PackageFile → Known → Outcome → List (Option Fault)
 walk_faults files known outcome =
-    (header_fault (last_header files)
-    ∷ visits_fault (foreign_visits files)
+    ((if is_none (last_header files) then Some (fault 4 (record { start = 0; end = 0 })) else None)
+    ∷ first_in (λ (v : ForeignVisit). stability_fault v.attributes) (foreign_visits files)
     ∷ item_names_fault files
     ∷ files_fault files
     ∷ order_fault (missing_at 7 item_word) (cyclic_at 8 item_word) outcome
@@ -80,7 +71,7 @@ first_fault files known = earliest (walk_faults files known (known.outcome (item
 -- that is what the walk comes to, in as many steps as it takes to find where names end, or more
 pub record ComesTo (files : List PackageFile) (first : Option Fault) : Type 0 where
   pub outcome : List Row → Outcome
-  pub outcomes : AreOutcomes outcome
+  pub outcomes : (rs : List Row) → IsOutcome rs (outcome rs)
   pub enough : ℕ
   pub is : (steps : ℕ) → enough ≤ steps → first_fault files (record { outcome = outcome; steps = steps }) ≡ first
 

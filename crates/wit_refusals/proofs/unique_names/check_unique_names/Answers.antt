@@ -1,5 +1,5 @@
 use Rattle.std.proofs.Common.{◌≡◌, ℕ, List, Some, inl, inr, ap, sym, subst, ◌∙◌, take}
-use Rattle.wit_syntax.proofs.Common.{AllDiffer, Id, IsRepeatAt, clash, folded, map, map_at, slice_get, slice_get-get_or, slice_get_within}
+use Rattle.wit_syntax.proofs.Common.{AllDiffer, Id, IsRepeatAt, clash, lower_case, map, map_at, slice_get, slice_get-get_or, slice_get_within}
 use Rattle.std.specs.Borrow.{Bor}
 use Rattle.wit_first.proofs.Clashes.{no_clashes, clash_first}
 use Rattle.wit_first.specs.ListFaults.{clash_fault}
@@ -12,21 +12,21 @@ returns-in-Some c =
     let first : ℕ = c.in-Some.first in
     let second : ℕ = c.in-Some.second in
     let later = c.index-names-second.result in
-    let keys = ap (map (λ (t : Bor (List ℕ)). folded t.now)) c.deref.ensures.value ∙ names-folded c.in_ok-texts.texts.items names c.in_ok-texts.ensures in
-    let r : IsRepeatAt (map (λ (id : Id). folded id.name.now) names) first second = subst (λ ks. IsRepeatAt ks first second) keys (rw c.in-Some.is at c.in_ok-first.ensures.some) in
-    let d : AllDiffer (take second (map (λ (id : Id). folded id.name.now) names)) = subst (λ ks. AllDiffer (take second ks)) keys (rw c.in-Some.is at c.in_ok-first.ensures.first) in
-    let x = map_at (λ (id : Id). folded id.name.now) names second r.x r.at_second in
+    let keys = ap (map (λ (t : Bor (List ℕ)). lower_case t.now)) c.deref.ensures.value ∙ names-folded c.in_ok-texts.texts.items names c.in_ok-texts.ensures in
+    let r : IsRepeatAt (map (λ (id : Id). lower_case id.name.now) names) first second = subst (λ ks. IsRepeatAt ks first second) keys (rw c.in-Some.is at c.in_ok-first.ensures.some) in
+    let d : AllDiffer (take second (map (λ (id : Id). lower_case id.name.now) names)) = subst (λ ks. AllDiffer (take second ks)) keys (rw c.in-Some.is at c.in_ok-first.ensures.first) in
+    let x = map_at (λ (id : Id). lower_case id.name.now) names second r.x r.at_second in
     let at : slice_get names second ≡ Some later = slice_get-get_or names second later (slice_get_within names second x.0 x.1) ∙ ap Some (sym c.index-names-second.is) in
-    let e = map_at (λ (id : Id). folded id.name.now) names first r.x r.at_first in
+    let e = map_at (λ (id : Id). lower_case id.name.now) names first r.x r.at_first in
     let earlier = c.index-names-first.result in
     let before : slice_get names first ≡ Some earlier = slice_get-get_or names first earlier (slice_get_within names first e.0 e.1) ∙ ap Some (sym c.index-names-first.is) in
     elim (c.refuse_in.ensures (clash c.args.desc.now earlier.name.now later.name.now) c.clash-words.ensures) [
       | inl memory ↦ inl memory
-      | inr says ↦ inr (clash_first (λ (id : Id). folded id.name.now) (clash_fault c.args.desc.now) names first second earlier later r d before at ∙ ap Some (sym says))
+      | inr says ↦ inr (clash_first (λ (id : Id). lower_case id.name.now) (clash_fault c.args.desc.now) names first second earlier later r d before at ∙ ap Some (sym says))
     ]
 
 pub returns : goal.returns
 returns c =
     let names = c.args.names.now in
-    let keys = ap (map (λ (t : Bor (List ℕ)). folded t.now)) c.deref.ensures.value ∙ names-folded c.in_ok-texts.texts.items names c.in_ok-texts.ensures in
-    no_clashes (λ (id : Id). folded id.name.now) (clash_fault c.args.desc.now) names (subst AllDiffer keys (rw c.in-None.is at c.in_ok-first.ensures.none))
+    let keys = ap (map (λ (t : Bor (List ℕ)). lower_case t.now)) c.deref.ensures.value ∙ names-folded c.in_ok-texts.texts.items names c.in_ok-texts.ensures in
+    no_clashes (λ (id : Id). lower_case id.name.now) (clash_fault c.args.desc.now) names (subst AllDiffer keys (rw c.in-None.is at c.in_ok-first.ensures.none))
