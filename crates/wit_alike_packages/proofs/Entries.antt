@@ -96,10 +96,10 @@ module _ (id : Key → ℕ) where
       zip_same SameFunction (named_function (address i)) (named_function (address j))
       (λ f g same. ap₂ (λ (name : List ℕ) (fn : Function). (name, fn)) same.name (same_function_in (address i) (address j) (same_item_address i j h) f g same)) (functions i) (functions j) (same_functions i j h)
 
-  module _ (order : Address → List ℕ) where
+  module _ (order : Item → List ℕ) (by_address : (i j : Item) → address i ≡ address j → order i ≡ order j) where
     pub same_own_interface : (i j : Item) → SameItem i j → own_interface id order i ≡ own_interface id order j
     same_own_interface i j h =
-        let types = same_name_places (address i) (address j) (same_item_address i j h) (names_in_turn order i) (names_in_turn order j) (same_names_in_turn order i j h) in
+        let types = same_name_places (address i) (address j) (same_item_address i j h) (names_in_turn order i) (names_in_turn order j) (same_names_in_turn order by_address i j h) in
         let types_i = name_places id (address i) (names_in_turn order i) in
         let types_j = name_places id (address j) (names_in_turn order j) in
         let fns = placed Some (map (named_function (address i)) (functions i)) in
@@ -193,7 +193,7 @@ same_settled (n ∷ ns) [] xs ys h e = absurd h
 same_settled (n ∷ ns) (m ∷ ms) xs ys h e = e
 
 -- ---- worlds
-module _ (id : Key → ℕ) (order : Address → List ℕ) (ss ws : List Address) where
+module _ (id : Key → ℕ) (order : Item → List ℕ) (by_address : (i j : Item) → address i ≡ address j → order i ≡ order j) (ss ws : List Address) where
   same_world_entries : (i j : Item) → SameItem i j → world_entries id ss i ≡ world_entries id ss j
   same_world_entries i j h =
       same_entries (function_in id (address i)) (function_in id (address j)) (same_function_in id (address i) (address j) (same_item_address i j h)) ss i.top j.top h.0 (side_items i) (side_items j) (same_side_items i j h) (inline_items i) (inline_items j) (same_inline_items i j h)
@@ -206,7 +206,7 @@ module _ (id : Key → ℕ) (order : Address → List ℕ) (ss ws : List Address
       let Seen : Include → Include → Type 0 = λ n m. see_include n ≡ see_include m in
       let there = same_includes i j h in
       let crossing = same_world_entries i j h in
-      let names = same_name_imports id (address i) (address j) (same_item_address i j h) (names_in_turn order i) (names_in_turn order j) (same_names_in_turn order i j h) in
+      let names = same_name_imports id (address i) (address j) (same_item_address i j h) (names_in_turn order i) (names_in_turn order j) (same_names_in_turn order by_address i j h) in
       let imports : imports_of i ≡ imports_of j = ap₂ (λ (l : List Entry) (es : List Sided). l ++ entries_on Imported es) names crossing in
       let imported = same_settled (includes i) (includes j) (imports_of i) (imports_of j) there imports in
       let exported = same_settled (includes i) (includes j) (entries_on Exported (world_entries id ss i)) (entries_on Exported (world_entries id ss j)) there (ap (entries_on Exported) crossing) in

@@ -1,6 +1,6 @@
 -- Files that are alike make one package.
 use Rattle.std.proofs.Common.{◌≡◌, ℕ, List, ◌++◌, map, take, Some, inl, inr, refl, ap, ap₂, sym, ◌∙◌, subst}
-use Rattle.wit_syntax.proofs.Common.{Address, AllZip, Contains, Form, IsOrder, Item, Metadata, PackageFile, Row, ScopeName, Span, Stability, TypeDef, TypeOwner, about_name, address, all_items, all_scopes, firsts, flat_map, foreign_interfaces, foreign_uses, foreign_worlds, in_order, item_rows, last_header, one_answer, option_map, package_of, rows_of, same_edges, scope, scope_names, worlds_of}
+use Rattle.wit_syntax.proofs.Common.{Address, AllZip, Contains, Form, IsOrder, Item, Metadata, PackageFile, Row, ScopeName, Span, Stability, TypeDef, TypeOwner, about_name, all_items, all_scopes, firsts, flat_map, foreign_interfaces, foreign_uses, foreign_worlds, in_order, item_rows, last_header, one_answer, option_map, package_of, rows_of, same_edges, scope, scope_names, worlds_of}
 use Rattle.wit_tree.specs.declared.tree.PackageName.{PackageName as Header}
 use Rattle.wit_types.specs.declared.types.«Type».{«Type» as Ty}
 use Rattle.wit_arena.proofs.Common.{Def, Exprs, Interface, IsEntryOf, Key, Kind, Makes, Occurrence, UnresolvedPackage, Whole, World, all_occurrences, entry, foreign_interface, foreign_use_occurrence, foreign_world, interface_scopes, item_turns, keys, name_exprs, own_interface, own_interfaces, own_world, owner_at, turn_handles, turn_occurrences, types_of, world_scopes}
@@ -54,14 +54,14 @@ module _ (files others : List PackageFile) (h : AllZip SameFile files others) (p
   items_alike : AllZip SameItem m.items items
   items_alike = subst (λ (l : List Item). AllZip SameItem l items) (sym m.in_order.2) (same_in_order SameItem (all_items files) (all_items others) m.in_order.0 m.in_order.0 refl (same_all_items files others h))
 
-  names_in_order : (j : Item) → Contains (all_scopes others) j → IsOrder (rows_of (scope_names j)) (m.order (address j))
+  names_in_order : (j : Item) → Contains (all_scopes others) j → IsOrder (rows_of (scope_names j)) (m.order j)
   names_in_order j among =
       let it = like_among (λ (y x : Item). SameItem x y) (all_scopes others) (all_scopes files) (zip_back SameItem (all_scopes files) (all_scopes others) (same_all_scopes files others h)) j among in
-      order_alike (rows_of (scope_names it.0)) (rows_of (scope_names j)) (same_rows (scope_names it.0) (scope_names j) (same_scope_names it.0 j it.2)) (m.order (address j))
-      (subst (λ (s : Address). IsOrder (rows_of (scope_names it.0)) (m.order s)) (same_item_address it.0 j it.2) (m.names_in_order it.0 it.1))
+      order_alike (rows_of (scope_names it.0)) (rows_of (scope_names j)) (same_rows (scope_names it.0) (scope_names j) (same_scope_names it.0 j it.2)) (m.order j)
+      (subst (IsOrder (rows_of (scope_names it.0))) (m.by_address it.0 j (same_item_address it.0 j it.2)) (m.names_in_order it.0 it.1))
 
   turns : AllZip SameTurn (item_turns m.order m.items) (item_turns m.order items)
-  turns = same_item_turns m.order m.items items items_alike
+  turns = same_item_turns m.order m.by_address m.items items items_alike
 
   occurrences : all_occurrences files (item_turns m.order m.items) ≡ all_occurrences others (item_turns m.order items)
   occurrences =
@@ -87,14 +87,14 @@ module _ (files others : List PackageFile) (h : AllZip SameFile files others) (p
   interfaces =
       m.interfaces
       ∙ ap₂ (λ (l n : List Interface). l ++ n) (all_foreign_interfaces files others h m.id)
-      (zip_same SameItem (own_interface m.id m.order) (own_interface m.id m.order) (same_own_interface m.id m.order) (own_interfaces m.items) (own_interfaces items) (same_own_interfaces m.items items items_alike))
+      (zip_same SameItem (own_interface m.id m.order) (own_interface m.id m.order) (same_own_interface m.id m.order m.by_address) (own_interfaces m.items) (own_interfaces items) (same_own_interfaces m.items items items_alike))
 
   worlds : p.worlds ≡ map foreign_world (foreign_worlds others) ++ map (own_world m.id m.order ss ws) (worlds_of items)
   worlds =
       m.worlds
       ∙ ap₂ (λ (l n : List Address). map foreign_world (foreign_worlds files) ++ map (own_world m.id m.order l n) (worlds_of m.items)) interfaces_there worlds_there
       ∙ ap₂ (λ (l n : List World). l ++ n) (all_foreign_worlds files others h)
-      (zip_same SameItem (own_world m.id m.order ss ws) (own_world m.id m.order ss ws) (same_own_world m.id m.order ss ws) (worlds_of m.items) (worlds_of items) (same_worlds m.items items items_alike))
+      (zip_same SameItem (own_world m.id m.order ss ws) (own_world m.id m.order ss ws) (same_own_world m.id m.order m.by_address ss ws) (worlds_of m.items) (worlds_of items) (same_worlds m.items items items_alike))
 
   header : {A : Type 0} (f : Header → A) → ((x y : Header) → SameHeader x y → f x ≡ f y) → option_map f (last_header others) ≡ option_map f (last_header files)
   header f each = sym (both_same SameHeader f f each (last_header files) (last_header others) (both_of see_package_id (last_header files) (last_header others) (same_last files others h)))
@@ -110,6 +110,7 @@ module _ (files others : List PackageFile) (h : AllZip SameFile files others) (p
     items = items;
     in_order = (m.in_order.0, order_alike (item_rows files) (item_rows others) (same_item_rows files others h) m.in_order.0 m.in_order.1, refl);
     order = m.order;
+    by_address = m.by_address;
     names_in_order = names_in_order;
     same = m.same;
     gives = m.gives;

@@ -2,11 +2,11 @@
 use Rattle.std.proofs.Common.{◌≡◌, ℕ, ◌+◌, Bool, not, cond, List, [], ◌∷◌, ◌++◌, map, length, Bor, Option, Some, None, refl, ap, ap₂, sym, ◌∙◌, subst}
 use Rattle.wit_syntax.proofs.Common.{Address, AllZip, AtForeign, AtResource, Contains, Docs, End, EndsAt, ForeignUse, ForeignVisit, Id, Item, PackageFile, PackageName, Span, Stability, Word, address, at_contains, contains_at, docs_of, filter, first_foreign_uses, foreign_interfaces, foreign_items, foreign_packages, foreign_visits, foreign_worlds, headers, if◌then◌else◌, length-map, no_metadata, package_of, prefix_len, same_address, same_item, same_package, scope, shape_end, slice_get, stability_of, visited, worlds_of, ◌==◌}
 use Rattle.wit_tree.specs.declared.tree.PackageName.{PackageName as Header}
-use Rattle.wit_arena.proofs.Common.{AreRequired, AstItem, HandleRequires, Interface, Key, World, dep, first_docs, foreign_entry, foreign_interface, foreign_place, foreign_world, interface, interface_scopes, name_places, own_interfaces, world, world_scopes}
+use Rattle.wit_arena.proofs.Common.{AreRequired, AstItem, HandleRequires, Key, dep, first_docs, foreign_entry, foreign_interface, foreign_place, foreign_world, interface, interface_scopes, name_places, own_interfaces, world, world_scopes}
 use Rattle.wit_model.specs.declared.ast_item.AstItem.TheVariants as entry
 use Rattle.wit_grammar.specs.Trees.{PackageId}
 use Rattle.wit_grammar.specs.Seen.{see_package_id}
-use Rattle.wit_alike.proofs.Lists.{Both, both_of, consed, zip_at, zip_filter, zip_length, zip_same}
+use Rattle.wit_alike.proofs.Lists.{Both, both_of, consed, zip_at, zip_filter, zip_same}
 use Rattle.wit_alike.proofs.Leaves.{SameId, same_span, same_text}
 use Rattle.wit_alike.proofs.Paths.{SameHeader, same_package_of}
 use Rattle.wit_alike.proofs.Items.{SameFile, SameItem, same_item_address}
@@ -183,11 +183,14 @@ module _ (files others : List PackageFile) (h : AllZip SameFile files others) wh
   pub required_alike : (ks : List Key) (hs gs : List (Address × Id)) (rs : List (ℕ × Span)) → AllZip SameHandle hs gs → AreRequired files ks hs rs → AreRequired others ks gs rs
   required_alike ks hs gs rs handles required = (
     required.0,
-    record {
-      count = required.1.count ∙ zip_length SameHandle hs gs handles;
-      each = λ k y r at there_is.
-          let x = like_at (λ (g f : Address × Id). SameHandle f g) gs hs (zip_back SameHandle hs gs handles) k y at in
-          requires_alike ks x.0 y r x.2 (required.1.each k x.0 r x.1 there_is);
-    },
+    each hs gs required.0 handles required.1,
     required.2,
   )
+    where
+      each : (hs gs : List (Address × Id)) (rs : List (Option (ℕ × Span))) → AllZip SameHandle hs gs → AllZip (HandleRequires files ks) hs rs → AllZip (HandleRequires others ks) gs rs
+      each [] [] [] same h = tt
+      each [] [] (r ∷ rs) same h = absurd h
+      each [] (g ∷ gs) rs same h = absurd same
+      each (x ∷ hs) [] rs same h = absurd same
+      each (x ∷ hs) (g ∷ gs) [] same h = absurd h
+      each (x ∷ hs) (g ∷ gs) (r ∷ rs) same h = (requires_alike ks x g r same.0 h.0, each hs gs rs same.1 h.1)

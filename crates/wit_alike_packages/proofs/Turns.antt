@@ -101,9 +101,9 @@ same_turn_handles t u h =
     zip_map SameId SameHandle (λ (id : Id). (t.address, id)) (λ (id : Id). (u.address, id)) (λ a b same. (h.address, same)) (all_handles (all_types t.names t.functions)) (all_handles (all_types u.names u.functions))
     (same_all_handles (all_types t.names t.functions) (all_types u.names u.functions) (same_all_types t.names u.names t.functions u.functions h.names h.functions))
 
-module _ (order : Address → List ℕ) where
+module _ (order : Item → List ℕ) (by_address : (i j : Item) → address i ≡ address j → order i ≡ order j) where
   pub same_names_in_turn : (i j : Item) → SameItem i j → AllZip SameName (names_in_turn order i) (names_in_turn order j)
-  same_names_in_turn i j h = same_in_turn (scope_names i) (scope_names j) (order (address i)) (order (address j)) (ap order (same_item_address i j h)) (same_scope_names i j h)
+  same_names_in_turn i j h = same_in_turn (scope_names i) (scope_names j) (order i) (order j) (by_address i j (same_item_address i j h)) (same_scope_names i j h)
 
   same_interface_turn : (i j : Item) → SameItem i j → SameTurn (interface_turn order i) (interface_turn order j)
   same_interface_turn i j h = record { address = same_item_address i j h; names = same_names_in_turn i j h; functions = same_functions i j h }

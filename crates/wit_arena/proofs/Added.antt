@@ -1,6 +1,6 @@
 -- Interfaces that were added are done.
 use Rattle.std.proofs.Common.{◌≡◌, ℕ, ◌+◌, true, false, List, [], ◌∷◌, ◌++◌, length, map, Option, Some, inl, inr, refl, sym, ap, ◌∙◌, subst, append_assoc, length-append}
-use Rattle.wit_syntax.proofs.Common.{Address, Imported, InterfaceNamed, Item, PackageFile, ScopeName, TypeDef, TypeOwner, address, all_items, append-cancel, append-nil, at_back, at_part, at_prefix, flat_map, foreign_interfaces, foreign_uses, foreign_worlds, functions, functions_imported, in_turn, inline_items, is_foreign, length-map, map-append, option_map, scope, scope_names, slice_get, slice_get-map, unwrap_or, visited}
+use Rattle.wit_syntax.proofs.Common.{Address, Imported, InterfaceNamed, Item, PackageFile, ScopeName, TypeDef, TypeOwner, address, all_items, append-cancel, append-nil, at_back, at_part, at_prefix, flat_map, foreign_interfaces, foreign_uses, foreign_worlds, functions, functions_imported, in_turn, inline_items, is_foreign, length-map, map-append, option_map, scope, scope_names, slice_get, slice_get-map, unwrap_or, visited, about, declared_metadata}
 use Rattle.wit_model.specs.declared.interface.Interface.{Interface}
 use Rattle.wit_model.specs.declared.world.World.{World}
 use Rattle.wit_types.specs.declared.types.TypeOwner.TheVariants as owner
@@ -8,21 +8,22 @@ use Rattle.wit_arena.specs.Occurrences.{Occurrence, Decls}
 use Rattle.wit_arena.specs.SourceFunctions.{placed_functions}
 use Rattle.wit_arena.proofs.FreeNames.{free_of, free_keyed}
 use Rattle.wit_arena.proofs.Stating.{stated_placed}
-use Rattle.wit_arena.specs.UnfoldedTypes.{interface_functions}
-use Rattle.wit_arena.specs.Whole.{Ordered, owner_at, foreign_use_occurrence, all_occurrences, declarations}
+use Rattle.wit_arena.specs.UnfoldedTypes.{interface_functions, IsInterface}
+use Rattle.wit_arena.proofs.Ordered.{Ordered}
+use Rattle.wit_arena.specs.Whole.{owner_at, foreign_use_occurrence, all_occurrences, declarations}
 use Rattle.wit_arena.specs.Resolving.{Names, ResolvedScope, Required, resolved_scope, resolved_scopes, Defines}
-use Rattle.wit_arena.specs.ResolvedArenas.{IsInterfaceOf, AddsDeclared, AddsInterfaces, AddsForeign, AreUsableUses}
+use Rattle.wit_arena.specs.ResolvedArenas.{AddsDeclared, AddsInterfaces, AddsForeign}
 use Rattle.wit_arena.proofs.Adding.{After, adds_after}
 use Rattle.wit_arena.proofs.Indexing.{resolved_scopes-append}
 use Rattle.wit_arena.proofs.Members.{DoneScope, resolved_scope_of, IsDone}
 use Rattle.wit_arena.proofs.Interfaces.{AreItems, AreOfSort, AreAddresses, item_scopes, interface_address, declared_called, own_address, interface_owner_at, world_owner_at, scope_addresses}
-use Rattle.wit_arena.proofs.Visits.{visited_addresses, addresses_join, visited_foreign, address_own}
+use Rattle.wit_arena.proofs.Visits.{AreUsableUses, visited_addresses, addresses_join, visited_foreign, address_own}
 use Rattle.wit_arena.proofs.Prefix.{interface_scopes, world_scopes, prefix_scopes, resolved_scopes-interface_scopes, prefix_at, PrefixInterface, PrefixWorld, prefix_done}
 use Rattle.wit_arena.proofs.ScopesInTurn.{AreDone, IsNextDone, done_prefix}
 
 -- an interface of the arena is the item
 abbrev pub SaysInterface : Ordered → Interface → Type 0
-SaysInterface o i = IsInterfaceOf o.item i
+SaysInterface o i = IsInterface (about o.item.declared).called (about o.item.declared).id.span (declared_metadata o.item.declared) i
 
 -- it has the functions of a scope
 pub record MakesInterface (o : Ordered) (c : DoneScope) (i : Interface) : Type 0 where

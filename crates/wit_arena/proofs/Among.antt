@@ -3,7 +3,7 @@ use Rattle.std.proofs.Common.{◌≡◌, ℕ, ◌+◌, List, ◌++◌, length, S
 use Rattle.wit_syntax.proofs.Common.{Address, ForeignVisit, Item, PackageFile, TypeDef, at_back, at_prefix, flat_map, foreign_interfaces, foreign_worlds, map, slice_get, slice_get_within, visited}
 use Rattle.wit_model.specs.declared.interface.Interface.{Interface}
 use Rattle.wit_model.specs.declared.world.World.{World}
-use Rattle.wit_arena.specs.Whole.{all_inside}
+use Rattle.wit_arena.proofs.Ordered.{all_inside}
 use Rattle.wit_arena.specs.Resolving.{ResolvedScope, Required}
 use Rattle.wit_arena.specs.ResolvedArenas.{WorldArenas}
 use Rattle.wit_arena.proofs.Members.{DoneScope, resolved_scope_of}

@@ -1,6 +1,6 @@
 -- Types that refer only backwards, in the words of the data model.
-use Rattle.std.proofs.Common.{ℕ, ◌≤◌, List, [], ◌∷◌, ◌++◌, Option, Some, None, All, arith}
-use Rattle.wit_syntax.proofs.Common.{All-cons, All-head, All-nil, All-tail, Field, IsBackward, IsBelow as IsKindBelow, PackageFile, TypeDefKind, cons_option, filter_map, map, option_to_list, places_to, rank}
+use Rattle.std.proofs.Common.{ℕ, ◌≤◌, List, [], ◌∷◌, ◌++◌, Option, Some, None, All, arith, subst}
+use Rattle.wit_syntax.proofs.Common.{All-cons, All-head, All-nil, All-tail, Field, IsBackward, IsBelow as IsKindBelow, PackageFile, TypeDefKind, cons_option, filter_map, map, option_to_list, places_to, rank, map_map}
 use Rattle.wit_types.specs.declared.types.«Type».{«Type» as Ty}
 use Rattle.wit_types.specs.declared.types.«Type».TheVariants as type
 use Rattle.wit_types.specs.declared.types.Case.{Case}
@@ -17,21 +17,8 @@ abbrev AreBelow : ℕ → List Ty → Type 0
 AreBelow n ts = All (IsBelow n) ts
 
 place_below : (n : ℕ) (t : Ty) → IsBelow n t → places_to (place_of t) ≤ n
-place_below n type.Bool h = omega arith
-place_below n type.U8 h = omega arith
-place_below n type.U16 h = omega arith
-place_below n type.U32 h = omega arith
-place_below n type.U64 h = omega arith
-place_below n type.S8 h = omega arith
-place_below n type.S16 h = omega arith
-place_below n type.S32 h = omega arith
-place_below n type.S64 h = omega arith
-place_below n type.F32 h = omega arith
-place_below n type.F64 h = omega arith
-place_below n type.Char h = omega arith
-place_below n type.String h = omega arith
-place_below n type.ErrorContext h = omega arith
 place_below n (type.Id i) h = omega (arith, h)
+place_below n _ h = omega arith
 
 first_below : (n : ℕ) (t : Ty) (ts : List Ty) → AreBelow n (t ∷ ts) → rank (Some t) ≤ n
 first_below n t ts h = place_below n t (All-head (IsBelow n) t ts h)
@@ -40,15 +27,12 @@ slot_below : (n : ℕ) (s : Option Ty) → AreBelow n (option_to_list s) → ran
 slot_below n None h = omega arith
 slot_below n (Some t) h = first_below n t [] h
 
-fields_below : (n : ℕ) (fs : List Field) → AreBelow n (map (λ f. f.ty) fs) → All (λ s. rank s ≤ n) (map (λ f. Some f.ty) fs)
-fields_below n [] h = All-nil (λ s. rank s ≤ n)
-fields_below n (f ∷ fs) h =
-    let ts = map (λ (f : Field). f.ty) fs in
-    All-cons (λ s. rank s ≤ n) (Some f.ty) (map (λ f. Some f.ty) fs) (first_below n f.ty ts h) (fields_below n fs (All-tail (IsBelow n) f.ty ts h))
-
 types_below : (n : ℕ) (ts : List Ty) → AreBelow n ts → All (λ s. rank s ≤ n) (map (λ t. Some t) ts)
 types_below n [] h = All-nil (λ s. rank s ≤ n)
 types_below n (t ∷ ts) h = All-cons (λ s. rank s ≤ n) (Some t) (map (λ t. Some t) ts) (first_below n t ts h) (types_below n ts (All-tail (IsBelow n) t ts h))
+
+fields_below : (n : ℕ) (fs : List Field) → AreBelow n (map (λ f. f.ty) fs) → All (λ s. rank s ≤ n) (map (λ f. Some f.ty) fs)
+fields_below n fs h = subst (All (λ s. rank s ≤ n)) (map_map (λ (t : Ty). Some t) (λ (f : Field). f.ty) fs) (types_below n (map (λ (f : Field). f.ty) fs) h)
 
 case_below : (n : ℕ) (s : Option Ty) (ss : List (Option Ty)) (ts : List Ty) → AreBelow n (cons_option s ts) → (AreBelow n ts → All (λ x. rank x ≤ n) ss) → All (λ x. rank x ≤ n) (s ∷ ss)
 case_below n None ss ts h rest = All-cons (λ s. rank s ≤ n) None ss (omega arith) (rest h)
@@ -68,13 +52,10 @@ both_below n (Some t) b h = All-cons (λ s. rank s ≤ n) (Some t) (b ∷ []) (f
 -- the slots of a kind, and the place of a handle's resource, are below where the parts are
 kind_below : (n : ℕ) (k : TypeDefKind) → AreBelow n (kind_of k).parts → IsKindBelow n k
 kind_below n (kind.Record r) h = (fields_below n r.fields h, omega arith)
-kind_below n kind.Resource h = (All-nil (λ s. rank s ≤ n), omega arith)
 kind_below n (kind.Handle (handle.Own i)) h = (All-nil (λ s. rank s ≤ n), first_below n (type.Id i) [] h)
 kind_below n (kind.Handle (handle.Borrow i)) h = (All-nil (λ s. rank s ≤ n), first_below n (type.Id i) [] h)
-kind_below n (kind.Flags f) h = (All-nil (λ s. rank s ≤ n), omega arith)
 kind_below n (kind.Tuple t) h = (types_below n t.types h, omega arith)
 kind_below n (kind.Variant v) h = (cases_below n v.cases h, omega arith)
-kind_below n (kind.Enum e) h = (All-nil (λ s. rank s ≤ n), omega arith)
 kind_below n (kind.Option t) h = (last_below n (Some t) h, omega arith)
 kind_below n (kind.Result r) h = (both_below n r.ok r.err h, omega arith)
 kind_below n (kind.List t) h = (last_below n (Some t) h, omega arith)
@@ -83,7 +64,7 @@ kind_below n (kind.FixedLengthList t size) h = (last_below n (Some t) h, omega a
 kind_below n (kind.Future t) h = (last_below n t h, omega arith)
 kind_below n (kind.Stream t) h = (last_below n t h, omega arith)
 kind_below n (kind.Type_ t) h = (last_below n (Some t) h, omega arith)
-kind_below n kind.Unknown h = (All-nil (λ s. rank s ≤ n), omega arith)
+kind_below n _ h = (All-nil (λ s. rank s ≤ n), omega arith)
 
 -- so the ids of a package that files make are below the places of their entries
 pub ids_backward : (files : List PackageFile) (p : UnresolvedPackage) → IsFaithful files p → IsBackward p.types

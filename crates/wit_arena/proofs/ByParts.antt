@@ -1,18 +1,17 @@
 -- The package that files make, part by part: what the steps of resolving them come to.
-use Rattle.wit_syntax.proofs.Common.{Address, Exported, Imported, List, PackageFile, Some, about, address, declared_metadata, first_foreign_uses, flat_map, foreign_interfaces, foreign_packages, foreign_worlds, functions as item_functions, headers, includes, last_header, map, option_map, parts_of, release_parts, side_items, ◌++◌, ◌≡◌}
-use Rattle.wit_tree.specs.declared.tree.PackageName.{PackageName as Header}
+use Rattle.wit_syntax.proofs.Common.{Address, Exported, Imported, List, PackageFile, TypeDef, about, address, declared_metadata, first_foreign_uses, flat_map, foreign_interfaces, foreign_packages, foreign_worlds, functions as item_functions, includes, map, [], ◌++◌, ◌≡◌}
 use Rattle.wit_model.specs.declared.interface.Interface.{Interface}
 use Rattle.wit_model.specs.declared.world.World.{World}
-use Rattle.wit_model.specs.declared.world.WorldKey.{WorldKey}
-use Rattle.wit_model.specs.declared.world.WorldItem.{WorldItem}
 use Rattle.wit_model.specs.declared.unresolved.UnresolvedPackage.{UnresolvedPackage}
 use Rattle.wit_functions.specs.declared.function.Function.{Function}
 use Rattle.wit_arena.specs.SourceFunctions.{IsFunction, placed_functions}
-use Rattle.wit_arena.specs.SideItems.{AreSideItems, settled}
-use Rattle.wit_arena.specs.Occurrences.{Key, Occurrence, keys, IsOccurrence}
+use Rattle.wit_arena.specs.SideItems.{HasSide}
+use Rattle.wit_arena.specs.Occurrences.{Collects, Key, Occurrence, keys, IsOccurrence}
 use Rattle.wit_arena.specs.OneByOne.{OneByOne}
+use Rattle.wit_arena.specs.Resolving.{Required}
 use Rattle.wit_arena.specs.UnfoldedTypes.{IsInterface, IsWorld, IsForeignWorld, world_types}
-use Rattle.wit_arena.specs.Whole.{Ordered, ordered_names, turned, OrderedWorld, all_turns, all_inside, declarations, addresses, HasTypes, type_imports, AreIncludes, turn_handles, AreRequired, interface_addresses, world_addresses, IsForeignInterface, dep, first_docs, AreFirstOccurrences}
+use Rattle.wit_arena.proofs.Ordered.{AreOrdered, Ordered, ordered_names, turned, OrderedWorld, all_turns, all_inside, addresses, interface_addresses, world_addresses}
+use Rattle.wit_arena.specs.Whole.{declarations, HasTypes, type_imports, AreIncludes, turn_handles, AreRequired, IsForeignInterface, all_occurrences, dep}
 
 -- a prefix of these belongs to some, one by one, and the rest to others
 abbrev pub BothParts : {X Y Z : Type 0} → (X → Z → Type 0) → (Y → Z → Type 0) → List X → List Y → List Z → Type 0
@@ -29,9 +28,8 @@ pub record IsResolvedInterface (ks : List Key) (o : Ordered) (i : Interface) : T
 pub record HasSides (ks : List Key) (interfaces inside : List Address) (o : Ordered) (w : World) : Type 0 where
   pub functions : List Function
   pub are : OneByOne (IsFunction ks (address o.item)) (item_functions o.item) functions
-  pub imports : (on : List (WorldKey × WorldItem)) × AreSideItems interfaces o.item.top Imported (side_items o.item) functions inside on
-      × (w.imports ≡ settled (includes o.item) (type_imports (ordered_names o) (world_types w) ++ on))
-  pub exports : (on : List (WorldKey × WorldItem)) × AreSideItems interfaces o.item.top Exported (side_items o.item) functions inside on × (w.exports ≡ settled (includes o.item) on)
+  pub imports : HasSide interfaces inside o.item Imported functions (type_imports (ordered_names o) (world_types w)) w.imports
+  pub exports : HasSide interfaces inside o.item Exported functions [] w.exports
 
 -- A world of files, with its names in turn as its imports, and then the functions and interfaces that it imports, with those that it exports,
 -- and with its includes, where the interfaces and the worlds have these addresses.
@@ -46,24 +44,18 @@ pub record IsResolvedWorld (ks : List Key) (interfaces worlds : List Address) (o
 abbrev pub NamesOthers : List PackageFile → UnresolvedPackage → Type 0
 NamesOthers files p = (p.foreign_deps ≡ map (dep files) (foreign_packages files)) × (p.foreign_dep_spans ≡ map (λ v. v.of.span) (foreign_packages files)) × (p.unknown_type_spans ≡ map (λ t. t.id.span) (first_foreign_uses files))
 
--- The package has the name and the version of the last header, and the docs of the one that has some. Its arenas begin with the items of other packages, in the order of
--- their first visits; then they have the interfaces and the worlds in the least order in which each item comes after those that it
--- needs, each with its used names and then its definitions in the least dependency-first order. Its arena of types is the list of first
--- occurrences: of what is taken from other packages, then of all declared interfaces, then of all worlds. After the declared interfaces are
--- those that are written in worlds.
-pub record IsPackage (files : List PackageFile) (p : UnresolvedPackage) : Type 0 where
-  pub header : Header
-  pub last : last_header files ≡ Some header
-  pub namespace : p.name.namespace ≡ header.namespace.name.now
-  pub name : p.name.name ≡ header.name.name.now
-  pub version : option_map release_parts p.name.version ≡ option_map parts_of header.version
-  pub name_span : p.name_span ≡ header.span
-  pub docs : p.docs ≡ first_docs (headers files)
-  pub others : NamesOthers files p
+-- These arenas begin with the items of other packages, in the order of their first visits; then they have the interfaces and the worlds in
+-- the least order in which each item comes after those that it needs, each with its used names and then its definitions in the least
+-- dependency-first order. The arena of types is the list of first occurrences: of what is taken from other packages, then of all declared
+-- interfaces, then of all worlds. After the declared interfaces are those that are written in worlds.
+pub record IsPackage (files : List PackageFile) (es : List TypeDef) (is : List Interface) (ws : List World) (rs : List Required) : Type 0 where
   pub seen : List Occurrence
-  pub first : AreFirstOccurrences files seen
-  pub occurrence : IsOccurrence (declarations files (interface_addresses files (first.interfaces ++ all_inside first.worlds)) (world_addresses files first.worlds)) seen p.types
-  pub interfaces : BothParts (IsForeignInterface files (keys seen)) (IsResolvedInterface (keys seen)) (foreign_interfaces files) (first.interfaces ++ all_inside first.worlds) p.interfaces
-  pub worlds : BothParts IsForeignWorld (IsResolvedWorld (keys seen) (interface_addresses files (first.interfaces ++ all_inside first.worlds)) (world_addresses files first.worlds)) (foreign_worlds files) first.worlds p.worlds
+  pub own : List Ordered
+  pub own_worlds : List OrderedWorld
+  pub ordered : AreOrdered files own own_worlds
+  pub first : Collects [] (all_occurrences files (all_turns own own_worlds)) seen
+  pub occurrence : IsOccurrence (declarations files (interface_addresses files (own ++ all_inside own_worlds)) (world_addresses files own_worlds)) seen es
+  pub interfaces : BothParts (IsForeignInterface files (keys seen)) (IsResolvedInterface (keys seen)) (foreign_interfaces files) (own ++ all_inside own_worlds) is
+  pub worlds : BothParts IsForeignWorld (IsResolvedWorld (keys seen) (interface_addresses files (own ++ all_inside own_worlds)) (world_addresses files own_worlds)) (foreign_worlds files) own_worlds ws
   -- the types of other packages that must be resources: those at which names in handles end, of all interfaces and then of all worlds
-  pub required : AreRequired files (keys seen) (flat_map turn_handles (all_turns first.interfaces first.worlds)) p.required_resource_types
+  pub required : AreRequired files (keys seen) (flat_map turn_handles (all_turns own own_worlds)) rs

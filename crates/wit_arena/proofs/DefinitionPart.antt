@@ -1,5 +1,5 @@
 -- What occurs in the names of a scope, one after another.
-use Rattle.std.proofs.Common.{◌≡◌, ℕ, suc, ◌+◌, true, cond, List, [], ◌∷◌, ◌++◌, length, Option, Some, None, nat_eq, inl, inr, refl, sym, ap, ◌∙◌, subst, append_assoc, arith}
+use Rattle.std.proofs.Common.{◌≡◌, ℕ, ◌+◌, cond, List, [], ◌∷◌, ◌++◌, length, Option, Some, None, nat_eq, inl, inr, refl, sym, ap, ◌∙◌, subst, append_assoc, arith}
 use Rattle.wit_syntax.proofs.Common.{Address, AreDistinct, Attribute, Defined, ScopeName, TypeDef, TypeDefKind, TypeOwner, UseName, Used, about_name, append-nil, at_back, at_either, at_prefix, at_seam, body_of, differ_at, differ_by, flat_map-append, insert_entry, local_name, local_names, lookup-insert_entry, map, map-append, name_cases, name_itself, names-insert_entry, pointwise, slice_get, slice_get_within, unwrap_or}
 use Rattle.wit_type_tree.specs.declared.types.TypeDef.{TypeDef as Definition}
 use Rattle.wit_types.specs.declared.types.TypeDefKind.TheVariants.{Type_}
@@ -7,10 +7,10 @@ use Rattle.wit_types.specs.declared.types.«Type».TheVariants as type
 use Rattle.wit_arena.specs.Kind.{kind_of}
 use Rattle.wit_arena.specs.Expr.{Exprs, End, exprs_of, name_exprs}
 use Rattle.wit_arena.specs.Occurrences.{Key, Def, Occurrence, keys, IsSeen, Collects, Decls, IsOccurrence, shapes_occurrences, name_occurrences}
-use Rattle.wit_arena.specs.Resolving.{all_seen, Names, ResolvedScope, env_of, Env, AreNames, AreKnown, IsExtended, AreResolved, IsAdded, IsUsed, Defines, AreNew, named, AreOwned}
-use Rattle.wit_arena.proofs.Occurrence.{keys-append, collects_append, collects_from, collects_extended, names_kept, no_defs, occurrence_more, Has, has_either}
+use Rattle.wit_arena.specs.Resolving.{all_seen, Names, ResolvedScope, env_of, Env, AreNames, AreKnown, IsExtended, AreResolved, IsAdded, IsUsed, Defines, AreNew, named}
+use Rattle.wit_arena.proofs.Occurrence.{keys-append, collects_append, collects_from, collects_extended, names_kept, no_defs, occurrence_more, Has, has_either, has_from}
 use Rattle.wit_arena.proofs.Keys.{keys-shapes}
-use Rattle.wit_arena.proofs.Places.{key_extended}
+use Rattle.wit_arena.proofs.Places.{key_extended, same_some}
 use Rattle.wit_arena.proofs.Turns.{parts_occurrences, all_name_occurrences}
 
 -- a name that was not seen is free
@@ -26,8 +26,7 @@ names_added : (ks : List Key) (s : Address) (names : Names) (name : List ℕ) (p
 names_added ks s names name place is fresh at_end = record {
   present = λ n i h. elim (name_cases n name) [
     | inl same ↦ (
-        let some : Some i ≡ Some place = sym h ∙ lookup-insert_entry names name n place ∙ ap (λ b. cond b (Some place) (env_of names n)) (ap (λ m. pointwise nat_eq m name) same ∙ name_itself name) in
-        let at : i ≡ length ks = (let e : i ≡ place = cc in e ∙ at_end) in
+        let at = same_some (sym h ∙ lookup-insert_entry names name n place ∙ ap (λ b. cond b (Some place) (env_of names n)) (ap (λ m. pointwise nat_eq m name) same ∙ name_itself name)) ∙ at_end in
         rw (at, same) (at_seam ks (Def s name)))
     | inr other ↦ at_prefix ks (Def s name ∷ []) i (Def s n) (is.present n i (sym (lookup-insert_entry names name n place ∙ ap (λ b. cond b (Some place) (env_of names n)) other) ∙ h))
   ];
@@ -35,7 +34,7 @@ names_added ks s names name place is fresh at_end = record {
     | inl same ↦ (place, lookup-insert_entry names name n place ∙ ap (λ b. cond b (Some place) (env_of names n)) (ap (λ m. pointwise nat_eq m name) same ∙ name_itself name))
     | inr other ↦ elim (at_either ks (Def s name) j (Def s n) at) [
       | inl old ↦ (let was = is.has j n old in (was.0, lookup-insert_entry names name n place ∙ ap (λ b. cond b (Some place) (env_of names n)) other ∙ was.1))
-      | inr new ↦ absurd (let same : n ≡ name = (let k = new.1 in cc) in let wrong : pointwise nat_eq n name ≡ true = ap (λ m. pointwise nat_eq m name) same ∙ name_itself name in let f : ⊥ = cc in f)
+      | inr new ↦ cc (new.1, name_itself name, other)
     ]
   ];
 }
@@ -94,22 +93,15 @@ name_keys s x = keys-append (parts_occurrences s x) (record { key = Def s (local
 
 -- a name that occurs in names of a scope is one of them
 pub name_seen_in : (s : Address) (xs : List ScopeName) (t : Address) (name : List ℕ) → Has (keys (all_name_occurrences s xs)) (Def t name) → (t ≡ s) × ((i : ℕ) × (x : ScopeName) × (slice_get xs i ≡ Some x) × (local_name x ≡ name))
-name_seen_in s [] t name h = absurd h
-name_seen_in s (x ∷ xs) t name h =
-    let h' = subst (λ ks. Has ks (Def t name)) (keys-append (name_occurrences s x) (all_name_occurrences s xs) ∙ ap (λ ks. ks ++ keys (all_name_occurrences s xs)) (name_keys s x)) h in
-    elim (has_either (keys (parts_occurrences s x) ++ Def s (local_name x) ∷ []) (keys (all_name_occurrences s xs)) (Def t name) h') [
-      | inl first ↦ elim (has_either (keys (parts_occurrences s x)) (Def s (local_name x) ∷ []) (Def t name) first) [
-        | inl inner ↦ absurd (no_defs (name_exprs s x) t name (subst (λ ks. Has ks (Def t name)) (parts_keys s x) inner))
-        | inr last ↦ elim last [
-          | inl here ↦ (let a : t ≡ s = cc in let b : local_name x ≡ name = cc in (a, (0, x, refl, b)))
-          | inr none ↦ absurd none
-        ]
+name_seen_in s xs t name h =
+    let it = has_from (name_occurrences s) xs (Def t name) h in
+    elim (has_either (keys (parts_occurrences s it.1)) (Def s (local_name it.1) ∷ []) (Def t name) (subst (λ ks. Has ks (Def t name)) (name_keys s it.1) it.3)) [
+      | inl inner ↦ absurd (no_defs (name_exprs s it.1) t name (subst (λ ks. Has ks (Def t name)) (parts_keys s it.1) inner))
+      | inr last ↦ elim last [
+        | inl here ↦ (let a : t ≡ s = cc in let b : local_name it.1 ≡ name = cc in (a, (it.0, it.1, it.2, b)))
+        | inr none ↦ absurd none
       ]
-      | inr rest ↦ (let it = name_seen_in s xs t name rest in (it.0, (suc it.1.0, it.1.1, it.1.2, it.1.3)))
     ]
-
-pub all_name_occurrences-append : (s : Address) (xs ys : List ScopeName) → all_name_occurrences s (xs ++ ys) ≡ all_name_occurrences s xs ++ all_name_occurrences s ys
-all_name_occurrences-append s xs ys = flat_map-append (name_occurrences s) xs ys
 
 -- names of scopes still are once names of another scope occurred
 pub known_kept : (a b : List Occurrence) (s : Address) (cs : List ResolvedScope) (xs : List ScopeName) → Collects a (all_name_occurrences s xs) b → AreKnown (keys a) s cs → AreKnown (keys b) s cs
@@ -131,12 +123,9 @@ defines_none es cs o s names = record { from = λ decls ms among distinct anew k
 pub defines_more : (old mid new : List TypeDef) (cs : List ResolvedScope) (o : TypeOwner) (s : Address) (a b c : Names) (xs ys : List ScopeName) → Defines old mid cs o s a b xs → Defines mid new cs o s b c ys → Defines old new cs o s a c (xs ++ ys)
 defines_more old mid new cs o s a b c xs ys p q = record {
   from = λ decls ms among distinct anew known m are_present. (
-      let left : AreOwned decls o s xs = λ i x at. among i x (at_prefix xs ys i x at) in
-      let right : AreOwned decls o s ys = λ i x at. among (length xs + i) x (at_back xs ys i x at) in
       let distinct_left : AreDistinct xs = differ_by local_name xs (λ i j d e ati atj same. differ_at local_name (xs ++ ys) distinct i j d e (at_prefix xs ys i d ati) (at_prefix xs ys j e atj) same) in
       let distinct_right : AreDistinct ys = differ_by local_name ys (λ i j d e ati atj same. (let both = differ_at local_name (xs ++ ys) distinct (length xs + i) (length xs + j) d e (at_back xs ys i d ati) (at_back xs ys j e atj) same in omega arith)) in
-      let new_left : AreNew (keys ms) s xs = record { new = λ i d at. anew.new i d (at_prefix xs ys i d at) } in
-      let x = p.from decls ms left distinct_left new_left known m are_present in
+      let x = p.from decls ms (λ i x at. among i x (at_prefix xs ys i x at)) distinct_left (record { new = λ i d at. anew.new i d (at_prefix xs ys i d at) }) known m are_present in
       let new_right : AreNew (keys x.now) s ys = record {
         new = λ i e at was. elim (collects_from (all_name_occurrences s xs) ms x.now x.collects was.0 (Def s (local_name e)) was.1) [
           | inl before ↦ anew.new (length xs + i) e (at_back xs ys i e at) before
@@ -147,10 +136,10 @@ defines_more old mid new cs o s a b c xs ys p q = record {
               omega arith)
         ];
       } in
-      let y = q.from decls x.now right distinct_right new_right (known_kept ms x.now s cs xs x.collects known) x.occurrence x.are_present in
+      let y = q.from decls x.now (λ i x at. among (length xs + i) x (at_back xs ys i x at)) distinct_right new_right (known_kept ms x.now s cs xs x.collects known) x.occurrence x.are_present in
       record {
         now = y.now;
-        collects = subst (λ l. Collects ms l y.now) (sym (all_name_occurrences-append s xs ys)) (collects_append (all_name_occurrences s xs) (all_name_occurrences s ys) ms x.now y.now x.collects y.collects);
+        collects = subst (λ l. Collects ms l y.now) (sym (flat_map-append (name_occurrences s) xs ys)) (collects_append (all_name_occurrences s xs) (all_name_occurrences s ys) ms x.now y.now x.collects y.collects);
         occurrence = y.occurrence;
         are_present = y.are_present;
         listed = y.listed ∙ ap (λ ns. ns ++ local_names ys) x.listed ∙ append_assoc (map (λ p. p.0) a) (local_names xs) (local_names ys) ∙ ap (λ ns. map (λ p. p.0) a ++ ns) (sym (map-append local_name xs ys));

@@ -17,8 +17,7 @@ same_entry-itself (entry.World i) = eq-eqb i i refl
 pub same_entry-equal : (a b : AstItem) → same_entry a b ≡ true → a ≡ b
 same_entry-equal (entry.Interface i) (entry.Interface j) h = ap entry.Interface (eqb-true i j h)
 same_entry-equal (entry.World i) (entry.World j) h = ap entry.World (eqb-true i j h)
-same_entry-equal (entry.Interface i) (entry.World j) h = absurd (let f : ⊥ = cc in f)
-same_entry-equal (entry.World i) (entry.Interface j) h = absurd (let f : ⊥ = cc in f)
+same_entry-equal _ _ h = absurd (let f : ⊥ = cc in f)
 
 -- a visit comes after as many as its place says
 foreign_place-at : (vs : List ForeignVisit) (t : ℕ) (v : ForeignVisit) → AllDiffer (map visited vs) → slice_get vs t ≡ Some v → foreign_place vs v ≡ t
@@ -29,7 +28,7 @@ none_found : {X : Type 0} (p : X → Bool) (xs : List X) → ((k : ℕ) (x : X) 
 none_found p [] none = refl
 none_found p (x ∷ xs) none = elim (cases_Bool (p x)) [
   | inl hit ↦ absurd (none 0 x refl hit)
-  | inr miss ↦ (let rest = none_found p xs (λ k. none (suc k)) in rw miss rest)
+  | inr miss ↦ rw miss (none_found p xs (λ k. none (suc k)))
 ]
 
 module _ (files : List PackageFile) where
@@ -50,19 +49,16 @@ module _ (files : List PackageFile) where
     | inr other ↦ inl (kept_has (λ u. not u.wants_world) (foreign_items files) q v (ap not other) at)
   ]
 
-  one_at : (vs : List ForeignVisit) (s t : ℕ) (u v : ForeignVisit) → s ≡ t → slice_get vs s ≡ Some u → slice_get vs t ≡ Some v → u ≡ v
-  one_at vs s t u v same at_u at_v = let both : Some u ≡ Some v = sym at_u ∙ ap (slice_get vs) same ∙ at_v in cc
-
   -- no two items have one entry
   pub foreign_entry-injective : (q r : ℕ) (u v : ForeignVisit) → slice_get (foreign_items files) q ≡ Some u → slice_get (foreign_items files) r ≡ Some v → foreign_entry files u ≡ foreign_entry files v → u ≡ v
   foreign_entry-injective q r u v at_u at_v same = elim (item_sort q u at_u) [
     | inl a ↦ elim (item_sort r v at_v) [
-      | inl b ↦ (let two : entry.Interface a.0 ≡ entry.Interface b.0 = sym (entry_of_interface a.0 u a.1) ∙ same ∙ entry_of_interface b.0 v b.1 in one_at (foreign_interfaces files) a.0 b.0 u v (let place : a.0 ≡ b.0 = cc in place) a.1 b.1)
-      | inr b ↦ absurd (let two : entry.Interface a.0 ≡ entry.World b.0 = sym (entry_of_interface a.0 u a.1) ∙ same ∙ entry_of_world b.0 v b.1 in let f : ⊥ = cc in f)
+      | inl b ↦ cc (sym (entry_of_interface a.0 u a.1) ∙ same ∙ entry_of_interface b.0 v b.1, a.1, b.1)
+      | inr b ↦ cc (sym (entry_of_interface a.0 u a.1) ∙ same ∙ entry_of_world b.0 v b.1)
     ]
     | inr a ↦ elim (item_sort r v at_v) [
-      | inl b ↦ absurd (let two : entry.World a.0 ≡ entry.Interface b.0 = sym (entry_of_world a.0 u a.1) ∙ same ∙ entry_of_interface b.0 v b.1 in let f : ⊥ = cc in f)
-      | inr b ↦ (let two : entry.World a.0 ≡ entry.World b.0 = sym (entry_of_world a.0 u a.1) ∙ same ∙ entry_of_world b.0 v b.1 in one_at (foreign_worlds files) a.0 b.0 u v (let place : a.0 ≡ b.0 = cc in place) a.1 b.1)
+      | inl b ↦ cc (sym (entry_of_world a.0 u a.1) ∙ same ∙ entry_of_interface b.0 v b.1)
+      | inr b ↦ cc (sym (entry_of_world a.0 u a.1) ∙ same ∙ entry_of_world b.0 v b.1, a.1, b.1)
     ]
   ]
 
@@ -147,7 +143,6 @@ module _ (files : List PackageFile) where
               let both : entry.Interface h.0 ≡ entry.Interface t = sym (entry_of_interface h.0 u.1 h.1) ∙ one in
               let place : h.0 ≡ t = cc in
               let lt = slice_get_within (foreign_interfaces files) h.0 u.1 h.1 in
-              let f : ⊥ = omega arith in
-              f)
-          | inr h ↦ (let both : entry.World h.0 ≡ entry.Interface t = sym (entry_of_world h.0 u.1 h.1) ∙ one in let f : ⊥ = cc in f)
+              absurd (omega arith))
+          | inr h ↦ cc (sym (entry_of_world h.0 u.1 h.1) ∙ one)
         ])))

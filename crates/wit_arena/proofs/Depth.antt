@@ -1,6 +1,6 @@
 -- Where each type is at its place, its tree is the same at every depth.
-use Rattle.std.proofs.Common.{◌≡◌, ℕ, zero, suc, true, List, [], ◌∷◌, map, Option, Some, refl, sym, ap, ◌∙◌, inl, inr, arith}
-use Rattle.wit_syntax.proofs.Common.{Address, AreDistinct, AreMetadata, Docs, Form, Head, Leaf, Named, Nothing, PackageFile, Primitive, ScopeName, Shape, Shapes, Span, Stability, Tree, TypeDef, TypeOwner, Unnamed, about_name, bytes_eq, differ_at, differ_by, local_name, meaning, name_cases, name_itself, named_node, node_map, option_map_or, placed, primitive_type, scope, slice_get, source_tree, unwrap_or}
+use Rattle.std.proofs.Common.{◌≡◌, ℕ, zero, suc, List, [], ◌∷◌, map, Some, refl, sym, ap, ◌∙◌}
+use Rattle.wit_syntax.proofs.Common.{Address, AreDistinct, AreMetadata, Form, PackageFile, ScopeName, Shape, Shapes, TypeDef, TypeOwner, Unnamed, about_name, local_name, meaning, named_node, node_map, placed, scope, slice_get, source_tree, unwrap_or}
 use Rattle.wit_model.specs.declared.unresolved.UnresolvedPackage.{UnresolvedPackage}
 use Rattle.wit_types.specs.declared.types.«Type».{«Type» as Ty}
 use Rattle.wit_types.specs.declared.types.«Type».TheVariants as type
@@ -9,31 +9,15 @@ use Rattle.wit_syntax.specs.Shape as shape
 use Rattle.wit_syntax.specs.Source.{head}
 use Rattle.wit_arena.specs.Expr.{expr_of, exprs_of, name_exprs}
 use Rattle.wit_arena.specs.Occurrences.{Key, Def, Whole, IsAt, AreAt, Decls, IsKeyed}
-use Rattle.wit_arena.specs.UnfoldedTypes.{package_tree, entry_head, entry_node, owner_of}
+use Rattle.wit_arena.specs.UnfoldedTypes.{package_tree, entry_head, owner_of}
 use Rattle.wit_arena.proofs.Primitives.{primitive_node}
 use Rattle.wit_arena.proofs.Places.{all_at_untaken}
 use Rattle.wit_arena.proofs.Shape.{entry_of_key}
+use Rattle.wit_arena.proofs.Itemizing.{found_by}
 
 -- the one name of a scope that goes by a name is found
 pub meaning_found : (xs : List ScopeName) (k : ℕ) (x : ScopeName) (name : List ℕ) → AreDistinct xs → slice_get xs k ≡ Some x → local_name x ≡ name → meaning xs name ≡ Some x
-meaning_found [] k x name distinct at same = absurd (let f : ⊥ = cc in f)
-meaning_found (y ∷ xs) zero x name distinct at same =
-    let here : y ≡ x = cc in
-    let hit : bytes_eq (local_name y) name ≡ true = ap (λ (z : ScopeName). bytes_eq (local_name z) name) here ∙ ap (λ n. bytes_eq n name) same ∙ name_itself name in
-    rw hit at
-meaning_found (y ∷ xs) (suc k) x name distinct at same = elim (name_cases (local_name y) name) [
-  | inl first ↦ absurd (let both = differ_at local_name (y ∷ xs) distinct 0 (suc k) y x refl at (first ∙ sym same) in let f : ⊥ = omega arith in f)
-  | inr other ↦ rw other (meaning_found xs k x name (differ_by local_name xs (λ i j e f ati atj names. (let both = differ_at local_name (y ∷ xs) distinct (suc i) (suc j) e f ati atj names in omega arith))) at same)
-]
-
-abbrev made : Option Address → List ℕ → Span → Docs → Stability → Option (List ℕ) → Head
-made o name span docs stability external_id = record { owner = o; name = name; span = span; docs = docs; stability = stability; external_id = external_id }
-
-abbrev named_of : (n : ℕ) → Head → Form → List (Tree n) → Tree (suc n)
-named_of n x form parts = Named x form parts
-
-abbrev unnamed_of : (n : ℕ) → Form → List (Tree n) → Tree (suc n)
-unnamed_of n form parts = Unnamed form parts
+meaning_found xs k x name distinct at same = found_by local_name xs k x name distinct at same
 
 -- a scope, and whose it is in a package
 pub record IsScope (files : List PackageFile) (decls : Decls) (p : UnresolvedPackage) (s : Address) : Type 0 where
@@ -49,18 +33,12 @@ module _ (files : List PackageFile) (decls : Decls) (ks : List Key) (p : Unresol
   parts_agree : (n : ℕ) → Agree n → (s : Address) (xs : Shapes) (ts : List Ty) → AreAt ks (exprs_of s xs) ts → map (package_tree p n) ts ≡ map (source_tree files n) (placed s xs)
   parts_agree n agree s shape.End [] h = refl
   parts_agree n agree s (shape.More x xs) (t ∷ ts) h = let first = agree s x t h.0 in let rest = parts_agree n agree s xs ts h.1 in cc
-  parts_agree n agree s shape.End (t ∷ ts) h = absurd h
-  parts_agree n agree s (shape.More x xs) [] h = absurd h
+  parts_agree n agree s _ ts h = absurd h
 
   -- the heads agree
   head_agrees : (s : Address) (called : List ℕ) (x : ScopeName) (e : TypeDef) → local_name x ≡ called → e.span ≡ (about_name x).span → owner_of p e.owner ≡ Some s → AreMetadata (about_name x).metadata e.docs e.stability e.external_id → entry_head p called e ≡ head s x
   head_agrees s called x e name span own as_stated =
-      ap (λ (o : Option Address). made o called e.span e.docs e.stability e.external_id) own
-      ∙ ap (λ (n : List ℕ). made (Some s) n e.span e.docs e.stability e.external_id) (sym name)
-      ∙ ap (λ (z : Span). made (Some s) (local_name x) z e.docs e.stability e.external_id) span
-      ∙ ap (λ (z : Docs). made (Some s) (local_name x) (about_name x).span z e.stability e.external_id) as_stated.docs
-      ∙ ap (λ (z : Stability). made (Some s) (local_name x) (about_name x).span (about_name x).metadata.docs z e.external_id) as_stated.stability
-      ∙ ap (λ (z : Option (List ℕ)). made (Some s) (local_name x) (about_name x).span (about_name x).metadata.docs (about_name x).metadata.stability z) as_stated.external_id
+      cc (own, name, span, as_stated.docs, as_stated.stability, as_stated.external_id)
 
   name_agrees : (n : ℕ) → Agree n → (s : Address) (name : List ℕ) (i : ℕ) → slice_get ks i ≡ Some (Def s name) → package_tree p (suc n) (type.Id i) ≡ node_map (source_tree files n) (named_node s (meaning (scope files s) name))
   name_agrees n agree s name i there =
@@ -74,28 +52,17 @@ module _ (files : List PackageFile) (decls : Decls) (ks : List Key) (p : Unresol
       let inner = parts_agree n agree (unwrap_or (about_name x).from s) (about_name x).body.parts (kind_of e.0.kind).parts parts in
       let found = meaning_found (scope files s) it.0 x name here.distinct at it.3 in
       let heads = head_agrees s name x e.0 it.3 it.5 own it.9 in
-      ap (λ (o : Option TypeDef). node_map (package_tree p n) (option_map_or (λ (e : TypeDef). entry_node p e.name e) o Nothing)) e.1
-      ∙ ap (λ (o : Option (List ℕ)). node_map (package_tree p n) (entry_node p o e.0)) it.4
-      ∙ ap (λ (y : Head). named_of n y (kind_of e.0.kind).form (map (package_tree p n) (kind_of e.0.kind).parts)) heads
-      ∙ ap (λ (y : Form). named_of n (head s x) y (map (package_tree p n) (kind_of e.0.kind).parts)) it.7
-      ∙ ap (λ (y : List (Tree n)). named_of n (head s x) (about_name x).body.form y) inner
-      ∙ sym (ap (λ (o : Option ScopeName). node_map (source_tree files n) (named_node s o)) found)
+      rw (e.1, it.4, heads, it.7, inner, found) refl
 
   whole_agrees : (n : ℕ) → Agree n → (s : Address) (form : Form) (parts : Shapes) (i : ℕ) → slice_get ks i ≡ Some (Whole form (exprs_of s parts)) → package_tree p (suc n) (type.Id i) ≡ node_map (source_tree files n) (Unnamed form (placed s parts))
   whole_agrees n agree s form parts i there =
       let e = entry_of_key decls ks p.types m i (Whole form (exprs_of s parts)) there in
       let it = m.each i (Whole form (exprs_of s parts)) e.0 there e.1 in
       let inner = parts_agree n agree s parts (kind_of e.0.kind).parts (all_at_untaken i ks (exprs_of s parts) (kind_of e.0.kind).parts it.3) in
-      ap (λ (o : Option TypeDef). node_map (package_tree p n) (option_map_or (λ (e : TypeDef). entry_node p e.name e) o Nothing)) e.1
-      ∙ ap (λ (o : Option (List ℕ)). node_map (package_tree p n) (entry_node p o e.0)) it.0
-      ∙ ap (λ (x : Form). unnamed_of n x (map (package_tree p n) (kind_of e.0.kind).parts)) it.2
-      ∙ ap (λ (x : List (Tree n)). unnamed_of n form x) inner
-
-  primitive_agrees : (n : ℕ) (x : Primitive) → package_tree p (suc n) (primitive_type x) ≡ Leaf (primitive_type x)
-  primitive_agrees n x = ap (node_map (package_tree p n)) (primitive_node p x)
+      rw (e.1, it.0, it.2, inner) refl
 
   pub same_tree : (n : ℕ) → Agree n
   same_tree zero s x ty h = refl
-  same_tree (suc n) s (shape.Prim x) ty h = ap (package_tree p (suc n)) h ∙ primitive_agrees n x
+  same_tree (suc n) s (shape.Prim x) ty h = ap (package_tree p (suc n)) h ∙ (ap (node_map (package_tree p n)) (primitive_node p x))
   same_tree (suc n) s (shape.Word id) ty h = ap (package_tree p (suc n)) h.1 ∙ name_agrees n (same_tree n) s id.name.now h.0 h.2
   same_tree (suc n) s (shape.Of span form parts) ty h = ap (package_tree p (suc n)) h.1 ∙ whole_agrees n (same_tree n) s form parts h.0 h.2

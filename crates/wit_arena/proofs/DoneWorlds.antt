@@ -11,8 +11,9 @@ use Rattle.wit_arena.specs.Occurrences.{Occurrence, keys, Collects, Decls}
 use Rattle.wit_arena.specs.UnfoldedTypes.{IsWorld, import_types, world_types, world_functions}
 use Rattle.wit_arena.specs.ResolvedArenas.{WorldArenas}
 use Rattle.wit_arena.specs.Resolving.{Names, ResolvedScope, Required}
-use Rattle.wit_arena.specs.SideItems.{AreSideItems, settled}
-use Rattle.wit_arena.specs.Whole.{Ordered, OrderedWorld, Turned, addresses, turned, side_turns, world_turns, all_turns, all_inside, turn_occurrences, foreign_use_occurrence, all_occurrences, turn_handles, AreRequired, type_imports, IsInclude, AreIncludes}
+use Rattle.wit_arena.specs.SideItems.{HasSide}
+use Rattle.wit_arena.proofs.Ordered.{Ordered, OrderedWorld, addresses, turned, side_turns, world_turns, all_turns, all_inside}
+use Rattle.wit_arena.specs.Whole.{Turned, turn_occurrences, foreign_use_occurrence, all_occurrences, turn_handles, AreRequired, type_imports, IsInclude, AreIncludes}
 use Rattle.wit_syntax.specs.Source as source
 use Rattle.wit_arena.proofs.Added.{WorldOwner, inside_of, interface_list, world_list, decls}
 use Rattle.wit_arena.proofs.FunctionPart.{DoneFunction, IsFunctionPart}
@@ -32,12 +33,8 @@ pub record SaysWorld (worlds : List Address) (o : Ordered) (w : World) : Type 0 
 
 -- it has the types of a scope as its imports, and then, on its sides, what the item has there; the interfaces have these addresses
 pub record MakesWorld (interfaces : List Address) (o : Ordered) (c : DoneScope) (w : World) : Type 0 where
-  pub imported : List (WorldKey × WorldItem)
-  pub are_imported : AreSideItems interfaces o.item.top Imported (side_items o.item) c.made (map address (inline_items o.item)) imported
-  pub imports : w.imports ≡ settled (includes o.item) (type_imports c.names c.types ++ imported)
-  pub exported : List (WorldKey × WorldItem)
-  pub are_exported : AreSideItems interfaces o.item.top Exported (side_items o.item) c.made (map address (inline_items o.item)) exported
-  pub exports : w.exports ≡ settled (includes o.item) exported
+  pub imports : HasSide interfaces (map address (inline_items o.item)) o.item Imported c.made (type_imports c.names c.types) w.imports
+  pub exports : HasSide interfaces (map address (inline_items o.item)) o.item Exported c.made [] w.exports
   pub stated : c.stated ≡ world_functions w
 
 -- a world that was resolved, as a scope

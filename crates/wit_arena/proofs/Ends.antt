@@ -11,7 +11,7 @@ use Rattle.wit_arena.specs.Expr.{exprs_of, name_exprs}
 use Rattle.wit_arena.specs.Occurrences.{Key, Def, AreAt, Decls, IsKeyed}
 use Rattle.wit_arena.proofs.Parts.{HasPart}
 use Rattle.wit_arena.specs.EntryEnds.{EntryEnd, IsResource, IsUnknown, IsOther, part_end, kind_end, found_end, entry_end}
-use Rattle.wit_arena.proofs.Places.{all_at_untaken}
+use Rattle.wit_arena.proofs.Places.{all_at_untaken, same_some}
 use Rattle.wit_arena.proofs.Shape.{entry_of_key, backward}
 use Rattle.wit_arena.proofs.Depth.{meaning_found}
 
@@ -29,10 +29,9 @@ meant_one f g agree s (Some x) a b h k = named_one (f (unwrap_or (about_name x).
 
 -- where a written type ends does not depend on the number of steps
 shape_one : (files : List PackageFile) (n m : ℕ) (s : Address) → Agreeing (shape_end files n s) (shape_end files m s)
-shape_one files zero m s x a b h k = absurd (let f : ⊥ = cc in f)
-shape_one files (suc n) zero s x a b h k = absurd (let f : ⊥ = cc in f)
 shape_one files (suc n) (suc m) s (Word id) a b h k = meant_one (shape_end files n) (shape_end files m) (shape_one files n m) s (meaning (scope files s) id.name.now) a b h k
 shape_one files (suc n) (suc m) s _ a b h k = cc
+shape_one files n m s x a b h k = absurd (let f : ⊥ = cc in f)
 
 -- a name has one end
 pub ends_one : (files : List PackageFile) (s : Address) (id : Id) (a b : End) → EndsAt files s id a → EndsAt files s id b → a ≡ b
@@ -68,9 +67,9 @@ IsWord xs = ((p : Primitive) × (xs ≡ one (Prim p))) ⊎ ((id : Id) × (xs ≡
 alias_written : (t : Written) → (written_body t).form ≡ AliasForm → IsWord (written_body t).parts
 alias_written (written.Primitive span p) h = inl (p, refl)
 alias_written (written.Name id) h = inr (id, refl)
-alias_written (written.Future' span None') h = absurd (let f : ⊥ = cc in f)
-alias_written (written.Stream' span None') h = absurd (let f : ⊥ = cc in f)
-alias_written _ h = absurd (let f : ⊥ = cc in f)
+alias_written (written.Future' span None') h = cc
+alias_written (written.Stream' span None') h = cc
+alias_written _ h = cc
 
 alias_defined : (b : TypeBody) → (body_of b).form ≡ AliasForm → IsWord (body_of b).parts
 alias_defined (Plain t) h = alias_written t h
@@ -100,33 +99,23 @@ record Means (files : List PackageFile) (s : Address) (id : Id) (x : ScopeName) 
 abbrev ends_in : List PackageFile → ℕ → Address → ScopeName → Form → Shapes → Option End
 ends_in files n s x form xs = named_end (shape_end files n (unwrap_or (about_name x).from s)) s (local_name x) form xs
 
-ends_named : (files : List PackageFile) (s : Address) (id : Id) (x : ScopeName) (n : ℕ) (end : End) → Means files s id x → ends_in files n s x (about_name x).body.form (about_name x).body.parts ≡ Some end → EndsAt files s id end
-ends_named files s id x n end means is = (suc n, ap (meant_end (shape_end files n) s) means.found ∙ is)
-
 -- it ends by its form
 ends_formed : (files : List PackageFile) (s : Address) (id : Id) (x : ScopeName) (form : Form) (end : End) → Means files s id x → form ≡ (about_name x).body.form → ends_in files zero s x form (about_name x).body.parts ≡ Some end → EndsAt files s id end
-ends_formed files s id x form end means same is = ends_named files s id x zero end means (ap (λ (f : Form). ends_in files zero s x f (about_name x).body.parts) (sym same) ∙ is)
+ends_formed files s id x form end means same is = (suc zero, ap (meant_end (shape_end files zero) s) means.found ∙ (ap (λ (f : Form). ends_in files zero s x f (about_name x).body.parts) (sym same) ∙ is))
 
 -- another word for what its one part is
 ends_part : (files : List PackageFile) (s : Address) (id : Id) (x : ScopeName) (y : Shapes) (n : ℕ) (end : End) → Means files s id x → AliasForm ≡ (about_name x).body.form → (about_name x).body.parts ≡ y → ends_in files n s x AliasForm y ≡ Some end → EndsAt files s id end
-ends_part files s id x y n end means same parts is = ends_named files s id x n end means (
-    ap (λ (f : Form). ends_in files n s x f (about_name x).body.parts) (sym same)
-    ∙ ap (ends_in files n s x AliasForm) parts
-    ∙ is)
-
-ends_through : (files : List PackageFile) (s : Address) (id : Id) (x : ScopeName) (word : Id) (end : End) → Means files s id x → AliasForm ≡ (about_name x).body.form → (about_name x).body.parts ≡ one (Word word) → EndsAt files (unwrap_or (about_name x).from s) word end → EndsAt files s id end
-ends_through files s id x word end means same parts h = ends_part files s id x (one (Word word)) h.0 end means same parts h.1
+ends_part files s id x y n end means same parts is = (suc n, ap (meant_end (shape_end files n) s) means.found ∙ ap (λ (f : Form). ends_in files n s x f (about_name x).body.parts) (sym same) ∙ ap (ends_in files n s x AliasForm) parts ∙ is)
 
 end_through : (files : List PackageFile) (ks : List Key) (s : Address) (id : Id) (x : ScopeName) (word : Id) (e : EntryEnd) → Means files s id x → AliasForm ≡ (about_name x).body.form → (about_name x).body.parts ≡ one (Word word) → EndIs files ks (unwrap_or (about_name x).from s) word e → EndIs files ks s id e
-end_through files ks s id x word IsResource means same parts h = ends_through files s id x word AtResource means same parts h
-end_through files ks s id x word (IsUnknown place) means same parts h = (h.0, h.1, h.2, ends_through files s id x word (AtForeign h.0 h.1) means same parts h.3)
-end_through files ks s id x word IsOther means same parts h = ends_through files s id x word Elsewhere means same parts h
+end_through files ks s id x word IsResource means same parts h = ends_part files s id x (one (Word word)) h.0 AtResource means same parts h.1
+end_through files ks s id x word (IsUnknown place) means same parts h = (h.0, h.1, h.2, (ends_part files s id x (one (Word word)) h.3.0 (AtForeign h.0 h.1) means same parts h.3.1))
+end_through files ks s id x word IsOther means same parts h = ends_part files s id x (one (Word word)) h.0 Elsewhere means same parts h.1
 
 -- an end that is found by the parts of an entry is found where each of them is
 part_by : (f g : ℕ → Option EntryEnd) (parts : List Ty) (e : EntryEnd) → ((j : ℕ) → HasPart parts (type.Id j) → f j ≡ Some e → g j ≡ Some e) → part_end f parts ≡ Some e → part_end g parts ≡ Some e
-part_by f g [] e by h = h
 part_by f g (type.Id j ∷ parts) e by h = by j (inl refl) h
-part_by f g (_ ∷ parts) e by h = h
+part_by f g parts e by h = h
 
 kind_by : (f g : ℕ → Option EntryEnd) (i : ℕ) (form : Form) (parts : List Ty) (e : EntryEnd) → ((j : ℕ) → HasPart parts (type.Id j) → f j ≡ Some e → g j ≡ Some e) → kind_end f i form parts ≡ Some e → kind_end g i form parts ≡ Some e
 kind_by f g i AliasForm parts e by h = part_by f g parts e by h
@@ -148,8 +137,7 @@ module _ (files : List PackageFile) (decls : Decls) (ks : List Key) (es : List T
   end_primitive n s id x p [] e means same word at is = absurd at
   end_primitive n s id x p (t ∷ ts) e means same word at is =
       let other : Some IsOther ≡ Some e = sym (part_primitive (entry_end n es) p ts) ∙ ap (λ (u : Ty). part_end (entry_end n es) (u ∷ ts)) (sym at.0) ∙ is in
-      let here : IsOther ≡ e = cc in
-      subst (EndIs files ks s id) here (ends_part files s id x (one (Prim p)) (suc zero) Elsewhere means same word refl)
+      subst (EndIs files ks s id) (same_some other) (ends_part files s id x (one (Prim p)) (suc zero) Elsewhere means same word refl)
 
   -- or a name
   end_word : (n : ℕ) → Stated n → (s : Address) (id : Id) (x : ScopeName) (word : Id) (parts : List Ty) (e : EntryEnd) → Means files s id x → AliasForm ≡ (about_name x).body.form → (about_name x).body.parts ≡ one (Word word) → AreAt ks (exprs_of (unwrap_or (about_name x).from s) (one (Word word))) parts → part_end (entry_end n es) parts ≡ Some e → EndIs files ks s id e
@@ -167,25 +155,14 @@ module _ (files : List PackageFile) (decls : Decls) (ks : List Key) (es : List T
   -- a name of another package
   end_unknown : (i : ℕ) (s : Address) (id : Id) (x : ScopeName) (e : EntryEnd) → Means files s id x → UnknownForm ≡ (about_name x).body.form → local_name x ≡ id.name.now → slice_get ks i ≡ Some (Def s id.name.now) → Some (IsUnknown i) ≡ Some e → EndIs files ks s id e
   end_unknown i s id x e means same called at is =
-      let here : IsUnknown i ≡ e = cc in
       let foreign : Some (AtForeign s (local_name x)) ≡ Some (AtForeign s id.name.now) = ap (λ (n : List ℕ). Some (AtForeign s n)) called in
-      subst (EndIs files ks s id) here (s, id.name.now, at, ends_formed files s id x UnknownForm (AtForeign s id.name.now) means same foreign)
-
-  end_resource : (s : Address) (id : Id) (x : ScopeName) (e : EntryEnd) → Means files s id x → ResourceForm ≡ (about_name x).body.form → Some IsResource ≡ Some e → EndIs files ks s id e
-  end_resource s id x e means same is =
-      let here : IsResource ≡ e = cc in
-      subst (EndIs files ks s id) here (ends_formed files s id x ResourceForm AtResource means same refl)
-
-  end_other : (s : Address) (id : Id) (x : ScopeName) (form : Form) (e : EntryEnd) → Means files s id x → form ≡ (about_name x).body.form → ends_in files zero s x form (about_name x).body.parts ≡ Some Elsewhere → Some IsOther ≡ Some e → EndIs files ks s id e
-  end_other s id x form e means same ends is =
-      let here : IsOther ≡ e = cc in
-      subst (EndIs files ks s id) here (ends_formed files s id x form Elsewhere means same ends)
+      subst (EndIs files ks s id) (same_some is) (s, id.name.now, at, ends_formed files s id x UnknownForm (AtForeign s id.name.now) means same foreign)
 
   end_formed : (n : ℕ) → Stated n → (i : ℕ) (s : Address) (id : Id) (x : ScopeName) (form : Form) (parts : List Ty) (e : EntryEnd) → Means files s id x → form ≡ (about_name x).body.form → local_name x ≡ id.name.now → AreAt ks (name_exprs s x) parts → slice_get ks i ≡ Some (Def s id.name.now) → kind_end (entry_end n es) i form parts ≡ Some e → EndIs files ks s id e
   end_formed n as_stated i s id x AliasForm parts e means same called at key is = end_alias n as_stated s id x parts e means same at is
-  end_formed n as_stated i s id x ResourceForm parts e means same called at key is = end_resource s id x e means same is
+  end_formed n as_stated i s id x ResourceForm parts e means same called at key is = subst (EndIs files ks s id) (same_some is) (ends_formed files s id x ResourceForm AtResource means same refl)
   end_formed n as_stated i s id x UnknownForm parts e means same called at key is = end_unknown i s id x e means same called key is
-  end_formed n as_stated i s id x form parts e means same called at key is = end_other s id x form e means same refl is
+  end_formed n as_stated i s id x form parts e means same called at key is = subst (EndIs files ks s id) (same_some is) (ends_formed files s id x form Elsewhere means same refl)
 
   -- an entry ends where it does by those that come before another one after it
   end_before : (n i j : ℕ) (e : EntryEnd) → i < length es → j < i → entry_end n (take i es) j ≡ Some e → entry_end n es j ≡ Some e

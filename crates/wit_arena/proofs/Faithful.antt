@@ -11,15 +11,14 @@ use Rattle.wit_arena.specs.UnfoldedTypes.{owner_of, names_of, functions_of, func
 use Rattle.wit_functions.specs.declared.function.Function.{Function}
 use Rattle.wit_arena.specs.SourceFunctions.{IsFunction}
 use Rattle.wit_arena.proofs.Signatures.{function_typed, type_of}
-use Rattle.wit_arena.proofs.SignatureForms.{signature_anonymous}
 use Rattle.wit_arena.specs.Whole.{functions_at}
 use Rattle.wit_arena.specs.Faithful.{node_parts, IsRoot, OfName, OfFunction, HasType, IsAnonymousForm, IsFaithful}
 use Rattle.wit_arena.specs.Resolving.{Names}
-use Rattle.wit_arena.proofs.Places.{Extended, at_injective, at_functional}
-use Rattle.wit_arena.proofs.Occurrence.{Has, collects_from, once_of}
+use Rattle.wit_arena.proofs.Places.{Extended, at_injective, at_functional, same_some}
+use Rattle.wit_arena.proofs.Occurrence.{Has, collects_from}
 use Rattle.wit_arena.proofs.Parts.{all_parts}
 use Rattle.wit_arena.proofs.Shape.{key_of, backward, interned}
-use Rattle.wit_arena.proofs.Forms.{seen_anonymous, name_anonymous}
+use Rattle.wit_arena.proofs.Forms.{seen_anonymous, name_anonymous, signature_anonymous}
 use Rattle.wit_arena.proofs.Depth.{IsScope, same_tree}
 use Rattle.wit_arena.proofs.Positions.{type_parts, means, below_at, leads, all_lead}
 use Rattle.wit_arena.proofs.Members.{DoneScope, IsWholeOf, IsInSignatureOf, IsPresent}
@@ -51,10 +50,7 @@ module _ (files : List PackageFile) (decls : Decls) (written : List Occurrence) 
   whole_key j (Whole form parts) e it none = (parts, ap (λ (f : Form). Whole f parts) (sym it.2))
 
   named_key : (j : ℕ) (k : Key) (e : TypeDef) (name : List ℕ) → IsEntry decls (take j ks) k e → e.name ≡ Some name → (s : Address) × (k ≡ Def s name)
-  named_key j (Def s called) e name it some =
-      let two : Some called ≡ Some name = sym it.4 ∙ some in
-      let same : called ≡ name = cc in
-      (s, ap (Def s) same)
+  named_key j (Def s called) e name it some = (s, ap (Def s) (same_some (sym it.4 ∙ some)))
   named_key j (Whole form parts) e name it some = absurd (let none = it.0 in let f : ⊥ = cc in f)
 
   was_seen : (j : ℕ) (form : Form) (parts : Exprs) → slice_get ks j ≡ Some (Whole form parts) → Has (keys written) (Whole form parts)
@@ -178,13 +174,6 @@ module _ (files : List PackageFile) (decls : Decls) (written : List Occurrence) 
         called = owners.called it.place it.resolved_scope it.at;
       })
 
-  -- the names of an owner, and its functions, are those of its scope
-  types_of : (o : TypeOwner) (s : Address) → (w : IsOwnerOf cs o s) → names_of p o ≡ w.resolved_scope.types
-  types_of o s w = ap (names_of p) (sym w.whose) ∙ owners.names w.place w.resolved_scope w.at
-
-  stated_of : (o : TypeOwner) (s : Address) → (w : IsOwnerOf cs o s) → functions_of p o ≡ w.resolved_scope.stated
-  stated_of o s w = ap (functions_of p) (sym w.whose) ∙ owners.functions w.place w.resolved_scope w.at
-
   -- each name of a scope is one of its owner
   name_present : (o : TypeOwner) (s : Address) (x : ScopeName) → owner_of p o ≡ Some s → Contains (scope files s) x → (id : ℕ) × Contains (names_of p o) (local_name x, id)
   name_present o s x called among =
@@ -192,7 +181,7 @@ module _ (files : List PackageFile) (decls : Decls) (written : List Occurrence) 
       let k = at_contains (scope files s) x among in
       let q = (d.each w.place w.resolved_scope w.at).turn.has k.0 x (ap (λ (z : Address). slice_get (scope files z) k.0) w.scope ∙ k.1) in
       let id = named_at files decls written cs p.types d w.place w.resolved_scope q.0 x w.at q.1 in
-      (id.0, contains_at (names_of p o) q.0 (local_name x, id.0) (ap (λ (l : Names). slice_get l q.0) (types_of o s w) ∙ id.1))
+      (id.0, contains_at (names_of p o) q.0 (local_name x, id.0) (ap (λ (l : Names). slice_get l q.0) (ap (names_of p) (sym w.whose) ∙ owners.names w.place w.resolved_scope w.at) ∙ id.1))
 
   -- the place of a function of a scope
   function_place : (s : Address) (fn : SourceFunction) (t : ℕ) (c : DoneScope) → slice_get cs t ≡ Some c → c.address ≡ s → Contains (functions_at files s) fn → (k : ℕ) × (slice_get c.functions k ≡ Some fn)
@@ -217,10 +206,6 @@ module _ (files : List PackageFile) (decls : Decls) (written : List Occurrence) 
       let there = (has_types files decls written cs p.types d w.place w.resolved_scope w.at).places k name id (ap (λ (l : Names). slice_get l k) (sym types) ∙ at) in
       subst (λ (z : Address). slice_get ks id ≡ Some (Def z name)) w.scope there
 
-  -- two written types are one type exactly where they are one expression
-  pub one_type : (x y : Expr) (t u : Ty) → IsAt ks x t → IsAt ks y u → (t ≡ u) ↔ (x ≡ y)
-  one_type x y t u h k = (λ same. at_injective ks x y u (subst (IsAt ks x) same h) k, λ same. at_functional ks (once_of d.occurrence.keyed) y t u (subst (λ (z : Expr). IsAt ks z t) same h) k)
-
   -- where no two functions of a scope go by one side and name
   module _ (apart : (t : ℕ) (c : DoneScope) → slice_get cs t ≡ Some c → AllDiffer (map function_key c.functions)) where
     -- the function of an owner that goes by the key of one of its scope is that one
@@ -230,12 +215,11 @@ module _ (files : List PackageFile) (decls : Decls) (written : List Occurrence) 
         let c = w.resolved_scope in
         let k = function_place s fn w.place c w.at w.scope among in
         let there = at_contains (functions_of p o) (function_key fn, f) present in
-        let made = (d.each w.place c w.at).stated.from there.0 (function_key fn) f (ap (λ (l : List (FunctionKey × Function)). slice_get l there.0) (sym (stated_of o s w)) ∙ there.1) in
+        let made = (d.each w.place c w.at).stated.from there.0 (function_key fn) f (ap (λ (l : List (FunctionKey × Function)). slice_get l there.0) (sym (ap (functions_of p) (sym w.whose) ∙ owners.functions w.place w.resolved_scope w.at)) ∙ there.1) in
         let index = at_made w.place c w.at made.0 f made.1 in
         let key : function_key index.1 ≡ function_key fn = ap (λ (n : List ℕ). (role_side index.1.role, n)) (sym index.4.name) ∙ made.2 index.1 (ap (slice_get c.functions) (sym index.3) ∙ index.2) in
         let place = differ_at function_key c.functions (apart w.place c w.at) index.0 k.0 index.1 fn index.2 k.1 key in
-        let same : Some index.1 ≡ Some fn = sym index.2 ∙ ap (slice_get c.functions) place ∙ k.1 in
-        let one : index.1 ≡ fn = cc in
+        let one = same_some (sym index.2 ∙ ap (slice_get c.functions) place ∙ k.1) in
         subst (λ (z : Address). IsFunction ks z fn f) w.scope (subst (λ (g : SourceFunction). IsFunction ks c.address g f) one index.4)
 
     -- the type of a root
@@ -263,6 +247,6 @@ module _ (files : List PackageFile) (decls : Decls) (written : List Occurrence) 
         covered = covered;
         names = name_present;
         functions = function_present;
-        same = λ x y t u h k. one_type (expr_of x.0 x.1) (expr_of y.0 y.1) t u (type_at x t h) (type_at y u k);
+        same = λ x y t u h k. (λ same. at_injective ks (expr_of x.0 x.1) (expr_of y.0 y.1) u (subst (IsAt ks (expr_of x.0 x.1)) same (type_at x t h)) (type_at y u k), λ same. at_functional ks d.occurrence.keyed.once (expr_of y.0 y.1) t u (subst (λ (z : Expr). IsAt ks z t) same (type_at x t h)) (type_at y u k));
         trees = λ x t n h. same_tree files decls ks p d.occurrence.keyed scopes n x.0 x.1 t (type_at x t h);
       }

@@ -7,19 +7,17 @@ use Rattle.wit_arena.proofs.Occurrence.{collects_one}
 -- what two tests keep, one after the other, is what both keep
 filter_both : {X : Type 0} (p q r : X → Bool) → ((x : X) → r x ≡ (q x && p x)) → (xs : List X) → filter p (filter q xs) ≡ filter r xs
 filter_both p q r is [] = refl
-filter_both p q r is (x ∷ xs) = kept (q x) (is x) (filter_both p q r is xs)
-  where
-    kept : (b : Bool) → r x ≡ (b && p x) → filter p (filter q xs) ≡ filter r xs → filter p (cond b (x ∷ filter q xs) (filter q xs)) ≡ cond (r x) (x ∷ filter r xs) (filter r xs)
-    kept true same rest = ap (λ l. cond (p x) (x ∷ l) l) rest ∙ ap (λ t. cond t (x ∷ filter r xs) (filter r xs)) (sym same)
-    kept false same rest = rest ∙ ap (λ t. cond t (x ∷ filter r xs) (filter r xs)) (sym same)
+filter_both p q r is (x ∷ xs) = rw (is x) (elim (q x) as (λ b. filter p (cond b (x ∷ filter q xs) (filter q xs)) ≡ cond (b && p x) (x ∷ filter r xs) (filter r xs)) [
+  | true ↦ ap (λ l. cond (p x) (x ∷ l) l) (filter_both p q r is xs)
+  | false ↦ filter_both p q r is xs
+])
 
 filter_all : {X : Type 0} (xs : List X) → filter (λ x. true) xs ≡ xs
 filter_all [] = refl
 filter_all (x ∷ xs) = ap (λ l. x ∷ l) (filter_all xs)
 
 and_swap : (a b c : Bool) → (a && (b && c)) ≡ (b && (a && c))
-and_swap true true c = refl
-and_swap true false c = refl
+and_swap true b c = refl
 and_swap false true c = refl
 and_swap false false c = refl
 

@@ -1,20 +1,17 @@
 -- The names that items use from other packages, where each is first used.
-use Rattle.std.proofs.Common.{◌≡◌, ℕ, zero, suc, Bool, true, cond, List, [], ◌∷◌, ◌++◌, Some, Contains, inl, inr, refl, sym, ap, ◌∙◌, subst, append_assoc}
-use Rattle.wit_syntax.proofs.Common.{Address, AllDiffer, AreDistinct, DefinitionPart, Exported, Extern, ExternPart, Foreign, ForeignName, ForeignUse, ForeignVisit, FunctionPart, Id, Imported, IncludePart, InterfaceNamed, Item, Local, PackageFile, PackageName, Part, ScopeName, Target, TopName, Use, UseName, UsePart, WorldSide, all_items, and_from, and_parts, append-nil, at_contains, at_prefix, at_side, both_ways, bytes_eq, cases_Bool, differ_at, differ_by, filter, first_foreign_uses, firsts, firsts-more, firsts_at, firsts_differ, firsts_has, flat_map, flat_map_at, flat_map_has, foreign_interfaces, foreign_uses, inline_uses, is_foreign, item_foreign_uses, kept_at, kept_differ, kept_has, leads, local_name, map, map-append, map_at, map_map, name_equal, name_itself, option_map, part_foreign_uses, part_uses, parts, path_scope, same_address, same_address-equal, same_address-from, same_foreign_use, same_side, side_itself, slice_get, slice_get-map, target_scope, use_foreign_uses, use_of_foreign, used_names, uses, visited, walk}
-use Rattle.wit_arena.specs.ResolvedArenas.{AreUsableUses}
+use Rattle.std.proofs.Common.{◌≡◌, ℕ, zero, Bool, true, cond, List, [], ◌∷◌, ◌++◌, Some, Contains, inl, inr, refl, sym, ap, ◌∙◌, subst, append_assoc}
+use Rattle.wit_syntax.proofs.Common.{Address, AllDiffer, AreDistinct, Exported, Extern, ExternPart, Foreign, ForeignName, ForeignUse, ForeignVisit, Id, Imported, InterfaceNamed, Item, Local, PackageFile, PackageName, Part, ScopeName, Target, TopName, Use, UseName, UsePart, WorldSide, all_items, and_from, and_parts, append-nil, at_contains, at_prefix, at_side, both_ways, bytes_eq, cases_Bool, differ_at, differ_by, filter, first_foreign_uses, firsts, firsts-more, firsts_at, firsts_differ, firsts_has, flat_map, flat_map_at, flat_map_has, foreign_interfaces, foreign_uses, inline_uses, is_foreign, item_foreign_uses, kept_at, kept_differ, kept_has, leads, local_name, map, map-append, map_at, map_map, name_equal, name_itself, option_map, part_foreign_uses, part_uses, parts, path_scope, same_address, same_address-equal, same_address-from, same_foreign_use, same_side, side_itself, slice_get, slice_get-map, target_scope, use_foreign_uses, use_of_foreign, used_names, uses, visited, walk}
 use Rattle.wit_arena.specs.Occurrences.{Key, Def, Occurrence, keys, Collects}
 use Rattle.wit_arena.specs.Whole.{foreign_use_occurrence}
-use Rattle.wit_arena.proofs.Visits.{side_has, side_at, part_use_at, use_at, used_interface_visit}
+use Rattle.wit_arena.proofs.Visits.{side_has, side_at, part_use_at, use_at, used_interface_visit, AreUsableUses}
+use Rattle.wit_arena.proofs.Places.{same_some}
 
 -- a name of a scope, as it occurs
 abbrev pub foreign_use_key : ForeignUse → Key
 foreign_use_key t = Def t.from t.id.name.now
 
 pub use_of_foreign-from : (a b : ForeignUse) → foreign_use_key a ≡ foreign_use_key b → same_foreign_use a b ≡ true
-use_of_foreign-from a b h =
-    let from : a.from ≡ b.from = cc in
-    let name : a.id.name.now ≡ b.id.name.now = cc in
-    and_from (same_address a.from b.from) (bytes_eq a.id.name.now b.id.name.now) (same_address-from a.from b.from from) (ap (λ (n : List ℕ). bytes_eq n b.id.name.now) name ∙ name_itself b.id.name.now)
+use_of_foreign-from a b h = and_from (same_address a.from b.from) (bytes_eq a.id.name.now b.id.name.now) (same_address-from a.from b.from (cc)) (cc (name_itself b.id.name.now))
 
 pub use_of_foreign-equal : (a b : ForeignUse) → same_foreign_use a b ≡ true → foreign_use_key a ≡ foreign_use_key b
 use_of_foreign-equal a b h =
@@ -76,20 +73,13 @@ used_at files k t at =
         record { place = p; item = w; at = here; part = u; among = among; name = n.0; is = sym n.2; foreign = foreign }
 
     of_part : (p : ℕ) (w : Item) → slice_get (all_items files) p ≡ Some w → (m : ℕ) (part : Part) → slice_get (parts w) m ≡ Some part → (j : ℕ) → slice_get (part_foreign_uses w.top part) j ≡ Some t → is_foreign t.from ≡ true → IsUsedAt files t
-    of_part p w here m (DefinitionPart d) there j is foreign = absurd (let f : ⊥ = cc in f)
     of_part p w here m (UsePart u) there j is foreign = of_use p w here u (use_at w m u there) j is foreign
-    of_part p w here m (IncludePart i) there j is foreign = absurd (let f : ⊥ = cc in f)
-    of_part p w here m (FunctionPart g) there j is foreign = absurd (let f : ⊥ = cc in f)
-    of_part p w here m (ExternPart x) there j is foreign = absurd (let f : ⊥ = cc in f)
+    of_part p w here m _ there j is foreign = absurd (let f : ⊥ = cc in f)
 
     none_used : (j : ℕ) → slice_get [] j ≡ Some t → IsUsedAt files t
     none_used j is = absurd (let f : ⊥ = cc in f)
 
     of_side : (side : WorldSide) (p : ℕ) (w : Item) → slice_get (all_items files) p ≡ Some w → (m : ℕ) (part : Part) → slice_get (parts w) m ≡ Some part → (j : ℕ) → slice_get (at_side (λ (x : Extern). flat_map (use_foreign_uses w.top) (inline_uses x.kind)) side part) j ≡ Some t → is_foreign t.from ≡ true → IsUsedAt files t
-    of_side side p w here m (DefinitionPart d) there j is foreign = absurd (let f : ⊥ = cc in f)
-    of_side side p w here m (UsePart u) there j is foreign = absurd (let f : ⊥ = cc in f)
-    of_side side p w here m (IncludePart i) there j is foreign = absurd (let f : ⊥ = cc in f)
-    of_side side p w here m (FunctionPart g) there j is foreign = absurd (let f : ⊥ = cc in f)
     of_side side p w here m (ExternPart x) there j is foreign = elim (cases_Bool (same_side side x.side)) [
       | inl hit ↦ (
           let among : slice_get (flat_map (use_foreign_uses w.top) (inline_uses x.kind)) j ≡ Some t = rw hit at is in
@@ -97,22 +87,19 @@ used_at files k t at =
           of_use p w here u.1 (part_use_at w m (ExternPart x) u.0 u.1 there u.2) u.3.0 u.3.1 foreign)
       | inr miss ↦ none_used j (rw miss at is)
     ]
+    of_side side p w here m _ there j is foreign = absurd (let f : ⊥ = cc in f)
 
 -- what a `use` of a part takes is among what is taken in an item
 foreign_use_in : (top : List TopName) (ps : List Part) (m : ℕ) (x : Part) (i : ℕ) (u : Use) (j : ℕ) (t : ForeignUse) → slice_get ps m ≡ Some x → slice_get (part_uses x) i ≡ Some u → slice_get (use_foreign_uses top u) j ≡ Some t → (k : ℕ) × (slice_get (walk (part_foreign_uses top) (λ (x : Extern). flat_map (use_foreign_uses top) (inline_uses x.kind)) ps) k ≡ Some t)
-foreign_use_in top ps m (DefinitionPart d) i u j t part at takes = absurd (let f : ⊥ = cc in f)
 foreign_use_in top ps m (UsePart y) zero u j t part at takes =
-    let same : y ≡ u = cc in
-    let inner = flat_map_has (part_foreign_uses top) ps m j (UsePart y) t part (ap (λ (z : Use). slice_get (use_foreign_uses top z) j) same ∙ takes) in
+    let inner = flat_map_has (part_foreign_uses top) ps m j (UsePart y) t part (ap (λ (z : Use). slice_get (use_foreign_uses top z) j) (same_some at) ∙ takes) in
     (inner.0, at_prefix (flat_map (part_foreign_uses top) ps) (flat_map (at_side (λ (x : Extern). flat_map (use_foreign_uses top) (inline_uses x.kind)) Imported) ps ++ flat_map (at_side (λ (x : Extern). flat_map (use_foreign_uses top) (inline_uses x.kind)) Exported) ps) inner.0 t inner.1)
-foreign_use_in top ps m (UsePart y) (suc i) u j t part at takes = absurd (let f : ⊥ = cc in f)
-foreign_use_in top ps m (IncludePart y) i u j t part at takes = absurd (let f : ⊥ = cc in f)
-foreign_use_in top ps m (FunctionPart g) i u j t part at takes = absurd (let f : ⊥ = cc in f)
 foreign_use_in top ps m (ExternPart x) i u j t part at takes =
     let own = flat_map_has (use_foreign_uses top) (inline_uses x.kind) i j u t at takes in
     let here : slice_get (at_side (λ (x : Extern). flat_map (use_foreign_uses top) (inline_uses x.kind)) x.side (ExternPart x)) own.0 ≡ Some t = ap (λ (b : Bool). slice_get (cond b (flat_map (use_foreign_uses top) (inline_uses x.kind)) []) own.0) (side_itself x.side) ∙ own.1 in
     let on_side = flat_map_has (at_side (λ (x : Extern). flat_map (use_foreign_uses top) (inline_uses x.kind)) x.side) ps m own.0 (ExternPart x) t part here in
     side_has (flat_map (part_foreign_uses top) ps) (λ side. flat_map (at_side (λ (x : Extern). flat_map (use_foreign_uses top) (inline_uses x.kind)) side) ps) x.side on_side.0 t on_side.1
+foreign_use_in top ps m _ i u j t part at takes = absurd (let f : ⊥ = cc in f)
 
 -- what is used from another package is taken
 pub foreign_use_has : (files : List PackageFile) (q : ℕ) (w : Item) (u : Use) (j : ℕ) (n : UseName) → slice_get (all_items files) q ≡ Some w → Contains (uses w) u → slice_get u.names.items j ≡ Some n → is_foreign (path_scope w.top u.from) ≡ true → (k : ℕ) × (slice_get (foreign_uses files) k ≡ Some (use_of_foreign (path_scope w.top u.from) u.attributes.items n))
@@ -168,6 +155,5 @@ module _ (files : List PackageFile) where
         let u = map_at (λ (t : ForeignUse). ForeignName t.attributes t.id) prefix j y at_j in
         let a = same_address-equal t.0.from s (kept_at test (first_foreign_uses files) i t.0 t.1).2 in
         let b = same_address-equal u.0.from s (kept_at test (first_foreign_uses files) j u.0 u.1).2 in
-        let names : t.0.id.name.now ≡ u.0.id.name.now = ap local_name t.2 ∙ same ∙ sym (ap local_name u.2) in
-        let key : foreign_use_key t.0 ≡ foreign_use_key u.0 = ap (λ (z : Address). Def z t.0.id.name.now) (a ∙ sym b) ∙ ap (Def u.0.from) names in
+        let key : foreign_use_key t.0 ≡ foreign_use_key u.0 = cc (a, b, ap local_name t.2, same, ap local_name u.2) in
         differ_at foreign_use_key prefix (kept_differ foreign_use_key test (first_foreign_uses files) foreign_uses_differ) i j t.0 u.0 t.1 u.1 key))

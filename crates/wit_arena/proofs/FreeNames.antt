@@ -1,6 +1,6 @@
 -- The written names of functions that are no resource's, in the source and in the package.
-use Rattle.std.proofs.Common.{◌≡◌, ℕ, zero, suc, List, [], ◌∷◌, ◌++◌, Some, refl, sym, ap, ◌∙◌, subst, arith, Contains}
-use Rattle.wit_syntax.proofs.Common.{Address, Constructor, DefinitionPart, ExternPart, Freestanding, FuncForm, FunctionKey, FunctionPart, Id, IncludePart, Item, Method, OnSide, Part, ResourceFunc, Role, SourceFunction, Static, TypeBody, UsePart, WorldSide, accessor, at_contains, at_within, contains_at, definition_functions, extern_at, flat_map, flat_map_at, flat_map_has, free_function, functions, map, map_at, part_functions, parts, resource_function, role_names, role_side, slice_get, slice_get_within}
+use Rattle.std.proofs.Common.{◌≡◌, ℕ, zero, List, [], ◌∷◌, ◌++◌, Some, refl, sym, ap, ◌∙◌, subst, arith, Contains}
+use Rattle.wit_syntax.proofs.Common.{Address, Constructor, DefinitionPart, ExternPart, Freestanding, FuncForm, FunctionKey, FunctionPart, Id, Item, Method, OnSide, Part, ResourceFunc, Role, SourceFunction, Static, TypeBody, WorldSide, accessor, at_contains, at_within, contains_at, definition_functions, extern_at, flat_map, flat_map_at, flat_map_has, free_function, functions, map, map_at, part_functions, parts, resource_function, role_names, role_side, slice_get, slice_get_within}
 use Rattle.wit_type_tree.specs.declared.types.FuncForm.TheVariants as form
 use Rattle.wit_type_tree.specs.declared.types.TypeBody.TheVariants as body
 use Rattle.wit_type_tree.specs.declared.types.ResourceFunc.TheVariants as resource
@@ -39,21 +39,15 @@ IsCalled (OnSide side id form) name = name ≡ accessor form ++ id.name.now
 
 free_kind : (form : FuncForm) (name : List ℕ) → freestanding_names (freestanding_kind form) (accessor form ++ name) ≡ name ∷ []
 free_kind form.Plain name = refl
-free_kind form.Async name = refl
-free_kind form.Getter name = refl
-free_kind form.Setter name = refl
+free_kind _ name = refl
 
 no_method : (form : FuncForm) (r : ℕ) (name : List ℕ) → freestanding_names (method_kind form r) name ≡ []
 no_method form.Plain r name = refl
-no_method form.Async r name = refl
-no_method form.Getter r name = refl
-no_method form.Setter r name = refl
+no_method _ r name = refl
 
 no_static : (form : FuncForm) (r : ℕ) (name : List ℕ) → freestanding_names (static_kind form r) name ≡ []
 no_static form.Plain r name = refl
-no_static form.Async r name = refl
-no_static form.Getter r name = refl
-no_static form.Setter r name = refl
+no_static _ r name = refl
 
 -- the names of an item's functions that are no resource's
 abbrev pub free_names : Item → List (List ℕ)
@@ -69,70 +63,50 @@ free_role ks s (OnSide side id form) k name called is = ap (λ x. freestanding_n
 -- so it is of the functions of an item
 resource_called : (r : Id) (g : ResourceFunc) → IsCalled (resource_function r g).role (resource_function r g).name
 resource_called r (resource.Method f) = tt
-resource_called r (resource.Static f) = tt
-resource_called r (resource.Constructor docs attributes span params result) = tt
+resource_called r _ = tt
 
 definition_called : (r : Id) (b : TypeBody) (k : ℕ) (fn : SourceFunction) → slice_get (definition_functions r b) k ≡ Some fn → IsCalled fn.role fn.name
 definition_called r (body.Resource funcs) k fn at =
     let g = map_at (resource_function r) funcs.items k fn at in
     subst (λ (x : SourceFunction). IsCalled x.role x.name) g.2 (resource_called r g.0)
-definition_called r (body.Record span fields) k fn at = absurd (let f : ⊥ = cc in f)
-definition_called r (body.Flags span flags) k fn at = absurd (let f : ⊥ = cc in f)
-definition_called r (body.Variant span cases) k fn at = absurd (let f : ⊥ = cc in f)
-definition_called r (body.Enum span cases) k fn at = absurd (let f : ⊥ = cc in f)
-definition_called r (body.Plain t) k fn at = absurd (let f : ⊥ = cc in f)
+definition_called r _ k fn at = absurd (let f : ⊥ = cc in f)
 
 part_called : (p : Part) (k : ℕ) (fn : SourceFunction) → slice_get (part_functions p) k ≡ Some fn → IsCalled fn.role fn.name
 part_called (DefinitionPart d) k fn at = definition_called d.name d.body k fn at
-part_called (UsePart u) k fn at = absurd (let f : ⊥ = cc in f)
-part_called (IncludePart i) k fn at = absurd (let f : ⊥ = cc in f)
 part_called (ExternPart x) k fn at = (let it = extern_at x x.kind k fn at in subst (λ (g : SourceFunction). IsCalled g.role g.name) it.2 refl)
 part_called (FunctionPart g) zero fn at = let same : free_function g ≡ fn = cc in subst (λ (x : SourceFunction). IsCalled x.role x.name) same refl
-part_called (FunctionPart g) (suc k) fn at = absurd (let f : ⊥ = cc in f)
+part_called _ k fn at = absurd (let f : ⊥ = cc in f)
 
 function_called : (i : Item) (k : ℕ) (fn : SourceFunction) → slice_get (functions i) k ≡ Some fn → IsCalled fn.role fn.name
 function_called i k fn at =
     let it = flat_map_at part_functions (parts i) k fn at in
     part_called it.1 it.3.0 fn it.3.1
 
--- a function of the package goes by the written name of the function that it is
-names_same : (ks : List Key) (s : Address) (i : Item) (k : ℕ) (fn : SourceFunction) (f : Function) → slice_get (functions i) k ≡ Some fn → IsFunction ks s fn f → freestanding_names f.kind f.name ≡ role_names fn.role
-names_same ks s i k fn f at is = ap (freestanding_names f.kind) is.name ∙ free_role ks s fn.role f.kind fn.name (function_called i k fn at) is.kind
-
 names_again : (ks : List Key) (s : Address) (i : Item) (k : ℕ) (fn : SourceFunction) (f : Function) → slice_get (functions i) k ≡ Some fn → IsFunction ks s fn f → role_names fn.role ≡ freestanding_names f.kind f.name
-names_again ks s i k fn f at is = sym (names_same ks s i k fn f at is)
+names_again ks s i k fn f at is = sym (ap (freestanding_names f.kind) is.name ∙ free_role ks s fn.role f.kind fn.name (function_called i k fn at) is.kind)
 
 module _ (ks : List Key) (s : Address) (i : Item) (made : List Function) (stated : List (FunctionKey × Function)) (are : AreFunctions ks s (functions i) made) (says : AreStated (functions i) made stated) where
-  -- a written name of one of its functions, and one that is stated
-  stated_at : (k j : ℕ) (fn : SourceFunction) (name : List ℕ) → slice_get (functions i) k ≡ Some fn → slice_get (role_names fn.role) j ≡ Some name → Contains (free_of stated) name
-  stated_at k j fn name at written =
-      let lt = slice_get_within (functions i) k fn at in
-      let count = are.count in
-      let f = at_within made k (omega arith) in
-      let same : role_names fn.role ≡ freestanding_names f.0.kind f.0.name = names_again ks s i k fn f.0 at (are.each k fn f.0 at f.1) in
-      let place = says.has k fn f.0 at f.1 in
-      let it = flat_map_has (λ (x : FunctionKey × Function). freestanding_names x.1.kind x.1.name) stated place.0 j (made_key fn f.0, f.0) name place.1 (ap (λ (l : List (List ℕ)). slice_get l j) (sym same) ∙ written) in
-      contains_at (free_of stated) it.0 name it.1
-
-  written_at : (k j : ℕ) (f : Function) (name : List ℕ) → slice_get made k ≡ Some f → slice_get (freestanding_names f.kind f.name) j ≡ Some name → Contains (free_names i) name
-  written_at k j f name at as_stated =
-      let lt = slice_get_within made k f at in
-      let count = are.count in
-      let fn = at_within (functions i) k (omega arith) in
-      let same : role_names fn.0.role ≡ freestanding_names f.kind f.name = names_again ks s i k fn.0 f fn.1 (are.each k fn.0 f fn.1 at) in
-      let it = flat_map_has (λ (fn : SourceFunction). role_names fn.role) (functions i) k j fn.0 name fn.1 (ap (λ (l : List (List ℕ)). slice_get l j) same ∙ as_stated) in
-      contains_at (free_names i) it.0 name it.1
-
   -- the written names of an item's functions are those that its owner states
   pub free_stated : (name : List ℕ) → Contains (free_names i) name → Contains (free_of stated) name
   free_stated name among =
       let n = at_contains (free_names i) name among in
       let it = flat_map_at (λ (fn : SourceFunction). role_names fn.role) (functions i) n.0 name n.1 in
-      stated_at it.0 it.3.0 it.1 name it.2 it.3.1
+      let lt = slice_get_within (functions i) it.0 it.1 it.2 in
+      let count = are.count in
+      let f = at_within made it.0 (omega arith) in
+      let same : role_names it.1.role ≡ freestanding_names f.0.kind f.0.name = names_again ks s i it.0 it.1 f.0 it.2 (are.each it.0 it.1 f.0 it.2 f.1) in
+      let place = says.has it.0 it.1 f.0 it.2 f.1 in
+      let it' = flat_map_has (λ (x : FunctionKey × Function). freestanding_names x.1.kind x.1.name) stated place.0 it.3.0 (made_key it.1 f.0, f.0) name place.1 (ap (λ (l : List (List ℕ)). slice_get l it.3.0) (sym same) ∙ it.3.1) in
+      contains_at (free_of stated) it'.0 name it'.1
 
   pub stated_free : (name : List ℕ) → Contains (free_of stated) name → Contains (free_names i) name
   stated_free name among =
       let n = at_contains (free_of stated) name among in
       let it = flat_map_at (λ (x : FunctionKey × Function). freestanding_names x.1.kind x.1.name) stated n.0 name n.1 in
       let f = says.from it.0 it.1.0 it.1.1 it.2 in
-      written_at f.0 it.3.0 it.1.1 name f.1 it.3.1
+      let lt = slice_get_within made f.0 it.1.1 f.1 in
+      let count = are.count in
+      let fn = at_within (functions i) f.0 (omega arith) in
+      let same : role_names fn.0.role ≡ freestanding_names it.1.1.kind it.1.1.name = names_again ks s i f.0 fn.0 it.1.1 fn.1 (are.each f.0 fn.0 it.1.1 fn.1 f.1) in
+      let it' = flat_map_has (λ (fn : SourceFunction). role_names fn.role) (functions i) f.0 it.3.0 fn.0 name fn.1 (ap (λ (l : List (List ℕ)). slice_get l it.3.0) same ∙ it.3.1) in
+      contains_at (free_names i) it'.0 name it'.1

@@ -17,9 +17,8 @@ pub record DoneFunction : Type 0 where
 
 -- functions of a scope, and those that were made of them
 abbrev pub done_functions : Address → List SourceFunction → List Function → List DoneFunction
-done_functions s [] fs = []
-done_functions s (fn ∷ fns) [] = []
 done_functions s (fn ∷ fns) (f ∷ fs) = record { address = s; fn = fn; made = f } ∷ done_functions s fns fs
+done_functions s fns fs = []
 
 -- all those of a scope that is done
 abbrev pub scope_functions : DoneScope → List DoneFunction

@@ -1,12 +1,12 @@
 -- Interfaces that are written in worlds, as scopes that are done and as entries of the arena.
 use Rattle.std.proofs.Common.{◌≡◌, ◌<◌, ℕ, zero, suc, ◌+◌, List, [], ◌∷◌, ◌++◌, length, map, Some, refl, ap, subst, arith}
-use Rattle.wit_syntax.proofs.Common.{IsOrder, local_names, rows_of, scope_names, slice_get}
+use Rattle.wit_syntax.proofs.Common.{IsOrder, local_names, rows_of, scope_names, slice_get, about, declared_metadata}
 use Rattle.wit_model.specs.declared.interface.Interface.{Interface}
 use Rattle.wit_types.specs.declared.types.TypeOwner.TheVariants as owner
 use Rattle.wit_arena.specs.SourceFunctions.{placed_functions}
 use Rattle.wit_arena.specs.UnfoldedTypes.{interface_functions}
-use Rattle.wit_arena.specs.ResolvedArenas.{IsInterfaceOf}
-use Rattle.wit_arena.specs.Whole.{Ordered, turned}
+use Rattle.wit_arena.specs.UnfoldedTypes.{IsInterface}
+use Rattle.wit_arena.proofs.Ordered.{Ordered, turned}
 use Rattle.wit_arena.proofs.Members.{DoneScope, turn_of}
 
 -- an interface that is written in a world is done, and is at a place
@@ -16,7 +16,7 @@ pub record IsInside (place : ℕ) (o : Ordered) (c : DoneScope) (i : Interface) 
   pub types : c.types ≡ i.types
   pub listed : map (λ p. p.0) c.types ≡ local_names c.names
   pub whose : c.owner ≡ owner.Interface place
-  pub says : IsInterfaceOf o.item i
+  pub says : IsInterface (about o.item.declared).called (about o.item.declared).id.span (declared_metadata o.item.declared) i
   pub are_present : i.functions ≡ placed_functions c.made
   pub stated : c.stated ≡ interface_functions i
 

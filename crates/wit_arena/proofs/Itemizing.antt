@@ -1,19 +1,23 @@
 -- The items of files, in an order of their table.
-use Rattle.std.proofs.Common.{◌≡◌, ℕ, zero, suc, ◌<◌, true, List, [], ◌∷◌, length, Some, inl, inr, sym, ap, ◌∙◌, subst, arith}
-use Rattle.wit_syntax.proofs.Common.{Address, AllDiffer, AreOwn, Attribute, DefinitionPart, ExternPart, ForeignName, FunctionPart, IncludePart, IsOrder, Item, PackageFile, Part, TopName, Use, UseName, UsePart, Used, all_items, bytes_eq, differ_by, flat_map, flat_map_at, in_order, in_order_at, in_order_read, index_of, index_once, item_name, item_named, item_row, item_rows, key_at, length-map, map, map_at, name_cases, name_itself, order_within, part_names, parts, path_scope, scope_names, slice_get, slice_get_within}
+use Rattle.std.proofs.Common.{◌≡◌, ℕ, zero, ◌<◌, true, List, length, Some, sym, ap, ◌∙◌, subst, arith, Bool, refl}
+use Rattle.wit_syntax.proofs.Common.{Address, AllDiffer, AreOwn, Attribute, DefinitionPart, ForeignName, IsOrder, Item, PackageFile, Part, TopName, Use, UseName, UsePart, Used, all_items, bytes_eq, differ_by, flat_map, flat_map_at, in_order, in_order_at, in_order_read, index_of, index_once, item_name, item_named, item_row, item_rows, key_at, length-map, map, map_at, name_itself, order_within, part_names, parts, path_scope, scope_names, slice_get, slice_get_within, find, find_at, find_passes, find_some, name_equal, differ_at}
 use Rattle.wit_arena.proofs.Interfaces.{AreItems}
+
+-- what is found is the only one that passes
+pub find-only : {X : Type 0} (p : X → Bool) (xs : List X) (t : ℕ) (x : X) → slice_get xs t ≡ Some x → p x ≡ true → ((i : ℕ) (y : X) → slice_get xs i ≡ Some y → p y ≡ true → i ≡ t) → find p xs ≡ Some x
+find-only p xs t x at pass only =
+    let it = find_some p xs t x at pass in
+    let q = find_at p xs it.0 it.1 in
+    let place = only q.0 it.0 q.1 (find_passes p xs it.0 it.1) in
+    it.1 ∙ sym q.1 ∙ ap (slice_get xs) place ∙ at
+
+-- so where no two are called the same, what is called so is found
+pub found_by : {X : Type 0} (key : X → List ℕ) (xs : List X) (p : ℕ) (x : X) (name : List ℕ) → AllDiffer (map key xs) → slice_get xs p ≡ Some x → key x ≡ name → find (λ y. bytes_eq (key y) name) xs ≡ Some x
+found_by key xs p x name differ at same = find-only (λ y. bytes_eq (key y) name) xs p x at (ap (λ n. bytes_eq n name) same ∙ name_itself name) (λ i y at_y passes. differ_at key xs differ i p y x at_y at (name_equal (key y) name passes ∙ sym same))
 
 -- where names differ, an item is the first of its name
 pub named_found : (is : List Item) (p : ℕ) (w : Item) → AllDiffer (map item_name is) → slice_get is p ≡ Some w → item_named is (item_name w) ≡ Some w
-named_found [] p w differ at = absurd (let f : ⊥ = cc in f)
-named_found (v ∷ is) zero w differ at =
-    let here : v ≡ w = cc in
-    let hit : bytes_eq (item_name v) (item_name w) ≡ true = ap (λ (u : Item). bytes_eq (item_name u) (item_name w)) here ∙ name_itself (item_name w) in
-    rw hit at
-named_found (v ∷ is) (suc p) w differ at = elim (name_cases (item_name v) (item_name w)) [
-  | inl first ↦ absurd (let both = differ.differ 0 (suc p) (item_name w) (ap Some first) (key_at item_name is p w at) in let f : ⊥ = omega arith in f)
-  | inr other ↦ rw other (named_found is p w (record { differ = λ i j n ati atj. (let both = differ.differ (suc i) (suc j) n ati atj in omega arith) }) at)
-]
+named_found is p w differ at = found_by item_name is p w (item_name w) differ at refl
 
 -- each item has a row
 pub length-item_rows : (files : List PackageFile) → length (item_rows files) ≡ length (all_items files)
@@ -26,17 +30,12 @@ used_part top ps k from attributes n at =
     of_part it.0 it.1 it.2 it.3.0 it.3.1
   where
     of_part : (m : ℕ) (part : Part) → slice_get ps m ≡ Some part → (j : ℕ) → slice_get (part_names top part) j ≡ Some (Used from attributes n) → (m : ℕ) × (u : Use) × (slice_get ps m ≡ Some (UsePart u)) × ((j : ℕ) × (slice_get u.names.items j ≡ Some n)) × (from ≡ path_scope top u.from)
-    of_part m (DefinitionPart d) there zero is = absurd (let f : ⊥ = cc in f)
-    of_part m (DefinitionPart d) there (suc j) is = absurd (let f : ⊥ = cc in f)
     of_part m (UsePart u) there j is =
         let x = map_at (Used (path_scope top u.from) u.attributes.items) u.names.items j (Used from attributes n) is in
-        let same : Used (path_scope top u.from) u.attributes.items x.0 ≡ Used from attributes n = x.2 in
-        let scope : from ≡ path_scope top u.from = cc in
-        let name : x.0 ≡ n = cc in
-        (m, u, there, (j, x.1 ∙ ap Some name), scope)
-    of_part m (IncludePart i) there j is = absurd (let f : ⊥ = cc in f)
-    of_part m (FunctionPart g) there j is = absurd (let f : ⊥ = cc in f)
-    of_part m (ExternPart x) there j is = absurd (let f : ⊥ = cc in f)
+        let name : x.0 ≡ n = cc x.2 in
+        (m, u, there, (j, x.1 ∙ ap Some name), cc x.2)
+    of_part m (DefinitionPart d) there zero is = cc
+    of_part m _ there j is = cc
 
 -- no name of an item is taken from another package
 pub own_names : (w : Item) → AreOwn (scope_names w)
@@ -45,16 +44,9 @@ own_names w k attributes id at =
     of_part it.1 it.3.0 it.3.1
   where
     of_part : (part : Part) (j : ℕ) → slice_get (part_names w.top part) j ≡ Some (ForeignName attributes id) → ⊥
-    of_part (DefinitionPart d) zero is = let f : ⊥ = cc in f
-    of_part (DefinitionPart d) (suc j) is = let f : ⊥ = cc in f
-    of_part (UsePart u) j is =
-        let x = map_at (Used (path_scope w.top u.from) u.attributes.items) u.names.items j (ForeignName attributes id) is in
-        let same : Used (path_scope w.top u.from) u.attributes.items x.0 ≡ ForeignName attributes id = x.2 in
-        let f : ⊥ = cc in
-        f
-    of_part (IncludePart i) j is = let f : ⊥ = cc in f
-    of_part (FunctionPart g) j is = let f : ⊥ = cc in f
-    of_part (ExternPart x) j is = let f : ⊥ = cc in f
+    of_part (DefinitionPart d) zero is = cc
+    of_part (UsePart u) j is = (let x = map_at (Used (path_scope w.top u.from) u.attributes.items) u.names.items j (ForeignName attributes id) is in cc x.2)
+    of_part _ j is = cc
 
 module _ (files : List PackageFile) (places : List ℕ) (order : IsOrder (item_rows files) places) where
   pub items_within : (j p : ℕ) → slice_get places j ≡ Some p → p < length (all_items files)

@@ -3,12 +3,12 @@ use Rattle.std.proofs.Common.{◌≡◌, ℕ, not, List, Option, Some, None, ap,
 use Rattle.wit_syntax.proofs.Common.{Address, AreAlike, AtForeign, AtResource, ForeignUse, ForeignVisit, Id, PackageFile, PackageName, Span, Stability, filter, firsts, foreign_interfaces, foreign_uses_alike, foreign_worlds, if◌then◌else◌, map, package_of, same_address, same_foreign_use, same_item, same_package, stability_of, visited, visits_same}
 use Rattle.wit_model.specs.declared.ast_item.AstItem.{AstItem}
 use Rattle.wit_model.specs.declared.ast_item.AstItem.TheVariants as entry
-use Rattle.wit_model.specs.declared.interface.Interface.{Interface}
 use Rattle.wit_model.specs.declared.unresolved.UnresolvedPackage.{UnresolvedPackage}
 use Rattle.wit_syntax.proofs.JoinedLegal.{ends_onward}
 use Rattle.wit_arena.specs.Occurrences.{Key}
 use Rattle.wit_arena.specs.Whole.{foreign_place, HandleRequires, AreRequired}
 use Rattle.wit_arena.proofs.ByParts.{NamesOthers}
+use Rattle.wit_arena.proofs.Required.{zip_weaker}
 
 -- what is named of other packages, by the visits
 abbrev items_by : List ForeignVisit → List ForeignVisit
@@ -48,7 +48,7 @@ module _ (files others : List PackageFile) (a : AreAlike files others) where
 
   -- names in handles end where they did
   pub required_onward : (ks : List Key) (hs : List (Address × Id)) (rs : List (ℕ × Span)) → AreRequired files ks hs rs → AreRequired others ks hs rs
-  required_onward ks hs rs h = (h.0, record { count = h.1.count; each = λ k x r at there. onward x r (h.1.each k x r at there) }, h.2)
+  required_onward ks hs rs h = (h.0, zip_weaker (HandleRequires files ks) (HandleRequires others ks) onward hs h.0 h.1, h.2)
     where
       onward : (x : Address × Id) (r : Option (ℕ × Span)) → HandleRequires files ks x r → HandleRequires others ks x r
       onward x None own = ends_onward files others a x.0 x.1 AtResource own

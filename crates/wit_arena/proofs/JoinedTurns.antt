@@ -1,9 +1,9 @@
--- Scopes with orders of their names, over items that are the same but for the names at the top of their files.
-use Rattle.std.proofs.Common.{◌≡◌, ℕ, suc, List, [], ◌∷◌, Bool, not, Option, Some, None, inl, inr, refl, sym, ap, ◌∙◌}
-use Rattle.wit_syntax.proofs.Common.{AreTwins, Declared, Item, ScopeName, about, after_one, bare, cons_option, declared_of, filter, filter-map, in_order, interfaces_of, kept_at, map, names_of_bare, option_map, scope_names, slice_get, slice_get-map, worlds_of}
+-- What is resolved in turn of items that are the same but for the names at the top of their files.
+use Rattle.std.proofs.Common.{◌≡◌, ℕ, List, [], ◌∷◌, ◌++◌, Bool, not, Option, Some, None, inl, inr, refl, sym, ap, ◌∙◌}
+use Rattle.wit_syntax.proofs.Common.{Address, AreTwins, Declared, Item, ScopeName, SideFunction, SideInline, SideItem, SideLink, SourceFunction, about, address, after_one, bare, cons_option, declared_of, filter, filter-map, flat_map, functions, in_order, in_turn, inline_items, inline_twins, interfaces_of, kept_at, map, map-append, map-flat_map, names_of_bare, no_names, option_map, scope_names, side_items, slice_get, slice_get-map, twins_become, twins_make, worlds_of}
 use Rattle.wit_syntax.proofs.JoinedTargets.{AreThemselves}
-use Rattle.wit_arena.specs.Whole.{Ordered}
-use Rattle.wit_arena.proofs.Turns.{item_of}
+use Rattle.wit_arena.specs.Made.{interface_turn, item_turns, names_in_turn, own_interfaces, turns_of_world, turns_on_sides}
+use Rattle.wit_arena.specs.Whole.{Turned}
 
 -- what is in an order is in the list
 abbrev OccursIn : List Item → Item → Type 0
@@ -50,45 +50,47 @@ module _ (is js : List Item) (t : AreTwins is js) where
   pub twin_worlds : AreTwins (worlds_of is) (worlds_of js)
   twin_worlds = twins_kept (λ (d : Declared). (about d).is_world)
 
--- the same orders over other items
--- the same orders over other items
-abbrev pub reordered : List Item → List Ordered → List Ordered
-reordered [] os = []
-reordered (j ∷ js) [] = []
-reordered (j ∷ js) (o ∷ os) = record { item = j; order = o.order } ∷ reordered js os
+abbrev turn : Address → List SourceFunction → List ScopeName → Turned
+turn s fns xs = record { address = s; names = xs; functions = fns }
 
--- what a scope is apart from the names at the top of its file: what it declares, its names and the order of these
-abbrev pub Stated : Type 0
-Stated = Declared × List ScopeName × List ℕ
+-- what is made of each interface of twins is the same where it is given by what it declares
+module _ {Y : Type 0} (f : Item → Y) (by_declared : (i : Item) → AreThemselves i.top → f i ≡ f (bare i.declared)) where
+  pub inline_made : (i : Item) → AreThemselves i.top → map f (inline_items i) ≡ map f (inline_items (bare i.declared))
+  inline_made i own = twins_make f by_declared (inline_items i) (inline_items (bare i.declared)) (inline_twins i (bare i.declared) own no_names refl)
 
-abbrev pub as_stated : Ordered → Stated
-as_stated o = (o.item.declared, scope_names o.item, o.order)
+  own_by : (is : List Item) → map f (own_interfaces is) ≡ map f (interfaces_of is) ++ flat_map (λ (w : Item). map f (inline_items w)) (worlds_of is)
+  own_by is = map-append f (interfaces_of is) (flat_map inline_items (worlds_of is)) ∙ ap (λ l. map f (interfaces_of is) ++ l) (map-flat_map f inline_items (worlds_of is))
 
-pub twins_first : (i j : Item) (is js : List Item) → AreTwins (i ∷ is) (j ∷ js) → i.declared ≡ j.declared
-twins_first i j is js t = (let same = t.same in cc)
+  pub own_made : (is js : List Item) → AreTwins is js → map f (own_interfaces is) ≡ map f (own_interfaces js)
+  own_made is js t =
+      let first = twins_make f by_declared (interfaces_of is) (interfaces_of js) (twin_interfaces is js t) in
+      let rest = twins_become (λ (w : Item). map f (inline_items w)) inline_made (worlds_of is) (worlds_of js) (twin_worlds is js t) in
+      cc (own_by is, own_by js, first, rest)
 
-pub twins_after : (i j : Item) (is js : List Item) → AreTwins (i ∷ is) (j ∷ js) → AreTwins is js
-twins_after i j is js t = record { left = λ k. t.left (suc k); right = λ k. t.right (suc k); same = (let same = t.same in cc) }
+-- what declares the same has one order
+abbrev pub ByDeclared : (Item → List ℕ) → Type 0
+ByDeclared order = (i j : Item) → i.declared ≡ j.declared → order i ≡ order j
 
-pub stated_same : (i j : Item) (order : List ℕ) → AreThemselves i.top → AreThemselves j.top → i.declared ≡ j.declared → as_stated (record { item = i; order = order }) ≡ as_stated (record { item = j; order = order })
-stated_same i j order own other same =
-    let names : scope_names i ≡ scope_names j = names_of_bare i own ∙ ap (λ (d : Declared). scope_names (bare d)) same ∙ sym (names_of_bare j other) in
-    ap (λ (d : Declared). stated_by d (scope_names i)) same ∙ ap (stated_by j.declared) names
-  where
-    stated_by : Declared → List ScopeName → Stated
-    stated_by d xs = (d, xs, order)
+-- what is resolved in turn
+module _ (order : Item → List ℕ) (one : ByDeclared order) where
+  pub names_stated : (i : Item) → AreThemselves i.top → names_in_turn order i ≡ names_in_turn order (bare i.declared)
+  names_stated i own = ap (λ xs. in_turn xs (order i)) (names_of_bare i own) ∙ ap (in_turn (scope_names (bare i.declared))) (one i (bare i.declared) refl)
 
-pub reordered_items : (os : List Ordered) (js : List Item) → AreTwins (map item_of os) js → map item_of (reordered js os) ≡ js
-reordered_items [] [] t = refl
-reordered_items [] (j ∷ js) t = (let same = t.same in absurd (let f : ⊥ = cc in f))
-reordered_items (o ∷ os) [] t = (let same = t.same in absurd (let f : ⊥ = cc in f))
-reordered_items (o ∷ os) (j ∷ js) t = ap (λ (l : List Item). j ∷ l) (reordered_items os js (twins_after o.item j (map item_of os) js t))
+  interface_stated : (i : Item) → AreThemselves i.top → interface_turn order i ≡ interface_turn order (bare i.declared)
+  interface_stated i own = ap (turn (address i) (functions i)) (names_stated i own)
 
-pub reordered_stated : (os : List Ordered) (js : List Item) → AreTwins (map item_of os) js → map as_stated os ≡ map as_stated (reordered js os)
-reordered_stated [] [] t = refl
-reordered_stated [] (j ∷ js) t = (let same = t.same in absurd (let f : ⊥ = cc in f))
-reordered_stated (o ∷ os) [] t = (let same = t.same in absurd (let f : ⊥ = cc in f))
-reordered_stated (o ∷ os) (j ∷ js) t =
-    let rest = reordered_stated os js (twins_after o.item j (map item_of os) js t) in
-    let first = stated_same o.item j o.order (t.left 0 o.item refl) (t.right 0 j refl) (twins_first o.item j (map item_of os) js t) in
-    ap (λ (x : Stated). x ∷ map as_stated os) first ∙ ap (λ (l : List Stated). as_stated (record { item = j; order = o.order }) ∷ l) rest
+  sides_same : (s : Address) (xs : List SideItem) (is js : List Item) → map (interface_turn order) is ≡ map (interface_turn order) js → turns_on_sides order s xs is ≡ turns_on_sides order s xs js
+  sides_same s [] is js same = refl
+  sides_same s (SideFunction fn ∷ xs) is js same = ap (λ l. turn s (fn ∷ []) [] ∷ l) (sides_same s xs is js same)
+  sides_same s (SideLink link ∷ xs) is js same = sides_same s xs is js same
+  sides_same s (SideInline x name items ∷ xs) [] [] same = refl
+  sides_same s (SideInline x name items ∷ xs) (i ∷ is) (j ∷ js) same =
+      let rest : map (interface_turn order) is ≡ map (interface_turn order) js = cc in
+      cc (sides_same s xs is js rest)
+  sides_same s xs is js same = absurd (let f : ⊥ = cc in f)
+
+  world_stated : (i : Item) → AreThemselves i.top → turns_of_world order i ≡ turns_of_world order (bare i.declared)
+  world_stated i own = cc (names_stated i own, sides_same (address i) (side_items i) (inline_items i) (inline_items (bare i.declared)) (inline_made (interface_turn order) interface_stated i own))
+
+  pub turns_same : (is js : List Item) → AreTwins is js → item_turns order is ≡ item_turns order js
+  turns_same is js t = cc (twins_make (interface_turn order) interface_stated (interfaces_of is) (interfaces_of js) (twin_interfaces is js t), twins_become (turns_of_world order) world_stated (worlds_of is) (worlds_of js) (twin_worlds is js t))

@@ -10,9 +10,8 @@ use Rattle.wit_arena.proofs.Occurrence.{keys-append}
 -- what occurs in types are the unnamed expressions in them
 mutual
   pub keys-shape : (s : Address) (given : Stability) (x : Shape) → keys (shape_occurrences s given x) ≡ seen (expr_of s x)
-  keys-shape s given (shape.Prim p) = refl
-  keys-shape s given (shape.Word id) = refl
   keys-shape s given (shape.Of span form parts) = keys-append (shapes_occurrences s given parts) (record { key = Whole form (exprs_of s parts); span = span; given = given } ∷ []) ∙ ap (λ ks. ks ++ Whole form (exprs_of s parts) ∷ []) (keys-shapes s given parts)
+  keys-shape s given _ = refl
 
   pub keys-shapes : (s : Address) (given : Stability) (xs : Shapes) → keys (shapes_occurrences s given xs) ≡ all_seen (exprs_of s xs)
   keys-shapes s given shape.End = refl

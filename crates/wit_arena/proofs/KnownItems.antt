@@ -1,7 +1,8 @@
 -- The items of a package in their orders: each is at its address.
-use Rattle.std.proofs.Common.{◌≡◌, ℕ, suc, ◌+◌, List, [], ◌∷◌, ◌++◌, length, Option, Some, refl, sym, ap, ◌∙◌, subst, Contains}
+use Rattle.std.proofs.Common.{◌≡◌, ℕ, suc, ◌+◌, List, [], ◌∷◌, ◌++◌, length, Option, Some, refl, sym, ap, ◌∙◌, subst}
 use Rattle.wit_syntax.proofs.Common.{AllDiffer, FoldedTwice, IsLegal, IsOrder, Item, Names, PackageFile, ScopeName, Sides, SourceFunction, address, all_items, all_scopes, at_back, at_prefix, foreign_interfaces, foreign_worlds, function_key, functions, functions_differ, functions_items, in_order, inline_items, interfaces_of, is_world, item_at, map, map-append, map_map, not, option_map, option_map_or, rows_of, scope, scope_names, side_items, slice_get, slice_get-map, visited, worlds_of}
-use Rattle.wit_arena.specs.Whole.{Ordered, OrderedWorld, AreOrdered, all_inside, functions_at, interface_addresses, ordered_names, world_addresses}
+use Rattle.wit_arena.proofs.Ordered.{Ordered, OrderedWorld, AreOrdered, all_inside, interface_addresses, ordered_names, world_addresses}
+use Rattle.wit_arena.specs.Whole.{functions_at}
 use Rattle.wit_arena.proofs.Added.{inside_of, interface_list, world_list}
 use Rattle.wit_arena.proofs.DoneWorlds.{own_order}
 use Rattle.wit_arena.proofs.Interfaces.{AreItems, items_kept, item_scopes, inline_scopes, scope_at}
@@ -25,28 +26,22 @@ module _ (files : List PackageFile) (legal : IsLegal files) where
     pub functions_are : functions_at files (address o.item) ≡ functions o.item
     functions_are = ap (λ (i : Option Item). option_map_or functions i []) it.found
 
-    among : Contains (all_scopes files) o.item
-    among = scope_among files legal (address o.item) o.item it.found
-
     pub turn_is : IsTurn (scope files (address o.item)) (ordered_names o)
-    turn_is = subst (λ (l : List ScopeName). IsTurn l (ordered_names o)) (sym scope_is) (in_turn_is (scope_names o.item) o.order it.least (names_differ files legal o.item among))
+    turn_is = subst (λ (l : List ScopeName). IsTurn l (ordered_names o)) (sym scope_is) (in_turn_is (scope_names o.item) o.order it.least (names_differ files legal o.item (scope_among files legal (address o.item) o.item it.found)))
 
     pub functions_apart : AllDiffer (map function_key (functions o.item))
-    functions_apart = subst (λ (l : List SourceFunction). AllDiffer (map function_key l)) (sym (functions_items o.item)) (functions_differ (scope_names o.item) (side_items o.item) o.order it.least (λ f twice. legal f (Sides o.item among (FoldedTwice twice))))
+    functions_apart = subst (λ (l : List SourceFunction). AllDiffer (map function_key l)) (sym (functions_items o.item)) (functions_differ (scope_names o.item) (side_items o.item) o.order it.least (λ f twice. legal f (Sides o.item (scope_among files legal (address o.item) o.item it.found) (FoldedTwice twice))))
 
   -- the interfaces and the worlds of files in the order of their table
   module _ (os : List Ordered) (ws : List OrderedWorld) (ordered : AreOrdered files os ws) where
     abbrev all : List Item
     all = in_order (all_items files) ordered.places
 
-    are_all : AreItems files all
-    are_all = are_items files ordered.places ordered.item_order (distinct_items files (λ f broken. legal f (Names broken)))
-
     pub are_interfaces : AreItems files (interfaces_of all)
-    are_interfaces = items_kept files (λ (i : Item). not (is_world i)) all are_all
+    are_interfaces = items_kept files (λ (i : Item). not (is_world i)) all (are_items files ordered.places ordered.item_order (distinct_items files (λ f broken. legal f (Names broken))))
 
     pub are_worlds : AreItems files (worlds_of all)
-    are_worlds = items_kept files is_world all are_all
+    are_worlds = items_kept files is_world all (are_items files ordered.places ordered.item_order (distinct_items files (λ f broken. legal f (Names broken))))
 
     inside_items : (vs : List OrderedWorld) → ((t : ℕ) (w : OrderedWorld) → slice_get vs t ≡ Some w → map item_of w.inside ≡ inline_items w.own.item) → map item_of (all_inside vs) ≡ inside_of (map own_item vs)
     inside_items [] inside = refl
@@ -63,31 +58,21 @@ module _ (files : List PackageFile) (legal : IsLegal files) where
     pub worlds_are : world_list files (worlds_of all) ≡ world_addresses files ws
     worlds_are = ap (λ l. map visited (foreign_worlds files) ++ l) (ap (map address) (sym ordered.all_worlds) ∙ map_map address own_item ws)
 
-    -- where the item of an order is
-    interface_place : (t : ℕ) (o : Ordered) → slice_get os t ≡ Some o → slice_get (interfaces_of all) t ≡ Some o.item
-    interface_place t o at = ap (λ (l : List Item). slice_get l t) (sym ordered.all_interfaces) ∙ slice_get-map item_of os t ∙ ap (option_map item_of) at
-
-    world_place : (t : ℕ) (w : OrderedWorld) → slice_get ws t ≡ Some w → slice_get (worlds_of all) t ≡ Some w.own.item
-    world_place t w at = ap (λ (l : List Item). slice_get l t) (sym ordered.all_worlds) ∙ slice_get-map own_item ws t ∙ ap (option_map own_item) at
-
-    inside_place : (t : ℕ) (o : Ordered) → slice_get (all_inside ws) t ≡ Some o → slice_get (inside_of (worlds_of all)) t ≡ Some o.item
-    inside_place t o at = ap (λ (l : List Item). slice_get l t) (sym inside_are) ∙ slice_get-map item_of (all_inside ws) t ∙ ap (option_map item_of) at
-
     -- each of them is an item
     pub interface_item : (t : ℕ) (o : Ordered) → slice_get os t ≡ Some o → IsItem files o
     interface_item t o at = record {
-      found = (item_scopes files (interfaces_of all) are_interfaces).found t o.item (interface_place t o at);
+      found = (item_scopes files (interfaces_of all) are_interfaces).found t o.item (ap (λ (l : List Item). slice_get l t) (sym ordered.all_interfaces) ∙ slice_get-map item_of os t ∙ ap (option_map item_of) at);
       least = ordered.least t o (at_prefix os (map own_order ws ++ all_inside ws) t o at);
     }
 
     pub world_item : (t : ℕ) (w : OrderedWorld) → slice_get ws t ≡ Some w → IsItem files w.own
     world_item t w at = record {
-      found = (item_scopes files (worlds_of all) are_worlds).found t w.own.item (world_place t w at);
+      found = (item_scopes files (worlds_of all) are_worlds).found t w.own.item (ap (λ (l : List Item). slice_get l t) (sym ordered.all_worlds) ∙ slice_get-map own_item ws t ∙ ap (option_map own_item) at);
       least = ordered.least (length os + t) w.own (at_back os (map own_order ws ++ all_inside ws) t w.own (at_prefix (map own_order ws) (all_inside ws) t w.own (slice_get-map own_order ws t ∙ ap (option_map own_order) at)));
     }
 
     pub inside_item : (t : ℕ) (o : Ordered) → slice_get (all_inside ws) t ≡ Some o → IsItem files o
     inside_item t o at = record {
-      found = (inline_scopes files (worlds_of all) are_worlds).found t o.item (inside_place t o at);
+      found = (inline_scopes files (worlds_of all) are_worlds).found t o.item (ap (λ (l : List Item). slice_get l t) (sym inside_are) ∙ slice_get-map item_of (all_inside ws) t ∙ ap (option_map item_of) at);
       least = ordered.least (length os + (length (map own_order ws) + t)) o (at_back os (map own_order ws ++ all_inside ws) (length (map own_order ws) + t) o (at_back (map own_order ws) (all_inside ws) t o at));
     }

@@ -1,13 +1,12 @@
 -- Where the paths of items lead.
-use Rattle.std.proofs.Common.{◌≡◌, ℕ, ◌<◌, Bool, true, false, List, ◌++◌, take, drop, Option, Some, None, ◌⊎◌, inl, inr, refl, sym, ap, ◌∙◌, subst, arith, Contains}
-use Rattle.wit_syntax.proofs.Common.{Address, AllDiffer, Attribute, Foreign, ForeignNamed, ForeignVisit, Id, InterfaceNamed, IsEdge, IsOrder, Item, Leads, Local, PackageFile, PackageName, Row, Target, TopName, Use, UseName, UsePart, UsePath, Used, all_items, all_scopes, at_contains, at_prefix, at_within, bytes_eq, contains_at, filter, filter-append, find_at, find_passes, flat_map_at, flat_map_has, foreign_interfaces, foreign_uses, get_or_from_slice_get, if◌then◌else◌, in_order, in_order-append, in_order_has, include_paths, is_foreign, is_world, is_world_at, item_name, item_named, item_row, item_row_at, item_rows, kept_has, leads, local_target, map, name_equal, needed_paths, option_map, parts, path_scope, place_of-Some, scope_names, slice_get, slice_get-get_or, slice_get-take, slice_get_within, slice_index, some_of, take-append-drop, target, target_scope, use_of_foreign, use_paths, uses, visited, with_inline, with_uses}
-use Rattle.wit_arena.specs.ResolvedArenas.{AreUsableUses}
+use Rattle.std.proofs.Common.{◌≡◌, ℕ, ◌<◌, Bool, true, false, List, ◌++◌, take, drop, Option, Some, None, ◌⊎◌, inl, inr, refl, sym, ap, ◌∙◌, subst, arith, Contains, ◌∷◌}
+use Rattle.wit_syntax.proofs.Common.{Address, AllDiffer, Attribute, Foreign, ForeignNamed, ForeignVisit, Id, InterfaceNamed, IsOrder, Item, Local, PackageFile, PackageName, Row, Target, TopName, Use, UseName, UsePart, UsePath, Used, all_items, all_scopes, at_contains, at_prefix, at_within, bytes_eq, contains_at, filter, filter-append, find_at, find_passes, flat_map_at, flat_map_has, foreign_interfaces, foreign_uses, if◌then◌else◌, in_order, in_order-append, include_paths, is_foreign, is_world, is_world_at, item_name, item_named, item_row, item_row_at, item_rows, leads, local_target, map, name_equal, needed_paths, option_map, parts, path_scope, place_of-Some, scope_names, slice_get, slice_get_within, take-append-drop, target, target_scope, use_of_foreign, use_paths, uses, visited, with_uses, inline_items}
 use Rattle.wit_arena.proofs.Itemizing.{named_found, used_part, length-item_rows}
-use Rattle.wit_arena.proofs.Visits.{use_at, use_path_at, used_interface_visit}
+use Rattle.wit_arena.proofs.Places.{same_some}
+use Rattle.wit_arena.proofs.Visits.{use_at, use_path_at, used_interface_visit, AreUsableUses}
 use Rattle.wit_arena.proofs.ForeignUses.{foreign_use_has}
-
-pub same_some : {X : Type 0} (o : Option X) (x y : X) → o ≡ Some x → o ≡ Some y → x ≡ y
-same_some o x y a b = let both : Some x ≡ Some y = sym a ∙ b in cc
+use Rattle.wit_arena.proofs.Scoping.{row_before}
+use Rattle.wit_syntax.proofs.NeededPaths.{needed-paths}
 
 pub option_cases : {X : Type 0} (o : Option X) (R : Type 0) → ((x : X) → o ≡ Some x → R) → (o ≡ None → R) → R
 option_cases None R some none = none refl
@@ -21,21 +20,12 @@ kept_prefix test xs places n i x at =
     let whole : filter test (in_order xs places) ≡ filter test prefix ++ filter test back = ap (λ ps. filter test (in_order xs ps)) (sym (take-append-drop n places)) ∙ ap (filter test) (in_order-append xs (take n places) (drop n places)) ∙ filter-append test prefix back in
     ap (λ l. slice_get l i) whole ∙ at_prefix (filter test prefix) (filter test back) i x at
 
--- and one of those at the first places that passes it is kept
-pub kept_early : {X : Type 0} (test : X → Bool) (xs : List X) (places : List ℕ) (n t q : ℕ) (x : X) → t < n → slice_get places t ≡ Some q → slice_get xs q ≡ Some x → test x ≡ true → (i : ℕ) × (slice_get (filter test (in_order xs (take n places))) i ≡ Some x)
-kept_early test xs places n t q x lt at there passes =
-    let it = in_order_has xs (take n places) t q x (slice_get-take places n t lt ∙ at) there in
-    kept_has test (in_order xs (take n places)) it.0 x passes it.1
-
 -- an interface needs its uses, and a world its includes
 pub paths_of_interface : (w : Item) → is_world w ≡ false → needed_paths w ≡ use_paths w
-paths_of_interface w h = ap (λ (world : Bool). if world then include_paths w else use_paths w) h
+paths_of_interface w h = needed-paths w ∙ ap (λ (world : Bool). if world then include_paths w else use_paths w) h
 
 pub paths_of_world : (w : Item) → is_world w ≡ true → needed_paths w ≡ include_paths w
-paths_of_world w h = ap (λ (world : Bool). if world then include_paths w else use_paths w) h
-
-row_name : (r : Row) (w : Item) → r ≡ item_row w → r.name ≡ item_name w
-row_name r w same = ap (λ (x : Row). x.name) same
+paths_of_world w h = needed-paths w ∙ ap (λ (world : Bool). if world then include_paths w else use_paths w) h
 
 module _ (files : List PackageFile) where
   abbrev pub all : List Item
@@ -48,30 +38,17 @@ module _ (files : List PackageFile) where
       let r = place_of-Some rs id.name.now b found in
       let lt = slice_get_within rs b r.0 r.1 in
       let v = at_within all b (omega (arith, length-item_rows files)) in
-      let is = same_some (slice_get rs b) r.0 (item_row v.0) r.1 (item_row_at files b v.0 v.1) in
-      (v.0, v.1, r.2 ∙ row_name r.0 v.0 is)
-
-  -- what an edge of an item leads to comes before it in the order
-  edge_before : (places : List ℕ) → IsOrder (item_rows files) places → (k p j : ℕ) (id : Id) → slice_get places k ≡ Some p → IsEdge (item_rows files) p j id → (t : ℕ) × (q : ℕ) × (v : Item) × (t < k) × (slice_get places t ≡ Some q) × (slice_get all q ≡ Some v) × (id.name.now ≡ item_name v)
-  edge_before places order k p j id next edge =
-      let rs = item_rows files in
-      let b = some_of (target rs id) (order.complete p j id edge) in
-      let long = order.sorted.long in
-      let lt = slice_get_within places k p next in
-      let here : slice_index places k ≡ p = get_or_from_slice_get places k p 0 next in
-      let to : Leads rs (slice_index places k) b.0 = subst (λ a. Leads rs a b.0) (sym here) (j, id, edge, b.1) in
-      let before = order.sorted.after k b.0 (omega arith) to in
-      let below = before.below in
-      let m : slice_get places before.index ≡ Some b.0 = slice_get-get_or places before.index 0 (omega arith) ∙ ap Some before.is in
-      let v = row_item id b.0 b.1 in
-      (before.index, b.0, v.0, below, m, v.1, v.2)
+      let is = same_some (sym r.1 ∙ item_row_at files b v.0 v.1) in
+      (v.0, v.1, r.2 ∙ (ap (λ (x : Row). x.name) is))
 
   -- what a path of an item that has to come before it leads to comes before it in the order
   pub needed_before : (places : List ℕ) → IsOrder (item_rows files) places → (k p : ℕ) (w : Item) (path : UsePath) (id : Id) → slice_get places k ≡ Some p → slice_get all p ≡ Some w → Contains (needed_paths w) path → leads w.top path ≡ Local id → (t : ℕ) × (q : ℕ) × (v : Item) × (t < k) × (slice_get places t ≡ Some q) × (slice_get all q ≡ Some v) × (id.name.now ≡ item_name v)
   needed_before places order k p w path id next at among lead =
       let i = at_contains (needed_paths w) path among in
       let j = flat_map_has (λ (x : UsePath). local_target (leads w.top x)) (needed_paths w) i.0 0 path id i.1 (ap (λ (t : Target). slice_get (local_target t) 0) lead) in
-      edge_before places order k p j.0 id next (item_row w, item_row_at files p w at, j.1)
+      let b = row_before (item_rows files) places order k p j.0 id next (item_row w, item_row_at files p w at, j.1) in
+      let v = row_item id b.1 b.4 in
+      (b.0, b.1, v.0, b.2, b.3, v.1, v.2)
 
   -- the item of a name is the one at a place that has it
   pub named_at : AllDiffer (map item_name all) → (name : List ℕ) (q : ℕ) (v : Item) → slice_get all q ≡ Some v → name ≡ item_name v → item_named all name ≡ Some v
@@ -113,20 +90,14 @@ module _ (files : List PackageFile) where
   pub scope_in : (i : Item) → Contains (all_scopes files) i → IsScopeIn i
   scope_in i here =
       let k = at_contains (all_scopes files) i here in
-      let it = flat_map_at with_inline all k.0 i k.1 in
+      let it = flat_map_at (λ (i : Item). i ∷ inline_items i) all k.0 i k.1 in
       let is = with_uses it.1 it.3.0 i it.3.1 in
       record { place = it.0; item = it.1; at = it.2; top = is.0; uses = is.1 }
 
   module _ (usable : AreUsableUses files all) where
-    -- where uses lead to interfaces, none leads to a world
-    used_leads : (w : Item) (u : Use) (id : Id) → Contains all w → Contains (uses w) u → leads w.top u.from ≡ Local id → option_map is_world (item_named all id.name.now) ≡ Some false
-    used_leads w u id here among lead = sym (ap (is_world_at files) lead) ∙ usable.usable w u here among
-
     pub used_is_interface : (w v : Item) (u : Use) (id : Id) → Contains all w → Contains (uses w) u → leads w.top u.from ≡ Local id → item_named all id.name.now ≡ Some v → is_world v ≡ false
     used_is_interface w v u id here among lead found =
-        let both : Some (is_world v) ≡ Some false = sym (ap (option_map is_world) found) ∙ used_leads w u id here among lead in
-        let right : is_world v ≡ false = cc in
-        right
+        same_some (sym (ap (option_map is_world) found) ∙ (sym (ap (is_world_at files) lead) ∙ usable.usable w u here among))
 
     -- what leads to another package is taken from it
     foreign_use : (q : ℕ) (w : Item) (u : Use) (j : ℕ) (n : UseName) (p : PackageName) (id : Id) → slice_get all q ≡ Some w → Contains (uses w) u → slice_get u.names.items j ≡ Some n → leads w.top u.from ≡ Foreign p id → IsForeignUse (path_scope w.top u.from) n
@@ -151,10 +122,7 @@ module _ (files : List PackageFile) where
             let p = find_at (λ (x : Item). bytes_eq (item_name x) id.name.now) all v found in
             let called = name_equal (item_name v) id.name.now (find_passes (λ (x : Item). bytes_eq (item_name x) id.name.now) all v found) in
             inl (record { place = p.0; item = v; at = p.1; sort = used_is_interface w v u id own used lead found; is = is ∙ ap (target_scope InterfaceNamed) lead ∙ ap InterfaceNamed (sym called) })))
-            (λ none. absurd (
-            let wrong : None ≡ Some false = sym (ap (option_map is_world) none) ∙ used_leads w u id own used lead in
-            let f : ⊥ = cc in
-            f))
+            (λ none. cc (sym (ap (option_map is_world) none) ∙ (sym (ap (is_world_at files) lead) ∙ usable.usable w u own used)))
         by_target q w u j at used name is (Foreign p id) lead = inr (subst (λ (s : Address). IsForeignUse s n) (sym is) (foreign_use q w u j n p id at used name lead))
 
     -- what an interface of the package uses from comes before it in the order, or is of another package

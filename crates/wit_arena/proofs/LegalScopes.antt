@@ -1,10 +1,9 @@
 -- What files that break no rule say of names and of uses: no two names of a scope are one, and uses lead to interfaces.
-use Rattle.std.proofs.Common.{◌≡◌, ℕ, zero, suc, true, false, List, [], ◌++◌, Option, Some, None, inl, inr, refl, sym, ap, ◌∙◌, Contains}
-use Rattle.wit_syntax.proofs.Common.{Address, AllDiffer, AreDistinct, DefinedTwice, DefinitionPart, DuplicateItem, ExternPart, Fault, Foreign, ForeignNamed, ForeignVisit, FunctionPart, IncludePart, InlineAt, InterfaceNamed, IsBrokenNames, IsLegal, IsSecond, Item, Items, Local, MissingUse, PackageFile, Part, Scope, Target, Use as WrittenUse, UsePart, WorldNamed, WorldUsed, about, address, all_items, all_scopes, at_contains, at_prefix, cases_Bool, contains_at, defined, differ_by, distinct_names, distinct_none, extern_paths, find_at, flat_map_at, flat_map_has, foreign_at, inline_uses, is_world, is_world_at, item_at, item_name, item_named, item_twice, item_word, leads, local_id, local_name, map, missing_at, name_twice, option_map, option_map_or, part_uses, parts, path_id, same_address, scope, scope_names, slice_get, slice_get-map, three_ways, use_path, use_paths, used, uses, world_there}
+use Rattle.std.proofs.Common.{◌≡◌, ℕ, zero, false, List, [], ◌++◌, Option, Some, None, inl, inr, refl, sym, ap, ◌∙◌, Contains}
+use Rattle.wit_syntax.proofs.Common.{Address, AllDiffer, AreDistinct, DefinedTwice, DuplicateItem, ExternPart, Fault, Foreign, ForeignNamed, ForeignVisit, IsBrokenNames, IsLegal, IsSecond, Item, Items, Local, MissingUse, PackageFile, Part, Scope, Target, Use as WrittenUse, UsePart, WorldUsed, about, address, all_items, all_scopes, at_contains, at_prefix, cases_Bool, contains_at, defined, differ_by, distinct_names, distinct_none, extern_paths, find_at, flat_map_at, flat_map_has, foreign_at, inline_uses, is_world, is_world_at, item_at, item_name, item_named, item_twice, item_word, leads, local_id, local_name, map, missing_at, name_twice, option_map, option_map_or, part_uses, parts, path_id, same_address, scope, scope_names, slice_get, slice_get-map, three_ways, use_path, use_paths, used, uses, world_there}
 use Rattle.wit_syntax.specs.Broken.{Use}
-use Rattle.wit_arena.specs.ResolvedArenas.{AreUsableUses}
 use Rattle.wit_arena.proofs.ForeignUses.{used_distinct}
-use Rattle.wit_arena.proofs.Visits.{visit_listed, foreign_at-visited, leads_visited}
+use Rattle.wit_arena.proofs.Visits.{visit_listed, foreign_at-visited, leads_visited, AreUsableUses}
 
 -- where nothing comes after another of its key, no two have one
 pub all_differ : {X : Type 0} (key : X → List ℕ) (as_stated : X → Fault) (xs : List X) → ((f : Fault) → IsSecond key as_stated xs f → ⊥) → AllDiffer (map key xs)
@@ -22,12 +21,9 @@ distinct_items files legal = all_differ item_name (λ (i : Item). item_twice (ab
 
 -- the path of a `use` of a part is one of it
 path_of_use : (x : Part) (j : ℕ) (u : WrittenUse) → slice_get (part_uses x) j ≡ Some u → (i : ℕ) × (slice_get (use_path x) i ≡ Some u.from)
-path_of_use (DefinitionPart d) j u at = absurd (let f : ⊥ = cc in f)
 path_of_use (UsePart y) zero u at = (0, (let same : y ≡ u = cc in ap (λ (z : WrittenUse). Some z.from) same))
-path_of_use (UsePart y) (suc j) u at = absurd (let f : ⊥ = cc in f)
-path_of_use (IncludePart n) j u at = absurd (let f : ⊥ = cc in f)
-path_of_use (FunctionPart g) j u at = absurd (let f : ⊥ = cc in f)
 path_of_use (ExternPart x) j u at = (j, at_prefix (map (λ (u : WrittenUse). u.from) (inline_uses x.kind)) (extern_paths x.kind) j u.from (slice_get-map (λ (u : WrittenUse). u.from) (inline_uses x.kind) j ∙ ap (option_map (λ (u : WrittenUse). u.from)) at))
+path_of_use _ j u at = absurd (let f : ⊥ = cc in f)
 
 -- so it is one of its item
 path_among : (w : Item) (u : WrittenUse) → Contains (uses w) u → Contains (use_paths w) u.from
@@ -51,25 +47,16 @@ module _ (files : List PackageFile) (legal : IsLegal files) where
   found_differ None among = distinct_none
   found_differ (Some i) among = names_differ i (among i refl)
 
-  at_address : (s : Address) → AreDistinct (option_map_or scope_names (item_at (all_scopes files) s) [])
-  at_address s = found_differ (item_at (all_scopes files) s) (scope_among s)
-
   -- and so do those of each scope
   pub scope_differs : (s : Address) → AreDistinct (scope files s)
-  scope_differs (InterfaceNamed name) = at_address (InterfaceNamed name)
-  scope_differs (WorldNamed name) = at_address (WorldNamed name)
-  scope_differs (InlineAt world side place) = at_address (InlineAt world side place)
   scope_differs (ForeignNamed p name) = used_distinct files (ForeignNamed p name)
-
-  -- no `use` leads to a world
-  no_world_used : (w : Item) (u : WrittenUse) → Contains (all_items files) w → Contains (uses w) u → is_world_at files (leads w.top u.from) ≡ Some true → ⊥
-  no_world_used w u among used to = legal (world_there (path_id u.from)) (Use w among (WorldUsed u.from (path_among w u used) to refl))
+  scope_differs s = found_differ (item_at (all_scopes files) s) (scope_among s)
 
   -- where a `use` leads to a name, an item of that name is there, and it is an interface
   local_use : (w : Item) (u : WrittenUse) → Contains (all_items files) w → Contains (uses w) u → (t : Target) → leads w.top u.from ≡ t → (o : Option Item) → is_world_at files t ≡ option_map is_world o → (o ≡ None → ⊥) → is_world_at files t ≡ Some false
   local_use w u among used t lead None at missing = absurd (missing refl)
   local_use w u among used t lead (Some i) at missing = elim (cases_Bool (is_world i)) [
-    | inl world ↦ absurd (no_world_used w u among used (ap (is_world_at files) lead ∙ at ∙ ap Some world))
+    | inl world ↦ absurd (legal (world_there (path_id u.from)) (Use w among (WorldUsed u.from (path_among w u used) (ap (is_world_at files) lead ∙ at ∙ ap Some world) refl)))
     | inr other ↦ at ∙ ap Some other
   ]
 
@@ -82,7 +69,7 @@ module _ (files : List PackageFile) (legal : IsLegal files) where
       let v = it.1 in
       let found : is_world_at files (Foreign p id) ≡ Some v.wants_world = ap (λ (s : Address). option_map (λ (v : ForeignVisit). v.wants_world) (foreign_at files s)) (sym (it.3 ∙ here.is)) ∙ ap (option_map (λ (v : ForeignVisit). v.wants_world)) (foreign_at-visited files it.0 v it.2) in
       elim (cases_Bool v.wants_world) [
-        | inl world ↦ absurd (no_world_used w u among used (ap (is_world_at files) lead ∙ found ∙ ap Some world))
+        | inl world ↦ absurd (legal (world_there (path_id u.from)) (Use w among (WorldUsed u.from (path_among w u used) (ap (is_world_at files) lead ∙ found ∙ ap Some world) refl)))
         | inr other ↦ found ∙ ap Some other
       ]
 

@@ -23,7 +23,6 @@ pub mod Indexing
 pub mod Adding
 pub mod Shape
 pub mod Forms
-pub mod SignatureForms
 pub mod Depth
 pub mod Ends
 pub mod Required
@@ -62,8 +61,6 @@ pub mod Resolved
 pub mod LegalScopes
 pub mod KnownItems
 pub mod JoinedTurns
-pub mod JoinedWorlds
-pub mod JoinedOnce
 pub mod JoinedOccurrences
 pub mod JoinedOthers
 pub mod JoinedMade
@@ -72,7 +69,6 @@ pub mod FirstsOf
 pub mod Placing
 pub mod PlacingFunctions
 pub mod MadeEntries
-pub mod MadeHeads
 pub mod MadeScopes
 pub mod MadeInterfaces
 pub mod MadeSides
@@ -88,3 +84,4 @@ pub mod OneMadeOrders
 pub mod OneMadeArena
 pub mod OneMade
 pub mod Common
+pub mod Ordered

@@ -1,13 +1,14 @@
 -- Where a function gives the place of each key, the arenas of interfaces and of worlds are stated.
 use Rattle.std.proofs.Common.{◌≡◌, ℕ, suc, List, [], ◌∷◌, ◌++◌, Some, refl, ap, ◌∙◌, sym, arith}
-use Rattle.wit_syntax.proofs.Common.{Address, ForeignVisit, PackageFile, foreign_interfaces, inline_items, map, map_map, slice_get}
+use Rattle.wit_syntax.proofs.Common.{Address, ForeignVisit, Item, PackageFile, foreign_interfaces, inline_items, map, map_map, slice_get}
 use Rattle.wit_model.specs.declared.interface.Interface.{Interface}
 use Rattle.wit_model.specs.declared.world.World.{World}
 use Rattle.wit_arena.specs.Made.{names_in_turn, foreign_interface, own_interface, foreign_world, own_world}
 use Rattle.wit_arena.specs.Occurrences.{Key}
 use Rattle.wit_arena.specs.OneByOne.{OneByOne}
 use Rattle.wit_arena.specs.UnfoldedTypes.{IsForeignWorld}
-use Rattle.wit_arena.specs.Whole.{Ordered, OrderedWorld, ordered_names, IsForeignInterface}
+use Rattle.wit_arena.proofs.Ordered.{Ordered, OrderedWorld, ordered_names}
+use Rattle.wit_arena.specs.Whole.{IsForeignInterface}
 use Rattle.wit_arena.proofs.ByParts.{BothParts, IsResolvedInterface, IsResolvedWorld}
 use Rattle.wit_arena.proofs.MadeInterfaces.{foreign_interface-as_stated, own_interface-as_stated}
 use Rattle.wit_arena.proofs.MadeSides.{ArePlaced}
@@ -30,7 +31,7 @@ module _ {X Y Z : Type 0} (First : X → Z → Type 0) (Then : Y → Z → Type 
   both_parts-images : (xs : List X) (ys : List Y) (zs : List Z) → ((x : X) (z : Z) → First x z → z ≡ f x) → ((k : ℕ) (y : Y) (z : Z) → slice_get ys k ≡ Some y → Then y z → z ≡ g y) → BothParts First Then xs ys zs → zs ≡ map f xs ++ map g ys
   both_parts-images xs ys zs first then both = both.2 ∙ ap (λ (l : List Z). l ++ both.1) (one_by_one-map First f first xs both.0 both.3) ∙ ap (λ (l : List Z). map f xs ++ l) (one_by_one-image Then g ys both.1 then both.4)
 
-module _ (id : Key → ℕ) (ks : List Key) (gives : GivesPlaces id ks) (order : Address → List ℕ) where
+module _ (id : Key → ℕ) (ks : List Key) (gives : GivesPlaces id ks) (order : Item → List ℕ) where
   pub interfaces-as_stated : (files : List PackageFile) (os : List Ordered) (xs : List Interface) → ((k : ℕ) (o : Ordered) → slice_get os k ≡ Some o → ordered_names o ≡ names_in_turn order o.item) → BothParts (IsForeignInterface files ks) (IsResolvedInterface ks) (foreign_interfaces files) os xs → xs ≡ map (foreign_interface files id) (foreign_interfaces files) ++ map (own_interface id order) (map item_of os)
   interfaces-as_stated files os xs in_turn both =
       let own = both_parts-images (IsForeignInterface files ks) (IsResolvedInterface ks) (foreign_interface files id) (λ (o : Ordered). own_interface id order o.item) (foreign_interfaces files) os xs (foreign_interface-as_stated id ks gives files) (λ k o i at. own_interface-as_stated id ks gives order o i (in_turn k o at)) both in

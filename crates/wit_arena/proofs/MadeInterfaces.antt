@@ -1,6 +1,6 @@
 -- Where a function gives the place of each key, each interface of the package is stated.
 use Rattle.std.proofs.Common.{◌≡◌, ℕ, List, [], Option, Some, None, ap, ◌∙◌}
-use Rattle.wit_syntax.proofs.Common.{Address, Docs, ForeignVisit, Metadata, PackageFile, Span, Stability, about, address, declared_metadata, functions as item_functions, map_map, no_metadata}
+use Rattle.wit_syntax.proofs.Common.{Docs, ForeignVisit, Item, Metadata, PackageFile, Span, Stability, about, address, declared_metadata, functions as item_functions, map_map, no_metadata}
 use Rattle.wit_functions.specs.declared.function.Function.{Function}
 use Rattle.wit_functions.specs.SettersPlaced.{placed}
 use Rattle.wit_model.specs.declared.interface.Interface.{Interface}
@@ -8,7 +8,8 @@ use Rattle.wit_arena.specs.SourceFunctions.{by_name, placed_functions}
 use Rattle.wit_arena.specs.Made.{function_in, interface, foreign_interface, name_places, names_in_turn, own_interface}
 use Rattle.wit_arena.specs.Occurrences.{Key}
 use Rattle.wit_arena.specs.UnfoldedTypes.{IsInterface}
-use Rattle.wit_arena.specs.Whole.{Ordered, ordered_names, turned, IsForeignInterface}
+use Rattle.wit_arena.proofs.Ordered.{Ordered, ordered_names, turned}
+use Rattle.wit_arena.specs.Whole.{IsForeignInterface}
 use Rattle.wit_arena.proofs.ByParts.{IsResolvedInterface}
 use Rattle.wit_arena.proofs.Placing.{GivesPlaces}
 use Rattle.wit_arena.proofs.PlacingFunctions.{functions-in, types-places}
@@ -33,7 +34,7 @@ module _ (id : Key → ℕ) (ks : List Key) (gives : GivesPlaces id ks) where
   pub foreign_interface-as_stated : (files : List PackageFile) (v : ForeignVisit) (i : Interface) → IsForeignInterface files ks v i → i ≡ foreign_interface files id v
   foreign_interface-as_stated files v i h = interface_stated None v.id.span no_metadata i (foreign_interface files id v).types [] h.0 (types-places id ks gives (foreign_turned files v) i.types h.1) h.2
 
-  pub own_interface-as_stated : (order : Address → List ℕ) (o : Ordered) (i : Interface) → ordered_names o ≡ names_in_turn order o.item → IsResolvedInterface ks o i → i ≡ own_interface id order o.item
+  pub own_interface-as_stated : (order : Item → List ℕ) (o : Ordered) (i : Interface) → ordered_names o ≡ names_in_turn order o.item → IsResolvedInterface ks o i → i ≡ own_interface id order o.item
   own_interface-as_stated order o i in_turn h =
       let s = address o.item in
       let types = types-places id ks gives (turned o) i.types h.types ∙ ap (name_places id s) in_turn in

@@ -1,8 +1,8 @@
 -- The orders of the names of scopes, given by their addresses.
 use Rattle.std.proofs.Common.{◌≡◌, ℕ, ◌+◌, List, [], ◌++◌, length, Some, inl, inr, refl, sym, ap, ◌∙◌, subst, Contains}
-use Rattle.wit_syntax.proofs.Common.{Address, AllDiffer, IsLegal, IsOrder, Item, PackageFile, address, all_items, all_scopes, at_back, at_contains, at_part, at_prefix, cases_Bool, differ_at, differ_join, find, find_at, find_passes, find_some, flat_map, flat_map_has, in_order, inline_items, inline_items_none, interfaces_of, is_world, kept_has, map, map-append, map_at, map_map, not, option_map_or, rows_of, same_address, same_address-equal, same_address-itself, scope_names, scopes_either, slice_get, worlds_of}
-use Rattle.wit_arena.specs.Made.{own_interfaces, interface_scopes, world_scopes, AreInOrder, AreNamesInOrder}
-use Rattle.wit_arena.specs.Whole.{Ordered, OrderedWorld, AreOrdered, addresses, all_inside, interface_addresses, world_addresses}
+use Rattle.wit_syntax.proofs.Common.{Address, AllDiffer, IsLegal, IsOrder, Item, PackageFile, address, all_items, all_scopes, at_back, at_contains, at_part, at_prefix, cases_Bool, differ_at, differ_join, find, find_at, find_passes, find_some, flat_map, flat_map_has, in_order, inline_items, inline_items_none, interfaces_of, is_world, kept_has, map, map-append, map_at, map_map, not, option_map_or, rows_of, same_address, same_address-equal, same_address-itself, scope_names, scopes_either, slice_get, worlds_of, item_rows}
+use Rattle.wit_arena.specs.Made.{own_interfaces, interface_scopes, world_scopes}
+use Rattle.wit_arena.proofs.Ordered.{Ordered, OrderedWorld, AreOrdered, addresses, all_inside, interface_addresses, world_addresses}
 use Rattle.wit_arena.proofs.DoneWorlds.{own_order}
 use Rattle.wit_arena.proofs.Interfaces.{interfaces_sort, worlds_sort, scope_addresses}
 use Rattle.wit_arena.proofs.Itemizing.{item_index}
@@ -31,7 +31,7 @@ module _ (files : List PackageFile) (legal : IsLegal files) (os : List Ordered) 
   abbrev items : List Item
   items = in_order (all_items files) ordered.places
 
-  pub items_in_order : AreInOrder files items
+  pub items_in_order : ((places : List ℕ) × IsOrder (item_rows files) places × (items ≡ in_order (all_items files) places))
   items_in_order = (ordered.places, ordered.item_order, refl)
 
   -- the items of the interfaces, and the scopes of both sorts
@@ -99,7 +99,7 @@ module _ (files : List PackageFile) (legal : IsLegal files) (os : List Ordered) 
   ]
 
   -- so each has the order that is stated at its address
-  pub names_in_order : AreNamesInOrder files (order_among (listed os ws))
+  pub names_in_order : ((i : Item) → Contains (all_scopes files) i → IsOrder (rows_of (scope_names i)) ((order_among (listed os ws)) (address i)))
   names_in_order i among =
       let k = scope_listed i among in
       let o = map_at item_of (listed os ws) k.0 i (ap (λ (l : List Item). slice_get l k.0) all_are ∙ k.1) in

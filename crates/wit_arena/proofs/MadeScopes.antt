@@ -1,7 +1,7 @@
 -- The scopes of a package differ, so each has one place.
 use Rattle.std.proofs.Common.{◌≡◌, ℕ, List, not, Option, Some, sym, ap, subst}
-use Rattle.wit_syntax.proofs.Common.{Address, AllDiffer, IsLegal, Item, Names, PackageFile, interfaces_of, is_world, slice_get, unwrap_or, worlds_of}
-use Rattle.wit_arena.specs.Made.{AreInOrder, interface_scopes, world_scopes, scope_place}
+use Rattle.wit_syntax.proofs.Common.{Address, AllDiffer, IsLegal, Item, Names, PackageFile, interfaces_of, is_world, slice_get, unwrap_or, worlds_of, IsOrder, all_items, in_order, item_rows}
+use Rattle.wit_arena.specs.Made.{interface_scopes, world_scopes, scope_place}
 use Rattle.wit_arena.proofs.Added.{all_addresses}
 use Rattle.wit_arena.proofs.Interfaces.{AreAddresses, AreItems, interfaces_sort, worlds_sort, items_kept, place_at-found}
 use Rattle.wit_arena.proofs.Itemizing.{are_items}
@@ -11,7 +11,7 @@ use Rattle.wit_arena.proofs.LegalScopes.{distinct_items}
 pub scope_place-found : (ss : List Address) (s : Address) (i : ℕ) → AllDiffer ss → slice_get ss i ≡ Some s → scope_place ss s ≡ i
 scope_place-found ss s i differ at = ap (λ (o : Option ℕ). unwrap_or o 0) (place_at-found ss s i differ at)
 
-module _ (files : List PackageFile) (legal : IsLegal files) (items : List Item) (ordered : AreInOrder files items) where
+module _ (files : List PackageFile) (legal : IsLegal files) (items : List Item) (ordered : ((places : List ℕ) × IsOrder (item_rows files) places × (items ≡ in_order (all_items files) places))) where
   -- each item is the first of its name, and no two have one
   pub ordered_items : AreItems files items
   ordered_items = subst (λ (is : List Item). AreItems files is) (sym ordered.2) (are_items files ordered.0 ordered.1 (distinct_items files (λ f broken. legal f (Names broken))))

@@ -2,23 +2,24 @@
 use Rattle.std.proofs.Common.{◌≡◌, ℕ, suc, ◌+◌, List, [], ◌∷◌, ◌++◌, length, Some, refl, ap, ◌∙◌}
 use Rattle.wit_syntax.proofs.Common.{Address, IsLegal, Item, PackageFile, ScopeName, SideFunction, SideInline, SideItem, SideLink, SourceFunction, address, all_items, at_back, at_prefix, flat_map, flat_map_has, functions, in_order, in_turn, inline_items, interfaces_of, map, option_map, scope_names, side_items, slice_get, slice_get-map}
 use Rattle.wit_arena.specs.Made.{names_in_turn, interface_turn, turns_on_sides, turns_of_world, item_turns}
-use Rattle.wit_arena.specs.Whole.{Ordered, OrderedWorld, Turned, AreOrdered, ordered_names, turned, side_turns, world_turns, all_turns, all_inside}
+use Rattle.wit_arena.proofs.Ordered.{Ordered, OrderedWorld, AreOrdered, ordered_names, turned, side_turns, world_turns, all_turns, all_inside}
+use Rattle.wit_arena.specs.Whole.{Turned}
 use Rattle.wit_arena.proofs.DoneWorlds.{own_order}
 use Rattle.wit_arena.proofs.MadeOrders.{order_among, order_stated, listed, listed_differ}
 use Rattle.wit_arena.proofs.Turns.{item_of, own_item, function_turn}
 
 -- the order of each of these is stated at its address
-abbrev pub AreAsStated : (Address → List ℕ) → List Ordered → Type 0
-AreAsStated order os = (t : ℕ) (o : Ordered) → slice_get os t ≡ Some o → o.order ≡ order (address o.item)
+abbrev pub AreAsStated : (Item → List ℕ) → List Ordered → Type 0
+AreAsStated order os = (t : ℕ) (o : Ordered) → slice_get os t ≡ Some o → o.order ≡ order o.item
 
 abbrev turn : Address → List SourceFunction → List ScopeName → Turned
 turn s fns xs = record { address = s; names = xs; functions = fns }
 
-module _ (order : Address → List ℕ) where
-  pub names_stated : (o : Ordered) → o.order ≡ order (address o.item) → ordered_names o ≡ names_in_turn order o.item
+module _ (order : Item → List ℕ) where
+  pub names_stated : (o : Ordered) → o.order ≡ order o.item → ordered_names o ≡ names_in_turn order o.item
   names_stated o as_stated = ap (in_turn (scope_names o.item)) as_stated
 
-  turn_stated : (o : Ordered) → o.order ≡ order (address o.item) → turned o ≡ interface_turn order o.item
+  turn_stated : (o : Ordered) → o.order ≡ order o.item → turned o ≡ interface_turn order o.item
   turn_stated o as_stated = ap (turn (address o.item) (functions o.item)) (names_stated o as_stated)
 
   turns_stated : (os : List Ordered) → AreAsStated order os → map turned os ≡ map (interface_turn order) (map item_of os)
@@ -34,7 +35,7 @@ module _ (order : Address → List ℕ) where
 
   -- a world, where those that are written in it are these
   pub record IsStated (w : OrderedWorld) : Type 0 where
-    pub own : w.own.order ≡ order (address w.own.item)
+    pub own : w.own.order ≡ order w.own.item
     pub inside : AreAsStated order w.inside
     pub items : map item_of w.inside ≡ inline_items w.own.item
 
@@ -53,8 +54,8 @@ module _ (files : List PackageFile) (legal : IsLegal files) (os : List Ordered) 
   abbrev items : List Item
   items = in_order (all_items files) ordered.places
 
-  abbrev order : Address → List ℕ
-  order = order_among (listed os ws)
+  abbrev order : Item → List ℕ
+  order i = order_among (listed os ws) (address i)
 
   stated_at : AreAsStated order (listed os ws)
   stated_at t o at = order_stated (listed os ws) (listed_differ files legal os ws ordered) t o at

@@ -13,7 +13,8 @@ use Rattle.wit_arena.specs.Made.{function_in, name_places, names_in_turn, entrie
 use Rattle.wit_arena.specs.Occurrences.{Key, Def}
 use Rattle.wit_arena.specs.UnfoldedTypes.{IsWorld, IsForeignWorld, world_types}
 use Rattle.wit_arena.specs.SideItems.{AreSideItems, settled}
-use Rattle.wit_arena.specs.Whole.{OrderedWorld, addresses, ordered_names, turned, type_imports, IsInclude}
+use Rattle.wit_arena.proofs.Ordered.{OrderedWorld, addresses, ordered_names, turned}
+use Rattle.wit_arena.specs.Whole.{type_imports, IsInclude}
 use Rattle.wit_arena.proofs.ByParts.{IsResolvedWorld}
 use Rattle.wit_arena.proofs.ScopesInTurn.{ordered_addresses}
 use Rattle.wit_arena.proofs.MadeSides.{ArePlaced, side_items-as_stated}
@@ -69,7 +70,7 @@ module _ (id : Key → ℕ) (ks : List Key) (gives : GivesPlaces id ks) (ss : Li
       side_items-as_stated ss placed function (λ fn. refl) i.top side (side_items i) (inline_items i) on of_items
 
   module _ (ws : List Address) (worlds_placed : ArePlaced ws) where
-    pub own_world-as_stated : (order : Address → List ℕ) (o : OrderedWorld) (w : World) → ordered_names o.own ≡ names_in_turn order o.own.item → map (λ x. x.item) o.inside ≡ inline_items o.own.item → IsResolvedWorld ks ss ws o w → w ≡ own_world id order ss ws o.own.item
+    pub own_world-as_stated : (order : Item → List ℕ) (o : OrderedWorld) (w : World) → ordered_names o.own ≡ names_in_turn order o.own.item → map (λ x. x.item) o.inside ≡ inline_items o.own.item → IsResolvedWorld ks ss ws o w → w ≡ own_world id order ss ws o.own.item
     own_world-as_stated order o w in_turn inside h =
         let i = o.own.item in
         let s = address i in

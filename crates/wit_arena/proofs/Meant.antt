@@ -15,8 +15,7 @@ module _ (xs ys : List ScopeName) (types : Names) (listed : map (λ p. p.0) type
       let t = has p.0 x p.1 in
       let named : slice_get (map (λ (q : List ℕ × ℕ). q.0) types) t.0 ≡ Some name = ap (λ (l : List (List ℕ)). slice_get l t.0) listed ∙ slice_get-map local_name ys t.0 ∙ ap (option_map local_name) t.1 ∙ ap Some called in
       let wrong : IsSome {T = ℕ} None = subst (λ (v : Option ℕ). IsSome v) free (lookup-listed types t.0 name named) in
-      let f : ⊥ = cc in
-      f)) (λ none. none)
+      cc)) (λ none. none)
 
 -- so it is of the names of a scope as they were resolved
 pub free_unmeant : (xs : List ScopeName) (order : List ℕ) (types : Names) (name : List ℕ) → IsOrder (rows_of xs) order → map (λ p. p.0) types ≡ local_names (in_turn xs order) → env_of types name ≡ None → meaning xs name ≡ None

@@ -1,11 +1,11 @@
 -- The list of occurrences, as it grows.
-use Rattle.std.proofs.Common.{◌≡◌, ℕ, ◌+◌, List, [], ◌∷◌, ◌++◌, length, take, Some, None, ◌⊎◌, inl, inr, refl, sym, ap, ◌∙◌, subst, arith, length-append}
-use Rattle.wit_syntax.proofs.Common.{Address, AllDiffer, Span, Stability, TypeDef, TypeDefKind, at_either, at_seam, at_within, length-map, map, map-append, slice_get, slice_get_within, take_prefix, take_seam}
+use Rattle.std.proofs.Common.{◌≡◌, ℕ, ◌+◌, List, [], ◌∷◌, ◌++◌, length, take, Some, None, ◌⊎◌, inl, inr, refl, sym, ap, ◌∙◌, subst, arith, length-append, suc}
+use Rattle.wit_syntax.proofs.Common.{Address, Span, Stability, TypeDef, TypeDefKind, at_either, at_seam, at_within, length-map, map, map-append, slice_get, slice_get_within, take_prefix, take_seam, flat_map, append-nil, differ_more}
 use Rattle.wit_arena.specs.Kind.{kind_of}
-use Rattle.wit_arena.specs.Expr.{Expr, Prim, Use, Of, Exprs, End, More}
+use Rattle.wit_arena.specs.Expr.{Expr, Of, Exprs, End, More}
 use Rattle.wit_arena.specs.Occurrences.{Key, Def, Whole, Occurrence, keys, IsSeen, Collects, AreAt, Decls, IsEntry, IsKeyed, IsOccurrence, settled}
 use Rattle.wit_arena.specs.Resolving.{seen, all_seen, Env, AreNames, IsInterned, unnamed}
-use Rattle.wit_arena.proofs.Places.{Extended, extended_refl, extended_trans, key_extended, all_at_untaken, all_at_injective, all_at_functional}
+use Rattle.wit_arena.proofs.Places.{Extended, extended_trans, key_extended, all_at_untaken, all_at_injective, all_at_functional}
 
 pub keys-append : (ms ls : List Occurrence) → keys (ms ++ ls) ≡ keys ms ++ keys ls
 keys-append ms ls = map-append (λ (m : Occurrence). m.key) ms ls
@@ -19,7 +19,7 @@ collects_append (x ∷ ks) ls a b c h k = elim h [
 ]
 
 pub collects_extended : (ks : List Occurrence) (a b : List Occurrence) → Collects a ks b → Extended (keys a) (keys b)
-collects_extended [] a b h = subst (λ x. Extended (keys a) (keys x)) (sym h) (extended_refl (keys a))
+collects_extended [] a b h = record { more = []; is = ap keys h ∙ sym (append-nil (keys a)) }
 collects_extended (x ∷ ks) a b h = elim h [
   | inl old ↦ collects_extended ks a b old.1
   | inr fresh ↦ (let step : Extended (keys a) (keys (a ++ x ∷ [])) = record { more = x.key ∷ []; is = keys-append a (x ∷ []) } in extended_trans step (collects_extended ks (a ++ x ∷ []) b fresh.1))
@@ -33,9 +33,13 @@ pub has_either : (xs ys : List Key) (k : Key) → Has (xs ++ ys) k → Has xs k 
 has_either [] ys k h = inr h
 has_either (x ∷ xs) ys k h = elim h [ inl here ↦ inl (inl here) | inr rest ↦ elim (has_either xs ys k rest) [ inl a ↦ inl (inr a) | inr b ↦ inr b ] ]
 
--- a key that is where one occurrence was added
-pub key_either : (a : List Occurrence) (x : Occurrence) (i : ℕ) (k : Key) → slice_get (keys (a ++ x ∷ [])) i ≡ Some k → (slice_get (keys a) i ≡ Some k) ⊎ ((i ≡ length (keys a)) × (k ≡ x.key))
-key_either a x i k h = at_either (keys a) x.key i k (sym (ap (λ l. slice_get l i) (keys-append a (x ∷ []))) ∙ h)
+-- a key that occurs in what elements of a list become occurs in what one of them becomes
+pub has_from : {X : Type 0} (f : X → List Occurrence) (xs : List X) (k : Key) → Has (keys (flat_map f xs)) k → (j : ℕ) × (x : X) × (slice_get xs j ≡ Some x) × Has (keys (f x)) k
+has_from f [] k h = absurd h
+has_from f (x ∷ xs) k h = elim (has_either (keys (f x)) (keys (flat_map f xs)) k (subst (λ (ks : List Key). Has ks k) (keys-append (f x) (flat_map f xs)) h)) [
+  | inl first ↦ (0, x, refl, first)
+  | inr rest ↦ (let it = has_from f xs k rest in (suc it.0, it.1, it.2, it.3))
+]
 
 -- what is in the end was there before or occurred
 pub collects_from : (ks : List Occurrence) (a b : List Occurrence) → Collects a ks b → (j : ℕ) (k : Key) → slice_get (keys b) j ≡ Some k → IsSeen (keys a) k ⊎ Has (keys ks) k
@@ -43,7 +47,7 @@ collects_from [] a b h j k at = inl (j, subst (λ l. slice_get (keys l) j ≡ So
 collects_from (x ∷ ks) a b h j k at = elim h [
   | inl old ↦ elim (collects_from ks a b old.1 j k at) [ inl p ↦ inl p | inr q ↦ inr (inr q) ]
   | inr fresh ↦ elim (collects_from ks (a ++ x ∷ []) b fresh.1 j k at) [
-    | inl p ↦ elim (key_either a x p.0 k p.1) [ inl before ↦ inl (p.0, before) | inr new ↦ inr (inl (sym new.1)) ]
+    | inl p ↦ elim (at_either (keys a) x.key p.0 k (sym (ap (λ l. slice_get l p.0) (keys-append a (x ∷ []))) ∙ p.1)) [ inl before ↦ inl (p.0, before) | inr new ↦ inr (inl (sym new.1)) ]
     | inr q ↦ inr (inr q)
   ]
 ]
@@ -51,12 +55,11 @@ collects_from (x ∷ ks) a b h j k at = elim h [
 -- no definition occurs in an expression
 mutual
   pub no_def : (e : Expr) (s : Address) (name : List ℕ) → Has (seen e) (Def s name) → ⊥
-  no_def (Prim p) s name h = h
-  no_def (Use t other) s name h = h
   no_def (Of form parts) s name h = elim (has_either (all_seen parts) (Whole form parts ∷ []) (Def s name) h) [
     | inl inner ↦ no_defs parts s name inner
     | inr last ↦ elim last [ inl here ↦ (let f : ⊥ = cc in f) | inr none ↦ none ]
   ]
+  no_def _ s name h = h
 
   pub no_defs : (es : Exprs) (s : Address) (name : List ℕ) → Has (all_seen es) (Def s name) → ⊥
   no_defs End s name h = h
@@ -71,33 +74,27 @@ names_kept a b more s env es same h names = record {
   ];
 }
 
+-- what is at one place of two lists that are as long, with one element more each
+both_either : {X Y : Type 0} (us : List X) (u : X) (xs : List Y) (x : Y) → length xs ≡ length us → (i : ℕ) (a : X) (b : Y) → slice_get (us ++ u ∷ []) i ≡ Some a → slice_get (xs ++ x ∷ []) i ≡ Some b → ((slice_get us i ≡ Some a) × (slice_get xs i ≡ Some b)) ⊎ ((i ≡ length us) × (a ≡ u) × (b ≡ x))
+both_either us u xs x count i a b at_a at_b = elim (at_either us u i a at_a) [
+  | inl old_a ↦ elim (at_either xs x i b at_b) [
+    | inl old_b ↦ inl (old_a, old_b)
+    | inr new_b ↦ absurd (omega (arith, slice_get_within us i a old_a, new_b.0, count))
+  ]
+  | inr new_a ↦ elim (at_either xs x i b at_b) [
+    | inl old_b ↦ absurd (omega (arith, slice_get_within xs i b old_b, new_a.0, count))
+    | inr new_b ↦ inr (new_a.0, new_a.1, new_b.1)
+  ]
+]
+
 -- one key more, with its entry
 pub keyed_more : {decls : Decls} {ks : List Key} {es : List TypeDef} (k : Key) (e : TypeDef) → IsKeyed decls ks es → (IsSeen ks k → ⊥) → IsEntry decls ks k e → IsKeyed decls (ks ++ k ∷ []) (es ++ e ∷ [])
 keyed_more {decls} {ks} {es} k e m new it = record {
   count = length-append es (e ∷ []) ∙ ap (λ n. n + 1) m.count ∙ sym (length-append ks (k ∷ []));
-  once = record {
-    differ = λ i j x ati atj. elim (at_either ks k i x ati) [
-      | inl oldi ↦ elim (at_either ks k j x atj) [
-        | inl oldj ↦ m.once.differ i j x oldi oldj
-        | inr newj ↦ absurd (new (i, oldi ∙ ap Some newj.1))
-      ]
-      | inr newi ↦ elim (at_either ks k j x atj) [
-        | inl oldj ↦ absurd (new (j, oldj ∙ ap Some newi.1))
-        | inr newj ↦ newi.0 ∙ sym newj.0
-      ]
-    ];
-  };
-  each = λ i x f key entry. elim (at_either ks k i x key) [
-    | inl oldm ↦ (
-        let lt = slice_get_within ks i x oldm in
-        elim (at_either es e i f entry) [
-          | inl oldk ↦ subst (λ prefix. IsEntry decls prefix x f) (sym (take_prefix ks (k ∷ []) i (omega arith))) (m.each i x f oldm oldk)
-          | inr newk ↦ absurd (let count = m.count in let f : ⊥ = omega arith in f)
-        ])
-    | inr newm ↦ elim (at_either es e i f entry) [
-      | inl oldk ↦ absurd (let lt = slice_get_within es i f oldk in let count = m.count in let f : ⊥ = omega arith in f)
-      | inr newk ↦ rw (newm.0, newm.1, newk.1) (subst (λ prefix. IsEntry decls prefix k e) (sym (take_seam ks (k ∷ []))) it)
-    ]
+  once = differ_more ks k m.once (λ i at. new (i, at));
+  each = λ i x f key entry. elim (both_either ks k es e m.count i x f key entry) [
+    | inl old ↦ subst (λ prefix. IsEntry decls prefix x f) (sym (take_prefix ks (k ∷ []) i (omega (arith, slice_get_within ks i x old.0)))) (m.each i x f old.0 old.1)
+    | inr new_one ↦ rw (new_one.0, new_one.1, new_one.2) (subst (λ prefix. IsEntry decls prefix k e) (sym (take_seam ks (k ∷ []))) it)
   ];
 }
 
@@ -116,17 +113,9 @@ settled_by decls ks es given (Whole form parts) e it is none = is
 
 -- where each entry is settled, one more is among those before it
 settled_more : (ms : List Occurrence) (es : List TypeDef) (m : Occurrence) (e : TypeDef) → length es ≡ length ms → ((i : ℕ) (x : Occurrence) (f : TypeDef) → slice_get ms i ≡ Some x → slice_get es i ≡ Some f → HasSettled (take i es) x.given f) → HasSettled es m.given e → (i : ℕ) (x : Occurrence) (f : TypeDef) → slice_get (ms ++ m ∷ []) i ≡ Some x → slice_get (es ++ e ∷ []) i ≡ Some f → HasSettled (take i (es ++ e ∷ [])) x.given f
-settled_more ms es m e count each it i x f seen entry = elim (at_either ms m i x seen) [
-  | inl oldm ↦ (
-      let lt = slice_get_within ms i x oldm in
-      elim (at_either es e i f entry) [
-        | inl olde ↦ subst (λ prefix. HasSettled prefix x.given f) (sym (take_prefix es (e ∷ []) i (omega arith))) (each i x f oldm olde)
-        | inr newe ↦ absurd (let at = newe.0 in let f : ⊥ = omega arith in f)
-      ])
-  | inr newm ↦ elim (at_either es e i f entry) [
-    | inl olde ↦ absurd (let lt = slice_get_within es i f olde in let at = newm.0 in let f : ⊥ = omega arith in f)
-    | inr newe ↦ subst (λ (g : TypeDef). HasSettled (take i (es ++ e ∷ [])) x.given g) (sym newe.1) (subst (λ (y : Occurrence). HasSettled (take i (es ++ e ∷ [])) y.given e) (sym newm.1) (subst (λ (n : ℕ). HasSettled (take n (es ++ e ∷ [])) m.given e) (sym newe.0) (subst (λ prefix. HasSettled prefix m.given e) (sym (take_seam es (e ∷ []))) it)))
-  ]
+settled_more ms es m e count each it i x f seen entry = elim (both_either ms m es e count i x f seen entry) [
+  | inl old ↦ subst (λ prefix. HasSettled prefix x.given f) (sym (take_prefix es (e ∷ []) i (omega (arith, slice_get_within es i f old.1)))) (each i x f old.0 old.1)
+  | inr new ↦ subst (λ (g : TypeDef). HasSettled (take i (es ++ e ∷ [])) x.given g) (sym new.2) (subst (λ (y : Occurrence). HasSettled (take i (es ++ e ∷ [])) y.given e) (sym new.1) (subst (λ (n : ℕ). HasSettled (take n (es ++ e ∷ [])) m.given e) (sym (new.0 ∙ sym count)) (subst (λ prefix. HasSettled prefix m.given e) (sym (take_seam es (e ∷ []))) it)))
 ]
 
 -- one occurrence more, with its entry
@@ -144,14 +133,9 @@ pub record IsWhole (decls : Decls) (ms : List Occurrence) (new : List TypeDef) (
   pub occurrence : IsOccurrence decls now new
   pub at : slice_get (keys now) i ≡ Some m.key
 
-pub once_of : {decls : Decls} {ks : List Key} {es : List TypeDef} → IsKeyed decls ks es → AllDiffer ks
-once_of m = m.once
-
 found_key : (decls : Decls) (n : ℕ) (ks : List Key) (k : Key) (parts : Exprs) (e : TypeDef) → IsEntry decls (take n ks) k e → e.name ≡ None → AreAt ks parts (kind_of e.kind).parts → k ≡ Whole (kind_of e.kind).form parts
 found_key decls n ks (Def s name) parts e h none at = absurd (let wrong = h.4 in let f : ⊥ = cc in f)
-found_key decls n ks (Whole form parts') parts e h none at =
-    let same = all_at_injective ks parts' parts (kind_of e.kind).parts (all_at_untaken n ks parts' (kind_of e.kind).parts h.3) at in
-    ap (λ f. Whole f parts') (sym h.2) ∙ ap (Whole (kind_of e.kind).form) same
+found_key decls n ks (Whole form parts') parts e h none at = cc (h.2, all_at_injective ks parts' parts (kind_of e.kind).parts (all_at_untaken n ks parts' (kind_of e.kind).parts h.3) at)
 
 -- this kind alone has its form and parts
 pub record IsOnly (what : TypeDefKind) : Type 0 where
@@ -179,7 +163,7 @@ occur_whole decls ms old new kind given span parts i only m at interned = elim i
       let lt = slice_get_within (keys ms) was.0 key was.1 in
       let e = at_within old was.0 (omega arith) in
       let it = keyed.each was.0 key e.0 was.1 e.1 in
-      let tys = all_at_functional (keys ms) (once_of keyed) parts (kind_of e.0.kind).parts (kind_of kind).parts (all_at_untaken was.0 (keys ms) parts (kind_of e.0.kind).parts it.3) at in
+      let tys = all_at_functional (keys ms) keyed.once parts (kind_of e.0.kind).parts (kind_of kind).parts (all_at_untaken was.0 (keys ms) parts (kind_of e.0.kind).parts it.3) at in
       added.2 was.0 e.0 (record { is = e.1 }) (record { name = it.0; kind = only.same e.0.kind it.2 tys })) in
       record {
         now = ms ++ record { key = key; span = span; given = given } ∷ [];

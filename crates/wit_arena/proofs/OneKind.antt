@@ -1,13 +1,13 @@
 -- A type of the arena is given by its form and its parts.
-use Rattle.std.proofs.Common.{◌≡◌, ℕ, Bool, true, false, List, [], ◌∷◌, Option, Some, None, refl, sym, ap, ◌∙◌}
-use Rattle.wit_syntax.proofs.Common.{AliasForm, Borrow, BorrowForm, Docs, EnumForm, Field, FixedLengthListForm, FlagsForm, Form, FutureForm, ListForm, MapForm, Member, OptionForm, Own, OwnForm, RecordForm, ResourceForm, ResultForm, Span, StreamForm, TupleForm, TypeDefKind, UnknownForm, VariantForm, map}
+use Rattle.std.proofs.Common.{◌≡◌, ℕ, Bool, true, false, List, [], ◌∷◌, Option, Some, None, refl, sym, ap, ◌∙◌, is_some}
+use Rattle.wit_syntax.proofs.Common.{AliasForm, Borrow, BorrowForm, Docs, EnumForm, Field, FixedLengthListForm, FlagsForm, Form, FutureForm, ListForm, MapForm, Member, OptionForm, Own, OwnForm, RecordForm, ResourceForm, ResultForm, Span, StreamForm, TupleForm, TypeDefKind, UnknownForm, VariantForm, map, filter_map}
 use Rattle.wit_types.specs.declared.types.Case.{Case}
 use Rattle.wit_types.specs.declared.types.EnumCase.{EnumCase}
 use Rattle.wit_types.specs.declared.types.Flag.{Flag}
 use Rattle.wit_types.specs.declared.types.«Type».{«Type» as Ty}
 use Rattle.wit_types.specs.declared.types.«Type».TheVariants as type
 use Rattle.wit_types.specs.declared.types.TypeDefKind.TheVariants as kind
-use Rattle.wit_arena.specs.Kind.{kind_of, field_member, flag_member, case_member, enum_case_member, payloads}
+use Rattle.wit_arena.specs.Kind.{kind_of}
 
 -- the first of some types, and the second
 abbrev first : List Ty → Ty
@@ -75,17 +75,28 @@ made (StreamForm borrowed) ts = kind.Stream (as_stated borrowed ts)
 made AliasForm ts = kind.Type_ (first ts)
 made UnknownForm ts = kind.Unknown
 
+abbrev field_member : Field → Member
+field_member f = record { name = f.name; docs = f.docs; span = f.span }
+
+abbrev flag_member : Flag → Member
+flag_member f = record { name = f.name; docs = f.docs; span = f.span }
+
+abbrev case_member : Case → Member × Bool
+case_member c = (record { name = c.name; docs = c.docs; span = c.span }, is_some c.ty)
+
+abbrev enum_case_member : EnumCase → Member
+enum_case_member c = record { name = c.name; docs = c.docs; span = c.span }
+
+abbrev payloads : List Case → List Ty
+payloads cs = filter_map (λ (c : Case). c.ty) cs
+
 fields_back : (fs : List Field) → fields (map field_member fs) (map (λ f. f.ty) fs) ≡ fs
 fields_back [] = refl
 fields_back (f ∷ fs) = ap (λ l. f ∷ l) (fields_back fs)
 
-flags_back : (fs : List Flag) → map flag (map flag_member fs) ≡ fs
-flags_back [] = refl
-flags_back (f ∷ fs) = ap (λ l. f ∷ l) (flags_back fs)
-
-enum_back : (cs : List EnumCase) → map enum_case (map enum_case_member cs) ≡ cs
-enum_back [] = refl
-enum_back (c ∷ cs) = ap (λ l. c ∷ l) (enum_back cs)
+map_back : {X Y : Type 0} (f : X → Y) (g : Y → X) → ((x : X) → g (f x) ≡ x) → (xs : List X) → map g (map f xs) ≡ xs
+map_back f g same [] = refl
+map_back f g same (x ∷ xs) = cc (same x, map_back f g same xs)
 
 abbrev with_type : List ℕ → Option Ty → Docs → Span → Case
 with_type name ty docs span = record { name = name; ty = ty; docs = docs; span = span }
@@ -107,24 +118,14 @@ result_back (Some t) (Some u) = refl
 -- a type is the one of its form and its parts
 back : (k : TypeDefKind) → made (kind_of k).form (kind_of k).parts ≡ k
 back (kind.Record r) = ap (λ l. kind.Record (record { fields = l })) (fields_back r.fields)
-back kind.Resource = refl
-back (kind.Handle (Own r)) = refl
-back (kind.Handle (Borrow r)) = refl
-back (kind.Flags f) = ap (λ l. kind.Flags (record { flags = l })) (flags_back f.flags)
-back (kind.Tuple t) = refl
+back (kind.Flags f) = ap (λ l. kind.Flags (record { flags = l })) (map_back flag_member flag (λ x. refl) f.flags)
 back (kind.Variant v) = ap (λ l. kind.Variant (record { cases = l })) (cases_back v.cases)
-back (kind.Enum e) = ap (λ l. kind.Enum (record { cases = l })) (enum_back e.cases)
-back (kind.Option t) = refl
+back (kind.Enum e) = ap (λ l. kind.Enum (record { cases = l })) (map_back enum_case_member enum_case (λ x. refl) e.cases)
 back (kind.Result r) = result_back r.ok r.err
-back (kind.List t) = refl
-back (kind.Map k v) = refl
-back (kind.FixedLengthList t n) = refl
+back (kind.Handle (Own r)) = refl
 back (kind.Future None) = refl
-back (kind.Future (Some t)) = refl
 back (kind.Stream None) = refl
-back (kind.Stream (Some t)) = refl
-back (kind.Type_ t) = refl
-back kind.Unknown = refl
+back _ = refl
 
 -- so two of one form and the same parts are one
 pub one_kind : (k l : TypeDefKind) → (kind_of k).form ≡ (kind_of l).form → (kind_of k).parts ≡ (kind_of l).parts → k ≡ l

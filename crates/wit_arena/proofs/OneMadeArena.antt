@@ -1,14 +1,14 @@
 -- One arena of types is what some first occurrences make, where each scope has one name that is called so.
-use Rattle.std.proofs.Common.{◌≡◌, ℕ, List, ◌∷◌, length, take, Some, None, sym, ap, ◌∙◌, subst, arith, Contains}
-use Rattle.wit_syntax.proofs.Common.{Address, AreDistinct, Form, ScopeName, Span, Stability, TypeDef, TypeDefKind, TypeOwner, about_name, at_contains, at_within, differ_at, first_known, local_name, map, no_docs, slice_get, slice_get_within}
-use Rattle.wit_types.specs.declared.types.TypeOwner.TheVariants as owner
+use Rattle.std.proofs.Common.{◌≡◌, ℕ, List, length, take, Some, sym, ap, ◌∙◌, subst, arith, Contains}
+use Rattle.wit_syntax.proofs.Common.{Address, AreDistinct, Form, ScopeName, Span, Stability, TypeDef, TypeDefKind, TypeOwner, about_name, at_contains, at_within, differ_at, local_name, slice_get, slice_get_within}
 use Rattle.wit_types.specs.declared.types.«Type».{«Type» as Ty}
 use Rattle.wit_arena.specs.Expr.{name_exprs}
 use Rattle.wit_arena.specs.Kind.{Kind, kind_of}
-use Rattle.wit_arena.specs.Made.{types_of, entry, IsEntryOf}
-use Rattle.wit_arena.specs.Occurrences.{Key, Def, Whole, Occurrence, stability_at}
+use Rattle.wit_arena.specs.Made.{types_of, IsEntryOf}
+use Rattle.wit_arena.specs.Occurrences.{Key, Def, Whole, Occurrence}
 use Rattle.wit_arena.proofs.OneKind.{one_kind}
 use Rattle.wit_arena.proofs.OneList.{same_by_prefixes}
+use Rattle.wit_arena.proofs.Places.{same_some}
 
 -- of distinct names one is called so
 one_called : (xs : List ScopeName) → AreDistinct xs → (x y : ScopeName) → Contains xs x → Contains xs y → local_name x ≡ local_name y → x ≡ y
@@ -16,8 +16,7 @@ one_called xs differ x y in_x in_y same =
     let a = at_contains xs x in_x in
     let b = at_contains xs y in_y in
     let place : a.0 ≡ b.0 = differ_at local_name xs differ a.0 b.0 x y a.1 b.1 same in
-    let both : Some x ≡ Some y = sym a.1 ∙ ap (slice_get xs) place ∙ b.1 in
-    cc
+    same_some (sym a.1 ∙ ap (slice_get xs) place ∙ b.1)
 
 abbrev kind_stated : Form → List Ty → Kind
 kind_stated form parts = record { form = form; parts = parts }
@@ -31,15 +30,8 @@ module _ (names : Address → List ScopeName) (differ : (s : Address) → AreDis
   one_entry es (Def s name) span given e f a b =
       let one : a.0 ≡ b.0 = one_called (names s) (differ s) a.0 b.0 a.2 b.2 (a.3 ∙ sym b.3) in
       let kind : a.1 ≡ b.1 = same_kind a.1 b.1 (a.4 ∙ ap (λ (x : ScopeName). kind_stated (about_name x).body.form (types_of id (name_exprs s x))) one ∙ sym b.4) in
-      a.5
-      ∙ ap (λ (x : ScopeName). entry (Some name) (owner_of s) (about_name x).metadata span a.1) one
-      ∙ ap (λ (k : TypeDefKind). entry (Some name) (owner_of s) (about_name b.0).metadata span k) kind
-      ∙ sym b.5
-  one_entry es (Whole form parts) span given e f a b =
-      let kind : a.0 ≡ b.0 = same_kind a.0 b.0 (a.1 ∙ sym b.1) in
-      a.2
-      ∙ ap (λ (k : TypeDefKind). entry None owner.None (record { docs = no_docs; stability = first_known (given ∷ map (stability_at es) (types_of id parts)); external_id = None }) span k) kind
-      ∙ sym b.2
+      cc (a.5, ap about_name one, kind, b.5)
+  one_entry es (Whole form parts) span given e f a b = cc (a.2, same_kind a.0 b.0 (a.1 ∙ sym b.1), b.2)
 
   -- these are the entries of what occurs, each after those before it
   abbrev pub AreEntries : List Occurrence → List TypeDef → Type 0

@@ -1,10 +1,10 @@
 -- Where two orders of names agree on items, these are resolved in one way, and are in a package in one way.
 use Rattle.std.proofs.Common.{◌≡◌, ℕ, suc, List, [], ◌∷◌, ◌++◌, Some, refl, ap, ◌∙◌}
-use Rattle.wit_syntax.proofs.Common.{Address, Item, SideFunction, SideInline, SideItem, SideLink, address, flat_map, in_turn, inline_items, interfaces_of, map, scope_names, side_items, slice_get, worlds_of}
-use Rattle.wit_arena.specs.Made.{names_in_turn, interface_turn, turns_on_sides, turns_of_world, item_turns, own_interface, own_world}
+use Rattle.wit_syntax.proofs.Common.{Address, Item, SideFunction, SideInline, SideItem, SideLink, address, flat_map, inline_items, interfaces_of, map, side_items, slice_get, worlds_of}
+use Rattle.wit_arena.specs.Made.{interface_turn, turns_on_sides, turns_of_world, item_turns, own_interface, own_world}
 use Rattle.wit_arena.specs.Occurrences.{Key}
 use Rattle.wit_arena.specs.Whole.{Turned}
-use Rattle.wit_arena.proofs.Turns.{names_turn, function_turn}
+use Rattle.wit_arena.proofs.Turns.{function_turn}
 
 -- what agrees on what a list holds makes one list of it
 map_same : {X Y : Type 0} (f g : X → Y) (xs : List X) → ((k : ℕ) (x : X) → slice_get xs k ≡ Some x → f x ≡ g x) → map f xs ≡ map g xs
@@ -15,13 +15,10 @@ flat_map_same : {X Y : Type 0} (f g : X → List Y) (xs : List X) → ((k : ℕ)
 flat_map_same f g [] same = refl
 flat_map_same {X} {Y} f g (x ∷ xs) same = ap (λ (l : List Y). l ++ flat_map f xs) (same 0 x refl) ∙ ap (λ (l : List Y). g x ++ l) (flat_map_same f g xs (λ k. same (suc k)))
 
-module _ (order other : Address → List ℕ) where
+module _ (order other : Item → List ℕ) where
   -- the two agree on each of these items
   abbrev pub Agree : List Item → Type 0
-  Agree is = (k : ℕ) (i : Item) → slice_get is k ≡ Some i → order (address i) ≡ other (address i)
-
-  same_turn : (i : Item) → order (address i) ≡ other (address i) → interface_turn order i ≡ interface_turn other i
-  same_turn i same = ap (λ (l : List ℕ). interface_turn (λ s. l) i) same
+  Agree is = (k : ℕ) (i : Item) → slice_get is k ≡ Some i → order i ≡ other i
 
   same_on_sides : (s : Address) (xs : List SideItem) (is : List Item) → Agree is → turns_on_sides order s xs is ≡ turns_on_sides other s xs is
   same_on_sides s [] is agree = refl
@@ -29,19 +26,16 @@ module _ (order other : Address → List ℕ) where
   same_on_sides s (SideLink link ∷ xs) is agree = same_on_sides s xs is agree
   same_on_sides s (SideInline x name items ∷ xs) [] agree = same_on_sides s xs [] agree
   same_on_sides s (SideInline x name items ∷ xs) (i ∷ is) agree =
-      ap (λ (t : Turned). t ∷ turns_on_sides order s xs is) (same_turn i (agree 0 i refl))
-      ∙ ap (λ (l : List Turned). interface_turn other i ∷ l) (same_on_sides s xs is (λ k. agree (suc k)))
+      cc ((ap (λ (l : List ℕ). interface_turn (λ s. l) i) (agree 0 i refl)), same_on_sides s xs is (λ k. agree (suc k)))
 
-  same_world_turns : (i : Item) → order (address i) ≡ other (address i) → Agree (inline_items i) → turns_of_world order i ≡ turns_of_world other i
+  same_world_turns : (i : Item) → order i ≡ other i → Agree (inline_items i) → turns_of_world order i ≡ turns_of_world other i
   same_world_turns i same inside =
-      ap (λ (l : List ℕ). names_turn (address i) (in_turn (scope_names i) l) ∷ turns_on_sides order (address i) (side_items i) (inline_items i)) same
-      ∙ ap (λ (l : List Turned). names_turn (address i) (names_in_turn other i) ∷ l) (same_on_sides (address i) (side_items i) (inline_items i) inside)
+      cc (same, same_on_sides (address i) (side_items i) (inline_items i) inside)
 
   module _ (is : List Item) (interfaces : Agree (interfaces_of is)) (worlds : Agree (worlds_of is)) (inside : (k : ℕ) (i : Item) → slice_get (worlds_of is) k ≡ Some i → Agree (inline_items i)) where
     pub same_turns : item_turns order is ≡ item_turns other is
     same_turns =
-        ap (λ (l : List Turned). l ++ flat_map (turns_of_world order) (worlds_of is)) (map_same (interface_turn order) (interface_turn other) (interfaces_of is) (λ k i at. same_turn i (interfaces k i at)))
-        ∙ ap (λ (l : List Turned). map (interface_turn other) (interfaces_of is) ++ l) (flat_map_same (turns_of_world order) (turns_of_world other) (worlds_of is) (λ k i at. same_world_turns i (worlds k i at) (inside k i at)))
+        cc (map_same (interface_turn order) (interface_turn other) (interfaces_of is) (λ k i at. (ap (λ (l : List ℕ). interface_turn (λ s. l) i) (interfaces k i at))), flat_map_same (turns_of_world order) (turns_of_world other) (worlds_of is) (λ k i at. same_world_turns i (worlds k i at) (inside k i at)))
 
   pub same_interfaces : (id : Key → ℕ) (is : List Item) → Agree is → map (own_interface id order) is ≡ map (own_interface id other) is
   same_interfaces id is agree = map_same (own_interface id order) (own_interface id other) is (λ k i at. ap (λ (l : List ℕ). own_interface id (λ s. l) i) (agree k i at))

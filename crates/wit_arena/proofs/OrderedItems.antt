@@ -12,28 +12,25 @@ pub unstated : (files : List PackageFile) (c : DoneScope) (name : List ℕ) → 
 unstated files c name d free = lacks_nothing (scope files c.address) c.names c.types d.listed name d.turn.has free
 
 module _ (files : List PackageFile) (places : List ℕ) (order : IsOrder (item_rows files) places) (differ : AllDiffer (map item_name (all_items files))) where
-  abbrev all : List Item
-  all = all_items files
-
   -- the interfaces of files in their order, and the worlds
   abbrev pub interfaces : List Item
-  interfaces = interfaces_of (in_order all places)
+  interfaces = interfaces_of (in_order (all_items files) places)
 
   abbrev pub worlds : List Item
-  worlds = worlds_of (in_order all places)
+  worlds = worlds_of (in_order (all_items files) places)
 
   pub are_interfaces : AreItems files interfaces
-  are_interfaces = items_kept files (λ (i : Item). not (is_world i)) (in_order all places) (are_items files places order differ)
+  are_interfaces = items_kept files (λ (i : Item). not (is_world i)) (in_order (all_items files) places) (are_items files places order differ)
 
   pub are_worlds : AreItems files worlds
-  are_worlds = items_kept files is_world (in_order all places) (are_items files places order differ)
+  are_worlds = items_kept files is_world (in_order (all_items files) places) (are_items files places order differ)
 
   -- an item is an interface or a world of these
-  pub interface_at : (w : Item) → is_world w ≡ false → Contains all w → (t : ℕ) × (slice_get interfaces t ≡ Some w)
+  pub interface_at : (w : Item) → is_world w ≡ false → Contains (all_items files) w → (t : ℕ) × (slice_get interfaces t ≡ Some w)
   interface_at w sort among =
-      let p = at_contains all w among in
+      let p = at_contains (all_items files) w among in
       let t = item_index files places order p.0 w p.1 in
-      kept_has (λ (i : Item). not (is_world i)) (in_order all places) t.0 w (ap not sort) t.2
+      kept_has (λ (i : Item). not (is_world i)) (in_order (all_items files) places) t.0 w (ap not sort) t.2
 
   -- an interface of the package that was resolved among these, from which a name is used
   pub record IsResolvedUse (vs : List Item) (from : Address) : Type 0 where

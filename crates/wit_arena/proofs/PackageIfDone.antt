@@ -1,18 +1,17 @@
 -- What follows for a package once all interfaces and all worlds are done.
 use Rattle.std.proofs.Common.{◌≡◌, ℕ, ◌+◌, List, ◌++◌, length, Some, ◌⊎◌, inl, inr, refl, sym, ap, ◌∙◌, subst, append_assoc, length-append}
-use Rattle.wit_syntax.proofs.Common.{Address, Exported, ForeignVisit, Id, Imported, IsOrder, Item, PackageFile, ScopeName, TypeDef, address, all_items, at_back, at_part, at_prefix, flat_map, flat_map-append, foreign_interfaces, foreign_worlds, functions, headers, in_order, includes, inline_items, interfaces_of, item_rows, last_header, length-map, map, map-append, map_map, option_map, parts_of, release_parts, rows_of, scope_names, side_items, slice_get, slice_get-map, slice_get_within, visited, worlds_of}
-use Rattle.wit_tree.specs.declared.tree.PackageName.{PackageName as Header}
+use Rattle.wit_syntax.proofs.Common.{Address, Exported, ForeignVisit, Id, Imported, IsOrder, Item, PackageFile, ScopeName, TypeDef, address, all_items, at_back, at_part, at_prefix, flat_map, flat_map-append, foreign_interfaces, foreign_worlds, functions, in_order, includes, inline_items, interfaces_of, item_rows, length-map, map, map-append, map_map, option_map, rows_of, scope_names, side_items, slice_get, slice_get-map, slice_get_within, visited, worlds_of}
 use Rattle.wit_model.specs.declared.interface.Interface.{Interface}
 use Rattle.wit_model.specs.declared.world.World.{World}
-use Rattle.wit_model.specs.declared.unresolved.UnresolvedPackage.{UnresolvedPackage}
 use Rattle.wit_arena.specs.Occurrences.{Occurrence, Key, keys, IsOccurrence}
 use Rattle.wit_functions.specs.declared.function.Function.{Function}
 use Rattle.wit_arena.specs.SourceFunctions.{AreFunctions, placed_functions}
 use Rattle.wit_arena.specs.SideItems.{AreSideItems, settled}
 use Rattle.wit_arena.specs.UnfoldedTypes.{world_types}
 use Rattle.wit_arena.specs.OneByOne.{OneByOne}
-use Rattle.wit_arena.specs.Whole.{Ordered, OrderedWorld, AreOrdered, Turned, ordered_names, turned, world_turns, all_turns, all_inside, turn_handles, AreRequired, all_occurrences, type_imports, addresses, interface_addresses, world_addresses, declarations, HasTypes, AreIncludes, first_docs, IsForeignInterface, AreFirstOccurrences}
-use Rattle.wit_arena.proofs.ByParts.{HasSides, NamesOthers, IsPackage, IsResolvedInterface, IsResolvedWorld}
+use Rattle.wit_arena.proofs.Ordered.{Ordered, OrderedWorld, AreOrdered, ordered_names, turned, world_turns, all_turns, all_inside, addresses, interface_addresses, world_addresses}
+use Rattle.wit_arena.specs.Whole.{Turned, turn_handles, AreRequired, all_occurrences, type_imports, declarations, HasTypes, AreIncludes, IsForeignInterface}
+use Rattle.wit_arena.proofs.ByParts.{HasSides, IsPackage, IsResolvedInterface, IsResolvedWorld}
 use Rattle.wit_arena.specs.Resolving.{Names, Required, resolved_scope}
 use Rattle.wit_arena.specs.ResolvedArenas.{WorldArenas, AddsForeign}
 use Rattle.wit_arena.proofs.Members.{DoneScope, turn_of, members}
@@ -26,7 +25,7 @@ use Rattle.wit_arena.proofs.NamesOfDone.{has_types}
 use Rattle.wit_arena.proofs.Among.{types_of_resolved_scope, prefix_interface_at, world_scope_among, inside_scope_among, inside_entry}
 use Rattle.wit_arena.proofs.Turns.{item_of, own_item, foreign_turned}
 
-module _ (files : List PackageFile) (is ws : List Item) (start middle : List TypeDef) (prefix xs : List Interface) (wprefix : List World) (foreign : AddsForeign files start prefix wprefix) (irs wrs : List Required) (p : UnresolvedPackage) (a : WorldArenas) (d : InterfacesDone files is ws prefix is middle xs irs) (e : AreWorldsDone files is ws wprefix d.ordered (prefix_scopes files prefix ++ d.scopes) ws p.types a wrs) (interface_arena : p.interfaces ≡ (prefix ++ xs) ++ a.inside) (world_arena : p.worlds ≡ a.worlds) (others : NamesOthers files p) where
+module _ (files : List PackageFile) (is ws : List Item) (start middle : List TypeDef) (prefix xs : List Interface) (wprefix : List World) (foreign : AddsForeign files start prefix wprefix) (irs wrs : List Required) (new : List TypeDef) (a : WorldArenas) (d : InterfacesDone files is ws prefix is middle xs irs) (e : AreWorldsDone files is ws wprefix d.ordered (prefix_scopes files prefix ++ d.scopes) ws new a wrs) where
   abbrev ahead : List DoneScope
   ahead = prefix_scopes files prefix
 
@@ -50,7 +49,7 @@ module _ (files : List PackageFile) (is ws : List Item) (start middle : List Typ
 
   -- the names of an entry's types
   types_at : (k : ℕ) (c : DoneScope) (t : Turned) (types : Names) → slice_get scopes k ≡ Some c → turn_of c ≡ t → c.types ≡ types → HasTypes seen_keys t types
-  types_at k c t types at same are = subst (λ (x : Turned). HasTypes seen_keys x types) same (subst (λ (x : Names). HasTypes seen_keys (turn_of c) x) are (has_types files (decls files is ws) written scopes p.types (members e.done) k c at))
+  types_at k c t types at same are = subst (λ (x : Turned). HasTypes seen_keys x types) same (subst (λ (x : Names). HasTypes seen_keys (turn_of c) x) are (has_types files (decls files is ws) written scopes new (members e.done) k c at))
 
   interface_types_at : (t : ℕ) (o : Ordered) (i : Interface) → slice_get d.ordered t ≡ Some o → slice_get xs t ≡ Some i → HasTypes seen_keys (turned o) i.types
   interface_types_at t o i at there =
@@ -71,7 +70,7 @@ module _ (files : List PackageFile) (is ws : List Item) (start middle : List Typ
       let j = scope_of_entry e.laid t w there in
       let both : Some c.0 ≡ Some j.0 = sym c.1 ∙ j.1 in
       let one : c.0 ≡ j.0 = cc in
-      let k = world_scope_among files is ws middle p.types prefix xs wprefix irs wrs a d e t c.0 c.1 in
+      let k = world_scope_among files is ws middle new prefix xs wprefix irs wrs a d e t c.0 c.1 in
       types_at k.0 c.0 (turned o.own) (world_types w) k.1 c.2 (ap (λ (x : DoneScope). x.types) one ∙ sym (types_of_resolved_scope j.0 (world_resolved_scope w) (sym j.2)))
 
   -- the functions of an entry
@@ -99,7 +98,7 @@ module _ (files : List PackageFile) (is ws : List Item) (start middle : List Typ
   world_makes t o w at there =
       let own = o.own in
       let c = scope_at e.laid t own (own_order_at t o at) in
-      let k = world_scope_among files is ws middle p.types prefix xs wprefix irs wrs a d e t c.0 c.1 in
+      let k = world_scope_among files is ws middle new prefix xs wprefix irs wrs a d e t c.0 c.1 in
       let j = scope_of_entry e.laid t w there in
       let both : Some c.0 ≡ Some j.0 = sym c.1 ∙ j.1 in
       let one : c.0 ≡ j.0 = cc in
@@ -110,19 +109,19 @@ module _ (files : List PackageFile) (is ws : List Item) (start middle : List Typ
       record {
         functions = c.0.made;
         are = functions_made k.0 c.0 own k.1 c.2;
-        imports = (makes.imported, subst (λ (l : List Address). AreSideItems l own.item.top Imported (side_items own.item) c.0.made (addresses o.inside) makes.imported) same_interfaces (subst (λ (l : List Address). AreSideItems all_interfaces own.item.top Imported (side_items own.item) c.0.made l makes.imported) inside makes.are_imported), makes.imports ∙ ap (λ (l : List ScopeName). settled (includes own.item) (type_imports l c.0.types ++ makes.imported)) names ∙ ap (λ (l : Names). settled (includes own.item) (type_imports (ordered_names own) l ++ makes.imported)) types);
-        exports = (makes.exported, subst (λ (l : List Address). AreSideItems l own.item.top Exported (side_items own.item) c.0.made (addresses o.inside) makes.exported) same_interfaces (subst (λ (l : List Address). AreSideItems all_interfaces own.item.top Exported (side_items own.item) c.0.made l makes.exported) inside makes.are_exported), makes.exports);
+        imports = (makes.imports.0, subst (λ (l : List Address). AreSideItems l own.item.top Imported (side_items own.item) c.0.made (addresses o.inside) makes.imports.0) same_interfaces (subst (λ (l : List Address). AreSideItems all_interfaces own.item.top Imported (side_items own.item) c.0.made l makes.imports.0) inside makes.imports.1), makes.imports.2 ∙ ap (λ (l : List ScopeName). settled (includes own.item) (type_imports l c.0.types ++ makes.imports.0)) names ∙ ap (λ (l : Names). settled (includes own.item) (type_imports (ordered_names own) l ++ makes.imports.0)) types);
+        exports = (makes.exports.0, subst (λ (l : List Address). AreSideItems l own.item.top Exported (side_items own.item) c.0.made (addresses o.inside) makes.exports.0) same_interfaces (subst (λ (l : List Address). AreSideItems all_interfaces own.item.top Exported (side_items own.item) c.0.made l makes.exports.0) inside makes.exports.1), makes.exports.2);
       }
 
   foreign_interface_is : (t : ℕ) (v : ForeignVisit) (i : Interface) → slice_get (foreign_interfaces files) t ≡ Some v → slice_get prefix t ≡ Some i → IsForeignInterface files seen_keys v i
-  foreign_interface_is t v i at there = let h = foreign.interfaces.each t v i at there in (h.0, types_at t (interface_scope files t v i) (foreign_turned files v) i.types (prefix_interface_at files is ws middle p.types prefix xs wprefix irs wrs a d e t v i at there) refl refl, h.2)
+  foreign_interface_is t v i at there = let h = foreign.interfaces.each t v i at there in (h.0, types_at t (interface_scope files t v i) (foreign_turned files v) i.types (prefix_interface_at files is ws middle new prefix xs wprefix irs wrs a d e t v i at there) refl refl, h.2)
 
   -- an entry is that of a declared interface, or of one that is written in a world
   entry_either : (t : ℕ) (o : Ordered) (i : Interface) → slice_get (d.ordered ++ all_inside e.ordered) t ≡ Some o → slice_get (xs ++ a.inside) t ≡ Some i → ((slice_get d.ordered t ≡ Some o) × (slice_get xs t ≡ Some i)) ⊎ ((k : ℕ) × (c : DoneScope) × (slice_get (all_within e.scopes) k ≡ Some c) × IsInside ((length ss + length is) + k) o c i)
   entry_either t o i at there = elim (both_parts d.ordered (all_inside e.ordered) xs a.inside d.laid.count t o i at there) [
     | inl own ↦ inl own
     | inr far ↦ (
-        let h = inside_entry files is ws middle p.types prefix xs wprefix irs wrs a d e far.0 i far.2 in
+        let h = inside_entry files is ws middle new prefix xs wprefix irs wrs a d e far.0 i far.2 in
         let both : Some h.0.o ≡ Some o = sym h.0.at_o ∙ far.1 in
         let one : h.0.o ≡ o = cc in
         inr (far.0, h.0.c, h.0.at_c, subst (λ (x : Ordered). IsInside ((length ss + length is) + far.0) x h.0.c i) one (subst (λ (x : Interface). IsInside ((length ss + length is) + far.0) h.0.o h.0.c x) h.1 h.0.holds)))
@@ -134,7 +133,7 @@ module _ (files : List PackageFile) (is ws : List Item) (start middle : List Typ
     each = λ t o i at there. elim (entry_either t o i at there) [
       | inl h ↦ record { says = d.laid.says t o i h.0 h.1; types = interface_types_at t o i h.0 h.1; functions = interface_makes t o i h.0 h.1 }
       | inr h ↦ (
-          let k = inside_scope_among files is ws middle p.types prefix xs wprefix irs wrs a d e h.0 h.1 h.2 in
+          let k = inside_scope_among files is ws middle new prefix xs wprefix irs wrs a d e h.0 h.1 h.2 in
           record { says = h.3.says; types = types_at k.0 h.1 (turned o) i.types k.1 h.3.turn h.3.types; functions = (h.1.made, functions_made k.0 h.1 o k.1 h.3.turn, h.3.are_present) })
     ];
   }
@@ -153,7 +152,7 @@ module _ (files : List PackageFile) (is ws : List Item) (start middle : List Typ
   }
 
   -- what their handles require of other packages
-  pub required_of : AreRequired files seen_keys (flat_map turn_handles (all_turns d.ordered e.ordered)) (irs ++ wrs)
+  required_of : AreRequired files seen_keys (flat_map turn_handles (all_turns d.ordered e.ordered)) (irs ++ wrs)
   required_of =
       let own = map turned d.ordered in
       let turns = flat_map world_turns e.ordered in
@@ -175,34 +174,21 @@ module _ (files : List PackageFile) (is ws : List Item) (start middle : List Typ
     ]
   ]
 
-  seen_addresses : IsOccurrence (declarations files (interface_addresses files (d.ordered ++ all_inside e.ordered)) (world_addresses files e.ordered)) e.done.seen p.types
-  seen_addresses = subst (λ (y : List Address). IsOccurrence (declarations files (interface_addresses files (d.ordered ++ all_inside e.ordered)) y) e.done.seen p.types) same_worlds (subst (λ (y : List Address). IsOccurrence (declarations files y (world_list files ws)) e.done.seen p.types) same_interfaces e.done.occurrence)
+  seen_addresses : IsOccurrence (declarations files (interface_addresses files (d.ordered ++ all_inside e.ordered)) (world_addresses files e.ordered)) e.done.seen new
+  seen_addresses = subst (λ (y : List Address). IsOccurrence (declarations files (interface_addresses files (d.ordered ++ all_inside e.ordered)) y) e.done.seen new) same_worlds (subst (λ (y : List Address). IsOccurrence (declarations files y (world_list files ws)) e.done.seen new) same_interfaces e.done.occurrence)
 
   orders : (places : List ℕ) → IsOrder (item_rows files) places → is ≡ interfaces_of (in_order (all_items files) places) → ws ≡ worlds_of (in_order (all_items files) places) → AreOrdered files d.ordered e.ordered
   orders places order in_order_interfaces in_order_worlds = record { places = places; item_order = order; all_interfaces = d.all ∙ in_order_interfaces; all_worlds = e.all ∙ in_order_worlds; inside = e.each_inside; least = least_orders }
 
-  abbrev first_seen : (places : List ℕ) → IsOrder (item_rows files) places → is ≡ interfaces_of (in_order (all_items files) places) → ws ≡ worlds_of (in_order (all_items files) places) → AreFirstOccurrences files e.done.seen
-  first_seen places order in_order_interfaces in_order_worlds = record {
-    interfaces = d.ordered;
-    worlds = e.ordered;
+  pub package_of : (places : List ℕ) → IsOrder (item_rows files) places → is ≡ interfaces_of (in_order (all_items files) places) → ws ≡ worlds_of (in_order (all_items files) places) → IsPackage files new ((prefix ++ xs) ++ a.inside) a.worlds (irs ++ wrs)
+  package_of places order in_order_interfaces in_order_worlds = record {
+    seen = e.done.seen;
+    own = d.ordered;
+    own_worlds = e.ordered;
     ordered = orders places order in_order_interfaces in_order_worlds;
     first = e.done.collects;
-  }
-
-  pub package_of : p.required_resource_types ≡ irs ++ wrs → (header : Header) (places : List ℕ) → IsOrder (item_rows files) places → is ≡ interfaces_of (in_order (all_items files) places) → ws ≡ worlds_of (in_order (all_items files) places) → last_header files ≡ Some header → p.name.namespace ≡ header.namespace.name.now → p.name.name ≡ header.name.name.now → option_map release_parts p.name.version ≡ option_map parts_of header.version → p.name_span ≡ header.span → p.docs ≡ first_docs (headers files) → IsPackage files p
-  package_of requires header places order in_order_interfaces in_order_worlds last namespace name version span docs = record {
-    header = header;
-    last = last;
-    namespace = namespace;
-    name = name;
-    version = version;
-    name_span = span;
-    docs = docs;
-    others = others;
-    seen = e.done.seen;
-    first = first_seen places order in_order_interfaces in_order_worlds;
     occurrence = seen_addresses;
-    interfaces = (prefix, xs ++ a.inside, interface_arena ∙ append_assoc prefix xs a.inside, record { count = foreign.interfaces.count; each = foreign_interface_is }, interfaces_are);
-    worlds = (wprefix, ys, world_arena ∙ e.arena, foreign.worlds, worlds_are);
-    required = subst (AreRequired files seen_keys (flat_map turn_handles (all_turns d.ordered e.ordered))) (sym requires) required_of;
+    interfaces = (prefix, xs ++ a.inside, append_assoc prefix xs a.inside, record { count = foreign.interfaces.count; each = foreign_interface_is }, interfaces_are);
+    worlds = (wprefix, ys, e.arena, foreign.worlds, worlds_are);
+    required = required_of;
   }

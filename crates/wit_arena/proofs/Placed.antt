@@ -1,11 +1,12 @@
 -- Functions whose setters were put directly after their getters are the same functions.
-use Rattle.std.proofs.Common.{◌≡◌, ℕ, zero, suc, Bool, true, false, ◌&&◌, ◌||◌, List, [], ◌∷◌, map, Option, Some, None, ◌⊎◌, inl, inr, refl, sym, ap, ◌∙◌}
-use Rattle.wit_syntax.proofs.Common.{after_one, cases_Bool, cond-false, cond-true, filter, flat_map_at, flat_map_has, kept_at, kept_has, list_any, map_at, option_map, slice_get, slice_get-map}
-use Rattle.wit_functions.specs.SettersPlaced.{prefixes, is_getter, is_getter_of, goes_on_alike, goes_with, early, others, with_setters, setters_placed, pairs}
+use Rattle.std.proofs.Common.{◌≡◌, ℕ, zero, suc, Bool, true, ◌||◌, List, [], ◌∷◌, map, Option, Some, None, ◌⊎◌, inl, inr, refl, sym, ap, ◌∙◌}
+use Rattle.wit_syntax.proofs.Common.{after_one, cases_Bool, cond-false, cond-true, filter, flat_map_at, flat_map_has, kept_at, kept_has, list_any, map_at, option_map, slice_get, slice_get-map, and_parts}
+use Rattle.wit_functions.specs.SettersPlaced.{prefixes, is_getter, goes_on_alike, goes_with, early, others, with_setters, setters_placed, pairs}
 use Rattle.wit_functions.specs.declared.function.Function.{Function}
 use Rattle.wit_functions.specs.declared.function.FunctionKind.{FunctionKind}
 use Rattle.wit_functions.specs.declared.function.FunctionKind.TheVariants as kind
 use Rattle.wit_arena.specs.SourceFunctions.{by_name, placed_functions}
+use Rattle.wit_arena.proofs.Places.{same_some}
 
 -- what passes a test that one of a list passes
 pub any_at : {X : Type 0} (test : X → Bool) (xs : List X) → list_any test xs ≡ true → (i : ℕ) × (x : X) × (slice_get xs i ≡ Some x) × (test x ≡ true)
@@ -50,9 +51,8 @@ module _ {X : Type 0} (goes : X → X → Bool) where
   early_or [] i x at = absurd (let f : ⊥ = cc in f)
   early_or (e ∷ es) zero x at = elim (cases_Bool (list_any (goes e) es)) [
     | inl hit ↦ (
-        let same : e ≡ x = cc in
         let it = any_at (goes e) es hit in
-        inr (record { place = 0; at = ap (λ zs. slice_get zs 0) (cond-true (list_any (goes e) es) (e ∷ early goes es) (early goes es) hit) ∙ at; index = suc it.0; getter = it.1; there = it.2; is = ap (λ z. goes z it.1) (sym same) ∙ it.3 }))
+        inr (record { place = 0; at = ap (λ zs. slice_get zs 0) (cond-true (list_any (goes e) es) (e ∷ early goes es) (early goes es) hit) ∙ at; index = suc it.0; getter = it.1; there = it.2; is = ap (λ z. goes z it.1) (sym (same_some at)) ∙ it.3 }))
     | inr miss ↦ inl (0, ap (λ zs. slice_get zs 0) (cond-false (list_any (goes e) es) (others goes es) (e ∷ others goes es) miss) ∙ at)
   ]
   early_or (e ∷ es) (suc i) x at = elim (cases_Bool (list_any (goes e) es)) [
@@ -90,37 +90,14 @@ module _ {X : Type 0} (goes : X → X → Bool) where
 -- a getter is no setter
 getter_prefix : (k : FunctionKind) → is_getter k ≡ true → prefixes k ≡ None
 getter_prefix kind.Getter h = refl
-getter_prefix (kind.MethodGetter r) h = refl
-getter_prefix (kind.StaticGetter r) h = refl
-getter_prefix kind.Freestanding h = refl
-getter_prefix kind.AsyncFreestanding h = refl
-getter_prefix kind.Setter h = absurd (let f : ⊥ = cc in f)
-getter_prefix (kind.Method r) h = refl
-getter_prefix (kind.AsyncMethod r) h = refl
-getter_prefix (kind.MethodSetter r) h = absurd (let f : ⊥ = cc in f)
-getter_prefix (kind.Static r) h = refl
-getter_prefix (kind.AsyncStatic r) h = refl
-getter_prefix (kind.StaticSetter r) h = absurd (let f : ⊥ = cc in f)
-getter_prefix (kind.Constructor r) h = refl
-
-both_pass : (a b : Bool) → (a && b) ≡ true → (a ≡ true) × (b ≡ true)
-both_pass true true h = (refl, refl)
-both_pass true false h = absurd (let f : ⊥ = cc in f)
-both_pass false b h = absurd (let f : ⊥ = cc in f)
-
-function_alone : (s g x : Function) → is_getter_of s g ≡ true → is_getter_of g x ≡ true → ⊥
-function_alone s g x one two =
-    let getter = (both_pass (is_getter g.kind) (goes_on_alike (prefixes s.kind) s.name g.name) one).0 in
-    let goes = (both_pass (is_getter x.kind) (goes_on_alike (prefixes g.kind) g.name x.name) two).1 in
-    let wrong : false ≡ true = sym (ap (λ f. goes_on_alike f g.name x.name) (getter_prefix g.kind getter)) ∙ goes in
-    let f : ⊥ = cc in
-    f
+getter_prefix _ h = cc
 
 stated_alone : (s g x : Option Function) → goes_with s g ≡ true → goes_with g x ≡ true → ⊥
-stated_alone None g x one two = absurd (let f : ⊥ = cc in f)
-stated_alone (Some s) None x one two = absurd (let f : ⊥ = cc in f)
-stated_alone (Some s) (Some g) None one two = absurd (let f : ⊥ = cc in f)
-stated_alone (Some s) (Some g) (Some x) one two = function_alone s g x one two
+stated_alone (Some s) (Some g) (Some x) one two =
+    let getter = (and_parts (is_getter g.kind) (goes_on_alike (prefixes s.kind) s.name g.name) one).0 in
+    let goes = (and_parts (is_getter x.kind) (goes_on_alike (prefixes g.kind) g.name x.name) two).1 in
+    cc (sym (ap (λ f. goes_on_alike f g.name x.name) (getter_prefix g.kind getter)) ∙ goes)
+stated_alone _ g x one two = absurd (let f : ⊥ = cc in f)
 
 -- so no getter has a getter
 pub getters_alone : {K V : Type 0} (gives : V → Option Function) (s g x : K × V) → pairs gives s g ≡ true → pairs gives g x ≡ true → ⊥
@@ -134,6 +111,4 @@ pub function_from : (fs : List Function) (place : ℕ) (name : List ℕ) (f : Fu
 function_from fs place name f at =
     let it = placed_at (pairs Some) (map by_name fs) place (name, f) at in
     let g = map_at by_name fs it.0 (name, f) it.1 in
-    let same : g.0 ≡ f = ap (λ (p : List ℕ × Function). p.1) g.2 in
-    let called : g.0.name ≡ name = ap (λ (p : List ℕ × Function). p.0) g.2 in
-    (it.0, g.1 ∙ ap Some same, ap (λ (x : Function). x.name) (sym same) ∙ called)
+    (it.0, g.1 ∙ ap (λ (p : List ℕ × Function). Some p.1) g.2, ap (λ (p : List ℕ × Function). p.1.name) (sym g.2) ∙ ap (λ (p : List ℕ × Function). p.0) g.2)

@@ -34,5 +34,4 @@ module _ (id : Key → ℕ) (ks : List Key) (gives : GivesPlaces id ks) where
   pub all_at-types_of : (es : Exprs) (ts : List Ty) → AreAt ks es ts → ts ≡ types_of id es
   all_at-types_of End [] h = refl
   all_at-types_of (More e es) (t ∷ ts) h = ap (λ x. x ∷ ts) (at-type_of e t h.0) ∙ ap (λ l. type_of id e ∷ l) (all_at-types_of es ts h.1)
-  all_at-types_of End (t ∷ ts) h = absurd h
-  all_at-types_of (More e es) [] h = absurd h
+  all_at-types_of _ ts h = absurd h

@@ -1,6 +1,6 @@
 -- Where a function gives the place of each key, what means written functions and for names is stated.
 use Rattle.std.proofs.Common.{◌≡◌, ℕ, suc, List, [], ◌∷◌, Option, Some, None, refl, sym, ap, ◌∙◌, arith}
-use Rattle.wit_syntax.proofs.Common.{Address, Constructor, Docs, Freestanding, Id, Method, OnSide, Role, ScopeName, Shape, SourceFunction, SourceParam, Span, Stability, Static, all_params, local_name, map, option_map, option_to_list, slice_get}
+use Rattle.wit_syntax.proofs.Common.{Address, Constructor, Docs, Id, Method, Role, ScopeName, Shape, SourceFunction, SourceParam, Span, Stability, Static, all_params, local_name, map, option_map, option_to_list, slice_get}
 use Rattle.wit_types.specs.declared.types.«Type».{«Type» as Ty}
 use Rattle.wit_functions.specs.declared.function.Function.{Function}
 use Rattle.wit_functions.specs.declared.function.FunctionKind.{FunctionKind}
@@ -17,12 +17,8 @@ use Rattle.wit_arena.proofs.Placing.{GivesPlaces, at-type_of}
 -- what is one by one beside a list, where what is beside each is stated, is its image
 pub one_by_one-map : {X Y : Type 0} (Holds : X → Y → Type 0) (f : X → Y) → ((x : X) (y : Y) → Holds x y → y ≡ f x) → (xs : List X) (ys : List Y) → OneByOne Holds xs ys → ys ≡ map f xs
 one_by_one-map Holds f as_stated [] [] h = refl
-one_by_one-map Holds f as_stated [] (y ∷ ys) h = absurd (let count = h.count in let f : ⊥ = omega (arith, count) in f)
-one_by_one-map Holds f as_stated (x ∷ xs) [] h = absurd (let count = h.count in let f : ⊥ = omega (arith, count) in f)
-one_by_one-map Holds f as_stated (x ∷ xs) (y ∷ ys) h =
-    let count = h.count in
-    let rest : OneByOne Holds xs ys = record { count = omega (arith, count); each = λ k. h.each (suc k) } in
-    ap (λ z. z ∷ ys) (as_stated x y (h.each 0 x y refl refl)) ∙ ap (λ l. f x ∷ l) (one_by_one-map Holds f as_stated xs ys rest)
+one_by_one-map Holds f as_stated (x ∷ xs) (y ∷ ys) h = cc (as_stated x y (h.each 0 x y refl refl), one_by_one-map Holds f as_stated xs ys (record { count = omega (arith, h.count); each = λ k. h.each (suc k) }))
+one_by_one-map Holds f as_stated xs ys h = absurd (omega (arith, h.count))
 
 abbrev param : List ℕ → Ty → Span → Param
 param name ty span = record { name = name; ty = ty; span = span }
@@ -32,56 +28,38 @@ function name kind params result docs stability span id = record { name = name; 
 
 module _ (id : Key → ℕ) (ks : List Key) (gives : GivesPlaces id ks) where
   kind-role : (s : Address) (role : Role) (k : FunctionKind) → IsKind ks s role k → k ≡ role_kind (λ (of : Id). id (Def s of.name.now)) role
-  kind-role s (Freestanding of form) k h = h
   kind-role s (Method of form) k h = h.1 ∙ ap (kinds_of form).method (sym (gives.at h.0 (Def s of.name.now) h.2))
   kind-role s (Static of form) k h = h.1 ∙ ap (kinds_of form).static (sym (gives.at h.0 (Def s of.name.now) h.2))
   kind-role s (Constructor of) k h = h.1 ∙ ap kind.Constructor (sym (gives.at h.0 (Def s of.name.now) h.2))
-  kind-role s (OnSide side of form) k h = h
+  kind-role s _ k h = h
 
   abbrev param_in : Address → SourceParam → Param
   param_in s x = param x.name (type_of id (expr_of s x.shape)) x.span
 
   param_stated : (s : Address) (x : SourceParam) (p : Param) → IsParam ks s x p → p ≡ param_in s x
   param_stated s x p h =
-      let name = h.0 in
-      let type = at-type_of id ks gives (expr_of s x.shape) p.ty h.2 in
-      let span = h.1 in
-      let same : param p.name p.ty p.span ≡ param_in s x = cc in
+      let same : param p.name p.ty p.span ≡ param_in s x = cc (h.0, h.1, at-type_of id ks gives (expr_of s x.shape) p.ty h.2) in
       same
 
   result_stated : (s : Address) (x : Option Shape) (t : Option Ty) → OneByOne (λ (y : Shape) (u : Ty). IsAt ks (expr_of s y) u) (option_to_list x) (option_to_list t) → t ≡ option_map (λ y. type_of id (expr_of s y)) x
   result_stated s None None h = refl
-  result_stated s None (Some t) h = absurd (let count = h.count in let f : ⊥ = omega (arith, count) in f)
-  result_stated s (Some x) None h = absurd (let count = h.count in let f : ⊥ = omega (arith, count) in f)
   result_stated s (Some x) (Some t) h = ap Some (at-type_of id ks gives (expr_of s x) t (h.each 0 x t refl refl))
+  result_stated s x t h = absurd (omega (arith, h.count))
 
   pub function-in : (s : Address) (written : SourceFunction) (f : Function) → IsFunction ks s written f → f ≡ function_in id s written
   function-in s written f h =
-      let name = h.name in
-      let kind = kind-role s written.role f.kind h.kind in
       let params = one_by_one-map (IsParam ks s) (param_in s) (param_stated s) (all_params written) f.params h.params in
       let result = result_stated s written.result f.result h.result in
-      let docs = h.metadata.docs in
-      let stability = h.metadata.stability in
-      let span = h.span in
-      let external_id = h.metadata.external_id in
-      let same : function f.name f.kind f.params f.result f.docs f.stability f.span f.external_id ≡ function_in id s written = cc in
+      let same : function f.name f.kind f.params f.result f.docs f.stability f.span f.external_id ≡ function_in id s written = cc (h.name, kind-role s written.role f.kind h.kind, params, result, h.metadata.docs, h.metadata.stability, h.span, h.metadata.external_id) in
       same
 
   pub functions-in : (s : Address) (written : List SourceFunction) (fs : List Function) → OneByOne (IsFunction ks s) written fs → fs ≡ map (function_in id s) written
   functions-in s written fs h = one_by_one-map (IsFunction ks s) (function_in id s) (function-in s) written fs h
 
   places_stated : (s : Address) (xs : List ScopeName) (types : List (List ℕ × ℕ)) → map (λ n. n.0) types ≡ map local_name xs → ((k : ℕ) (name : List ℕ) (i : ℕ) → slice_get types k ≡ Some (name, i) → slice_get ks i ≡ Some (Def s name)) → types ≡ name_places id s xs
+  places_stated s (x ∷ xs) ((name, i) ∷ ts) names at = cc (gives.at i (Def s name) (at 0 name i refl), places_stated s xs ts (cc) (λ k. at (suc k)))
   places_stated s [] [] names at = refl
-  places_stated s [] (t ∷ ts) names at = absurd (let f : ⊥ = cc in f)
-  places_stated s (x ∷ xs) [] names at = absurd (let f : ⊥ = cc in f)
-  places_stated s (x ∷ xs) (t ∷ ts) names at =
-      let name : t.0 ≡ local_name x = cc in
-      let others : map (λ (n : List ℕ × ℕ). n.0) ts ≡ map local_name xs = cc in
-      let place : t.1 ≡ id (Def s t.0) = sym (gives.at t.1 (Def s t.0) (at 0 t.0 t.1 refl)) in
-      ap (λ (i : ℕ). (t.0, i) ∷ ts) place
-      ∙ ap (λ (n : List ℕ). (n, id (Def s n)) ∷ ts) name
-      ∙ ap (λ l. (local_name x, id (Def s (local_name x))) ∷ l) (places_stated s xs ts others (λ k. at (suc k)))
+  places_stated s xs ts names at = cc
 
   pub types-places : (t : Turned) (types : List (List ℕ × ℕ)) → HasTypes ks t types → types ≡ name_places id t.address t.names
   types-places t types h = places_stated t.address t.names types h.names h.places

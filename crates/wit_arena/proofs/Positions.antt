@@ -63,15 +63,12 @@ module _ (files : List PackageFile) (decls : Decls) (written : List Occurrence) 
         are = subst (AreAt ks (name_exprs s x)) (sym (type_parts p i e.0 e.1)) parts;
       }
 
-  whole_has_parts : (s : Address) (form : Form) (parts : Shapes) (i : ℕ) → slice_get ks i ≡ Some (Whole form (exprs_of s parts)) → AreAt ks (exprs_of s parts) (node_parts (package_node p (type.Id i)))
-  whole_has_parts s form parts i there =
-      let k = Whole form (exprs_of s parts) in
-      let e = entry_of_key decls ks p.types d.occurrence.keyed i k there in
-      let it = d.occurrence.keyed.each i k e.0 there e.1 in
-      subst (AreAt ks (exprs_of s parts)) (sym (type_parts p i e.0 e.1)) (all_at_untaken i ks (exprs_of s parts) (kind_of e.0.kind).parts it.3)
-
   whole_parts : (s : Address) (span : Span) (form : Form) (parts : Shapes) (t : Ty) → IsAt ks (expr_of s (shape.Of span form parts)) t → AreAt ks (exprs_of s parts) (node_parts (package_node p t))
-  whole_parts s span form parts t h = subst (λ (u : Ty). AreAt ks (exprs_of s parts) (node_parts (package_node p u))) (sym h.1) (whole_has_parts s form parts h.0 h.2)
+  whole_parts s span form parts t h =
+      let k = Whole form (exprs_of s parts) in
+      let e = entry_of_key decls ks p.types d.occurrence.keyed h.0 k h.2 in
+      let it = d.occurrence.keyed.each h.0 k e.0 h.2 e.1 in
+      subst (AreAt ks (exprs_of s parts)) (sym (ap (λ (u : Ty). node_parts (package_node p u)) h.1 ∙ type_parts p h.0 e.0 e.1)) (all_at_untaken h.0 ks (exprs_of s parts) (kind_of e.0.kind).parts it.3)
 
   pub has_parts : (s : Address) (x : Shape) (t : Ty) → IsAt ks (expr_of s x) t → HasParts (s, x) t
   has_parts s (shape.Prim q) t h = record {
@@ -124,8 +121,6 @@ module _ (files : List PackageFile) (decls : Decls) (written : List Occurrence) 
   -- a written type leads to each unnamed one in it
   mutual
     pub leads : (s : Address) (x : Shape) (t : Ty) (j : ℕ) (form : Form) (parts : Exprs) → IsAt ks (expr_of s x) t → slice_get ks j ≡ Some (Whole form parts) → Has (seen (expr_of s x)) (Whole form parts) → LeadsTo (s, x) t j
-    leads s (shape.Prim q) t j form parts at there has = absurd has
-    leads s (shape.Word id) t j form parts at there has = absurd has
     leads s (shape.Of span own xs) t j form parts at there has = elim (has_either (all_seen (exprs_of s xs)) (Whole own (exprs_of s xs) ∷ []) (Whole form parts) has) [
       | inl inner ↦ whole_leads (s, shape.Of span own xs) t j (all_lead s xs (node_parts (package_node p t)) j form parts (whole_parts s span own xs t at) there inner)
       | inr last ↦ elim last [
@@ -133,6 +128,7 @@ module _ (files : List PackageFile) (decls : Decls) (written : List Occurrence) 
         | inr none ↦ absurd none
       ]
     ]
+    leads s _ t j form parts at there has = absurd has
 
     pub all_lead : (s : Address) (xs : Shapes) (ts : List Ty) (j : ℕ) (form : Form) (parts : Exprs) → AreAt ks (exprs_of s xs) ts → slice_get ks j ≡ Some (Whole form parts) → Has (all_seen (exprs_of s xs)) (Whole form parts) → OneLeadsTo (placed s xs) ts j
     all_lead s shape.End ts j form parts at there has = absurd has

@@ -1,22 +1,23 @@
 -- What other packages put before the arenas, as scopes that are done.
 use Rattle.std.proofs.Common.{◌≡◌, ℕ, zero, suc, ◌+◌, false, List, [], ◌∷◌, ◌++◌, length, take, Option, Some, None, inl, inr, refl, sym, ap, ◌∙◌, subst, arith}
-use Rattle.wit_syntax.proofs.Common.{Address, AllDiffer, Declared, ForeignName, ForeignNamed, ForeignUse, ForeignVisit, Imported, IsSome, Item, PackageFile, PackageName, ScopeName, TheInline, TheInterface, TheWorld, TypeDef, TypeOwner, about, all_handles, all_items, all_scopes, at_part, at_prefix, at_within, differ_join, differ_none, filter, first_foreign_uses, firsts_at, flat_map, foreign_interfaces, foreign_uses, foreign_worlds, functions, item_at, length-map, local_name, lookup-place, map, map-append, map_at, map_map, name_types, option_map, option_map_or, package_of, same_address, same_foreign_use, scope, slice_get, slice_get-map, slice_get_within, some_of, used_names, visited}
+use Rattle.wit_syntax.proofs.Common.{Address, AllDiffer, Declared, ForeignName, ForeignNamed, ForeignUse, ForeignVisit, Imported, IsSome, Item, PackageFile, PackageName, ScopeName, TheInterface, TypeDef, TypeOwner, about, all_handles, all_items, all_scopes, at_part, at_prefix, at_within, differ_join, differ_none, filter, first_foreign_uses, firsts_at, flat_map, foreign_interfaces, foreign_uses, foreign_worlds, functions, item_at, length-map, local_name, lookup-place, map, map-append, map_at, map_map, name_types, option_map, option_map_or, package_of, same_address, same_foreign_use, scope, slice_get, slice_get-map, slice_get_within, some_of, used_names, visited}
 use Rattle.wit_types.specs.declared.types.TypeOwner.TheVariants as owner
 use Rattle.wit_model.specs.declared.interface.Interface.{Interface}
 use Rattle.wit_model.specs.declared.world.World.{World}
 use Rattle.wit_type_tree.specs.declared.types.«Type».{«Type» as Written}
 use Rattle.wit_arena.specs.SourceFunctions.{AreFunctions}
 use Rattle.wit_arena.specs.Occurrences.{Key, Def, Occurrence, keys, Decls, IsEntry, IsOccurrence}
-use Rattle.wit_arena.specs.Whole.{owner_at, foreign_use_occurrence, functions_at, turn_handles, AreRequired, IsForeignInterface}
-use Rattle.wit_arena.specs.Resolving.{resolved_scope_at, resolved_scopes, env_of, AreNames}
-use Rattle.wit_arena.specs.ResolvedArenas.{foreign_type, AddsForeign, AreUsableUses}
+use Rattle.wit_arena.specs.Whole.{owner_at, foreign_use_occurrence, turn_handles, AreRequired, IsForeignInterface}
+use Rattle.wit_arena.specs.Resolving.{resolved_scopes, env_of, AreNames}
+use Rattle.wit_arena.specs.ResolvedArenas.{foreign_type, AddsForeign}
+use Rattle.wit_arena.proofs.Places.{same_some}
 use Rattle.wit_arena.proofs.UsePart.{lookup-listed}
-use Rattle.wit_arena.proofs.FreeNames.{free_keyed, AreStated}
+use Rattle.wit_arena.proofs.FreeNames.{free_keyed}
 use Rattle.wit_arena.specs.UnfoldedTypes.{interface_functions}
 use Rattle.wit_arena.proofs.Required.{required_none}
 use Rattle.wit_arena.proofs.Members.{DoneScope, done_address, turn_of, resolved_scope_of, IsDoneScope, IsNameOf, IsDone}
 use Rattle.wit_arena.proofs.Interfaces.{interface_owner_at}
-use Rattle.wit_arena.proofs.Visits.{visited_addresses, interface_apart}
+use Rattle.wit_arena.proofs.Visits.{visited_addresses, interface_apart, AreUsableUses}
 use Rattle.wit_arena.proofs.ForeignUses.{foreign_use_key, keys-foreign_uses, foreign_uses_seen, foreign_uses_differ, used_from, in_use_has, used_name_at, used_distinct}
 
 -- the scope of an interface of another package at a place, with the types that it has in the arena
@@ -29,9 +30,8 @@ world_scope t v = record { address = visited v; owner = owner.World t; names = [
 
 -- the scopes of interfaces from a place on
 abbrev pub interface_scopes : List PackageFile → ℕ → List ForeignVisit → List Interface → List DoneScope
-interface_scopes files t [] is = []
-interface_scopes files t (v ∷ vs) [] = []
 interface_scopes files t (v ∷ vs) (i ∷ is) = interface_scope files t v i ∷ interface_scopes files (suc t) vs is
+interface_scopes files t vs is = []
 
 -- and those of worlds
 abbrev pub world_scopes : ℕ → List ForeignVisit → List DoneScope
@@ -45,51 +45,31 @@ prefix_scopes files prefix = interface_scopes files 0 (foreign_interfaces files)
 module _ (files : List PackageFile) where
   -- the scope of an interface at a place, and the interface of a scope
   interface_scope_from : (n : ℕ) (vs : List ForeignVisit) (is : List Interface) (t : ℕ) (v : ForeignVisit) (i : Interface) → slice_get vs t ≡ Some v → slice_get is t ≡ Some i → slice_get (interface_scopes files n vs is) t ≡ Some (interface_scope files (n + t) v i)
-  interface_scope_from n [] is t v i at there = absurd (let f : ⊥ = cc in f)
-  interface_scope_from n (u ∷ vs) [] t v i at there = absurd (let f : ⊥ = cc in f)
-  interface_scope_from n (u ∷ vs) (j ∷ is) zero v i at there =
-      let one : u ≡ v = cc in
-      let two : j ≡ i = cc in
-      ap (λ x. Some (interface_scope files n x j)) one ∙ ap (λ x. Some (interface_scope files n v x)) two ∙ ap (λ m. Some (interface_scope files m v i)) (let same : n ≡ n + 0 = omega arith in same)
-  interface_scope_from n (u ∷ vs) (j ∷ is) (suc t) v i at there = interface_scope_from (suc n) vs is t v i at there ∙ ap (λ m. Some (interface_scope files m v i)) (let same : suc n + t ≡ n + suc t = omega arith in same)
+  interface_scope_from n (u ∷ vs) (j ∷ is) zero v i at there = search arith
+  interface_scope_from n (u ∷ vs) (j ∷ is) (suc t) v i at there = search (arith, interface_scope_from (suc n) vs is t v i at there)
+  interface_scope_from n vs is t v i at there = cc
 
   pub interface_scope_at : (vs : List ForeignVisit) (is : List Interface) (t : ℕ) (v : ForeignVisit) (i : Interface) → slice_get vs t ≡ Some v → slice_get is t ≡ Some i → slice_get (interface_scopes files 0 vs is) t ≡ Some (interface_scope files t v i)
-  interface_scope_at vs is t v i at there = interface_scope_from 0 vs is t v i at there ∙ ap (λ m. Some (interface_scope files m v i)) (let same : 0 + t ≡ t = omega arith in same)
+  interface_scope_at vs is t v i at there = search (arith, interface_scope_from 0 vs is t v i at there)
 
   -- of as many interfaces, the addresses and the scopes as they are used
   pub map-interface_scopes : (n : ℕ) (vs : List ForeignVisit) (is : List Interface) → length is ≡ length vs → map done_address (interface_scopes files n vs is) ≡ map visited vs
-  map-interface_scopes n [] is count = refl
-  map-interface_scopes n (v ∷ vs) [] count = absurd (let f : ⊥ = omega arith in f)
-  map-interface_scopes n (v ∷ vs) (i ∷ is) count = ap (λ l. visited v ∷ l) (map-interface_scopes (suc n) vs is (omega arith))
+  map-interface_scopes n (v ∷ vs) (i ∷ is) count = cc (map-interface_scopes (suc n) vs is (omega arith))
+  map-interface_scopes n vs is count = grind arith
 
   pub resolved_scopes-interface_scopes : (n : ℕ) (vs : List ForeignVisit) (is : List Interface) → length is ≡ length vs → map resolved_scope_of (interface_scopes files n vs is) ≡ resolved_scopes (map visited vs) is
+  resolved_scopes-interface_scopes n (v ∷ vs) (i ∷ is) count = cc (free_keyed Imported i.functions, resolved_scopes-interface_scopes (suc n) vs is (omega arith))
   resolved_scopes-interface_scopes n [] [] count = refl
-  resolved_scopes-interface_scopes n [] (i ∷ is) count = absurd (let f : ⊥ = omega arith in f)
-  resolved_scopes-interface_scopes n (v ∷ vs) [] count = absurd (let f : ⊥ = omega arith in f)
-  resolved_scopes-interface_scopes n (v ∷ vs) (i ∷ is) count = ap (λ names. record { address = visited v; types = i.types; functions = names } ∷ map resolved_scope_of (interface_scopes files (suc n) vs is)) (free_keyed Imported i.functions) ∙ ap (λ l. resolved_scope_at (visited v) i ∷ l) (resolved_scopes-interface_scopes (suc n) vs is (omega arith))
-
-  length-interface_scopes : (n : ℕ) (vs : List ForeignVisit) (is : List Interface) → length is ≡ length vs → length (interface_scopes files n vs is) ≡ length vs
-  length-interface_scopes n [] is count = refl
-  length-interface_scopes n (v ∷ vs) [] count = absurd (let f : ⊥ = omega arith in f)
-  length-interface_scopes n (v ∷ vs) (i ∷ is) count = ap suc (length-interface_scopes (suc n) vs is (omega arith))
+  resolved_scopes-interface_scopes n vs is count = absurd (omega arith)
 
 world_scope_from : (n : ℕ) (vs : List ForeignVisit) (t : ℕ) (v : ForeignVisit) → slice_get vs t ≡ Some v → slice_get (world_scopes n vs) t ≡ Some (world_scope (n + t) v)
-world_scope_from n [] t v at = absurd (let f : ⊥ = cc in f)
-world_scope_from n (u ∷ vs) zero v at =
-    let one : u ≡ v = cc in
-    ap (λ x. Some (world_scope n x)) one ∙ ap (λ m. Some (world_scope m v)) (let same : n ≡ n + 0 = omega arith in same)
-world_scope_from n (u ∷ vs) (suc t) v at = world_scope_from (suc n) vs t v at ∙ ap (λ m. Some (world_scope m v)) (let same : suc n + t ≡ n + suc t = omega arith in same)
-
-world_scope_at : (vs : List ForeignVisit) (t : ℕ) (v : ForeignVisit) → slice_get vs t ≡ Some v → slice_get (world_scopes 0 vs) t ≡ Some (world_scope t v)
-world_scope_at vs t v at = world_scope_from 0 vs t v at ∙ ap (λ m. Some (world_scope m v)) (let same : 0 + t ≡ t = omega arith in same)
+world_scope_from n [] t v at = cc
+world_scope_from n (u ∷ vs) zero v at = search arith
+world_scope_from n (u ∷ vs) (suc t) v at = search (arith, world_scope_from (suc n) vs t v at)
 
 pub map-world_scopes : (n : ℕ) (vs : List ForeignVisit) → map done_address (world_scopes n vs) ≡ map visited vs
 map-world_scopes n [] = refl
 map-world_scopes n (v ∷ vs) = ap (λ l. visited v ∷ l) (map-world_scopes (suc n) vs)
-
-length-world_scopes : (n : ℕ) (vs : List ForeignVisit) → length (world_scopes n vs) ≡ length vs
-length-world_scopes n [] = refl
-length-world_scopes n (v ∷ vs) = ap suc (length-world_scopes (suc n) vs)
 
 -- a scope in front is that of an interface or of a world
 pub data IsPrefix (files : List PackageFile) (prefix : List Interface) (t : ℕ) (c : DoneScope) : Type 0 where
@@ -100,35 +80,26 @@ pub prefix_at : (files : List PackageFile) (prefix : List Interface) → length 
 prefix_at files prefix count t c at = elim (at_part (interface_scopes files 0 (foreign_interfaces files) prefix) (world_scopes 0 (foreign_worlds files)) t c at) [
   | inl h ↦ (
       let lt = slice_get_within (interface_scopes files 0 (foreign_interfaces files) prefix) h.0 c h.1 in
-      let long = length-interface_scopes files 0 (foreign_interfaces files) prefix count in
+      let long : length (interface_scopes files 0 (foreign_interfaces files) prefix) ≡ length (foreign_interfaces files) = sym (length-map (interface_scopes files 0 (foreign_interfaces files) prefix) done_address) ∙ ap length (map-interface_scopes files 0 (foreign_interfaces files) prefix count) ∙ length-map (foreign_interfaces files) visited in
       let v = at_within (foreign_interfaces files) h.0 (omega arith) in
       let i = at_within prefix h.0 (omega arith) in
-      let both : Some c ≡ Some (interface_scope files h.0 v.0 i.0) = sym h.1 ∙ interface_scope_at files (foreign_interfaces files) prefix h.0 v.0 i.0 v.1 i.1 in
-      PrefixInterface h.0 v.0 i.0 v.1 i.1 (let same : c ≡ interface_scope files h.0 v.0 i.0 = cc in same))
+      PrefixInterface h.0 v.0 i.0 v.1 i.1 (same_some (sym h.1 ∙ interface_scope_at files (foreign_interfaces files) prefix h.0 v.0 i.0 v.1 i.1)))
   | inr h ↦ (
       let lt = slice_get_within (world_scopes 0 (foreign_worlds files)) h.0 c h.1 in
-      let long = length-world_scopes 0 (foreign_worlds files) in
+      let long : length (world_scopes 0 (foreign_worlds files)) ≡ length (foreign_worlds files) = sym (length-map (world_scopes 0 (foreign_worlds files)) done_address) ∙ ap length (map-world_scopes 0 (foreign_worlds files)) ∙ length-map (foreign_worlds files) visited in
       let v = at_within (foreign_worlds files) h.0 (omega arith) in
-      let both : Some c ≡ Some (world_scope h.0 v.0) = sym h.1 ∙ world_scope_at (foreign_worlds files) h.0 v.0 v.1 in
-      PrefixWorld h.0 v.0 v.1 (let same : c ≡ world_scope h.0 v.0 = cc in same))
+      let is : slice_get (world_scopes 0 (foreign_worlds files)) h.0 ≡ Some (world_scope h.0 v.0) = search (arith, world_scope_from 0 (foreign_worlds files) h.0 v.0 v.1) in
+      PrefixWorld h.0 v.0 v.1 (same_some (sym h.1 ∙ is)))
 ]
 
 -- no declared item is of another package
 not_declared : (d : Declared) (p : PackageName) (name : List ℕ) → same_address (about d).address (ForeignNamed p name) ≡ false
 not_declared (TheInterface i) p name = refl
-not_declared (TheWorld w) p name = refl
-not_declared (TheInline world place x own items) p name = refl
+not_declared _ p name = refl
 
 no_item : (is : List Item) (p : PackageName) (name : List ℕ) → item_at is (ForeignNamed p name) ≡ None
 no_item [] p name = refl
 no_item (i ∷ is) p name = rw (not_declared i.declared p name) (no_item is p name)
-
--- so nothing is known of functions of another package's items
-pub no_functions_at : (files : List PackageFile) (p : PackageName) (name : List ℕ) → functions_at files (ForeignNamed p name) ≡ []
-no_functions_at files p name = ap (λ (o : Option Item). option_map_or functions o []) (no_item (all_scopes files) p name)
-
-pub nothing_stated : AreStated [] [] []
-nothing_stated = record { has = λ k fn f at. absurd (let f : ⊥ = cc in f); from = λ place key f at. absurd (let f : ⊥ = cc in f) }
 
 pub no_functions : (ks : List Key) (s : Address) → AreFunctions ks s [] []
 no_functions ks s = record { count = refl; each = λ k fn f at. absurd (let f : ⊥ = cc in f) }
@@ -145,17 +116,15 @@ nothing_required files ks s ts = subst (λ (types : List Written). AreRequired f
 used_named : (files : List PackageFile) (ts : List ForeignUse) (i : ℕ) (e : TypeDef) → slice_get (map (foreign_type files) ts) i ≡ Some e → e.name ≡ None → ⊥
 used_named files ts i e there none =
     let t = map_at (foreign_type files) ts i e there in
-    let named : Some t.0.id.name.now ≡ None = ap (λ (x : TypeDef). x.name) t.2 ∙ none in
-    let f : ⊥ = cc in
-    f
+    cc (ap (λ (x : TypeDef). x.name) t.2)
 
 -- the scope of an interface in front has its names in turn
 pub prefix_interface_done : (files : List PackageFile) (ks : List Key) (i : ℕ) (v : ForeignVisit) (x : Interface) → IsForeignInterface files ks v x → IsDoneScope files (interface_scope files i v x)
 prefix_interface_done files ks i v x is = record {
   turn = record { distinct = used_distinct files (visited v); differ = used_distinct files (visited v); among = λ k y yat. (k, yat); has = λ k y yat. (k, yat) };
   listed = is.1.names;
-  functions = sym (no_functions_at files (package_of v.of) v.id.name.now);
-  stated = rw is.2 nothing_stated;
+  functions = sym (ap (λ (o : Option Item). option_map_or functions o []) (no_item (all_scopes files) (package_of v.of) v.id.name.now));
+  stated = rw is.2 (record { has = λ k fn f at. absurd (let f : ⊥ = cc in f); from = λ place key f at. absurd (let f : ⊥ = cc in f) });
 }
 
 -- where uses lead to interfaces, nothing is taken from a world
@@ -177,8 +146,8 @@ module _ (files : List PackageFile) (uses : AreUsableUses files (all_items files
       has = λ k y yat. (let t = used_name_at files (visited w) k y yat in absurd (none_from_world i w at t.0 t.1 t.2 t.3));
     };
     listed = refl;
-    functions = sym (no_functions_at files (package_of w.of) w.id.name.now);
-    stated = nothing_stated;
+    functions = sym (ap (λ (o : Option Item). option_map_or functions o []) (no_item (all_scopes files) (package_of w.of) w.id.name.now));
+    stated = record { has = λ k fn f at. absurd (let f : ⊥ = cc in f); from = λ place key f at. absurd (let f : ⊥ = cc in f) };
   }
 
 -- What is taken occurs once, and its entries are those of the scopes that it is taken from; `decls` declares each of these scopes by the
@@ -249,9 +218,7 @@ module _ (files : List PackageFile) (uses : AreUsableUses files (all_items files
         each = λ j k e key entry. (
             let t = foreign_use_of j k key in
             let u = map_at (foreign_type files) ts j e (ap (λ l. slice_get l j) (sym adds.types) ∙ entry) in
-            let both : Some t.0 ≡ Some u.0 = sym t.1 ∙ u.1 in
-            let one : t.0 ≡ u.0 = cc in
-            subst (λ x. IsEntry decls (take j (keys seen)) x e) t.2 (subst (λ x. IsEntry decls (take j (keys seen)) (Def t.0.from t.0.id.name.now) x) (ap (foreign_type files) one ∙ u.2) (used_entry (take j (keys seen)) j t.0 t.1)));
+            subst (λ x. IsEntry decls (take j (keys seen)) x e) t.2 (subst (λ x. IsEntry decls (take j (keys seen)) (Def t.0.from t.0.id.name.now) x) (ap (foreign_type files) (same_some (sym t.1 ∙ u.1)) ∙ u.2) (used_entry (take j (keys seen)) j t.0 t.1)));
       };
       spans = ap (map (λ (e : TypeDef). e.span)) adds.types ∙ map_map (λ (e : TypeDef). e.span) (foreign_type files) ts ∙ sym (map_map (λ (m : Occurrence). m.span) foreign_use_occurrence ts);
       settled = λ i m e at there none. absurd (used_named files ts i e (ap (λ l. slice_get l i) (sym adds.types) ∙ there) none);
@@ -279,31 +246,23 @@ module _ (files : List PackageFile) (uses : AreUsableUses files (all_items files
           called = called;
         }
 
+    -- what is so of each scope in front
+    each_prefix : (t : ℕ) (c : DoneScope) → slice_get (prefix_scopes files prefix) t ≡ Some c → IsDoneScope files c × (decls c.address ≡ (scope files c.address, c.owner)) × AreNames (keys seen) c.address (env_of c.types) × AreFunctions (keys seen) c.address c.functions c.made × AreRequired files (keys seen) (turn_handles (turn_of c)) c.required
+    each_prefix t c at = elim (prefix_at files prefix adds.interfaces.count t c at) [
+      | PrefixInterface i v x v_at x_at is ↦ rw is (prefix_interface_done files (keys seen) i v x (adds.interfaces.each i v x v_at x_at), interfaces_own i v v_at, interface_present i v x v_at x_at, no_functions (keys seen) (visited v), nothing_required files (keys seen) (visited v) (filter (λ t. same_address t.from (visited v)) (first_foreign_uses files)))
+      | PrefixWorld i w w_at is ↦ rw is (prefix_world_done files uses i w w_at, worlds_own i w w_at, world_present i w w_at, no_functions (keys seen) (visited w), required_none files (keys seen))
+    ]
+
     pub prefix_done : IsDone files decls (map foreign_use_occurrence (foreign_uses files)) (prefix_scopes files prefix) es
     prefix_done = record {
       seen = seen;
       collects = foreign_uses_seen files;
       occurrence = used_occurrence;
-      each = λ t c at. elim (prefix_at files prefix adds.interfaces.count t c at) [
-        | PrefixInterface i v x v_at x_at is ↦ subst (IsDoneScope files) (sym is) (prefix_interface_done files (keys seen) i v x (adds.interfaces.each i v x v_at x_at))
-        | PrefixWorld i w w_at is ↦ subst (IsDoneScope files) (sym is) (prefix_world_done files uses i w w_at)
-      ];
-      own = λ t c at. elim (prefix_at files prefix adds.interfaces.count t c at) [
-        | PrefixInterface i v x v_at x_at is ↦ subst (λ (b : DoneScope). decls b.address ≡ (scope files b.address, b.owner)) (sym is) (interfaces_own i v v_at)
-        | PrefixWorld i w w_at is ↦ subst (λ (b : DoneScope). decls b.address ≡ (scope files b.address, b.owner)) (sym is) (worlds_own i w w_at)
-      ];
-      are_present = λ t c at. elim (prefix_at files prefix adds.interfaces.count t c at) [
-        | PrefixInterface i v x v_at x_at is ↦ subst (λ (b : DoneScope). AreNames (keys seen) b.address (env_of b.types)) (sym is) (interface_present i v x v_at x_at)
-        | PrefixWorld i w w_at is ↦ subst (λ (b : DoneScope). AreNames (keys seen) b.address (env_of b.types)) (sym is) (world_present i w w_at)
-      ];
+      each = λ t c at. (each_prefix t c at).0;
+      own = λ t c at. (each_prefix t c at).1;
+      are_present = λ t c at. (each_prefix t c at).2;
       before = used_before;
       unique = prefix_differ;
-      made = λ t c at. elim (prefix_at files prefix adds.interfaces.count t c at) [
-        | PrefixInterface i v x v_at x_at is ↦ subst (λ (b : DoneScope). AreFunctions (keys seen) b.address b.functions b.made) (sym is) (no_functions (keys seen) (visited v))
-        | PrefixWorld i w w_at is ↦ subst (λ (b : DoneScope). AreFunctions (keys seen) b.address b.functions b.made) (sym is) (no_functions (keys seen) (visited w))
-      ];
-      required = λ t c at. elim (prefix_at files prefix adds.interfaces.count t c at) [
-        | PrefixInterface i v x v_at x_at is ↦ subst (λ (b : DoneScope). AreRequired files (keys seen) (turn_handles (turn_of b)) b.required) (sym is) (nothing_required files (keys seen) (visited v) (filter (λ t. same_address t.from (visited v)) (first_foreign_uses files)))
-        | PrefixWorld i w w_at is ↦ subst (λ (b : DoneScope). AreRequired files (keys seen) (turn_handles (turn_of b)) b.required) (sym is) (required_none files (keys seen))
-      ];
+      made = λ t c at. (each_prefix t c at).3;
+      required = λ t c at. (each_prefix t c at).4;
     }

@@ -32,15 +32,12 @@ primitive_of-primitive_type p = refl
 
 pub primitive_type-injective : (p q : Primitive) → primitive_type p ≡ primitive_type q → p ≡ q
 primitive_type-injective p q h =
-    let same : Some p ≡ Some q = sym (primitive_of-primitive_type p) ∙ ap primitive_of h ∙ primitive_of-primitive_type q in
-    cc
+    cc (sym (primitive_of-primitive_type p) ∙ ap primitive_of h ∙ primitive_of-primitive_type q)
 
 -- no primitive is an entry
 pub primitive_type-id : (p : Primitive) (i : ℕ) → primitive_type p ≡ type.Id i → ⊥
 primitive_type-id p i h =
-    let wrong : Some p ≡ None = sym (primitive_of-primitive_type p) ∙ ap primitive_of h in
-    let f : ⊥ = cc in
-    f
+    cc (sym (primitive_of-primitive_type p) ∙ ap primitive_of h)
 
 -- one level of a primitive
 pub primitive_node : (p : UnresolvedPackage) (x : Primitive) → package_node p (primitive_type x) ≡ Leaf (primitive_type x)

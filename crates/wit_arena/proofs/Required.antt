@@ -1,13 +1,13 @@
 -- What handles require of other packages: what is given by the arena is what the files say.
-use Rattle.std.proofs.Common.{◌≡◌, ℕ, zero, suc, ◌+◌, List, [], ◌∷◌, ◌++◌, length, map, Option, Some, None, ◌⊎◌, inl, inr, refl, sym, ap, ◌∙◌, subst, arith, length-append}
-use Rattle.wit_syntax.proofs.Common.{Address, Id, PackageFile, TypeDef, at_split, cons_option, filter_map, filter_map-append, slice_get, slice_get_within}
-use Rattle.wit_arena.specs.EntryEnds.{EntryEnd, IsResource, entry_end}
+use Rattle.std.proofs.Common.{◌≡◌, ℕ, ◌+◌, List, [], ◌∷◌, ◌++◌, length, map, Option, Some, None, ◌⊎◌, inl, inr, refl, sym, ap, ◌∙◌, subst, arith}
+use Rattle.wit_syntax.proofs.Common.{Address, Id, PackageFile, TypeDef, at_split, cons_option, filter_map, filter_map-append, slice_get, slice_get_within, AllZip}
+use Rattle.wit_arena.specs.EntryEnds.{IsResource}
 use Rattle.wit_arena.specs.EntryEnds as ends
 use Rattle.wit_arena.specs.Occurrences.{Key, Def, Decls, IsKeyed}
 use Rattle.wit_arena.specs.Whole.{HandleRequires, AreRequired}
 use Rattle.wit_arena.specs.Resolving.{Env, AreNames, Required, AreEnded}
 use Rattle.wit_arena.proofs.Places.{Extended, key_extended}
-use Rattle.wit_arena.proofs.Ends.{EndIs, IsDeclared, entry_end-more, end_source}
+use Rattle.wit_arena.proofs.Ends.{IsDeclared, entry_end-more, end_source}
 
 -- those of names, and of further ones
 pub ended_append : (env : Env) (es : List TypeDef) (ids more : List Id) (rs new : List Required) → AreEnded env es ids rs → AreEnded env es more new → AreEnded env es (ids ++ more) (rs ++ new)
@@ -28,31 +28,29 @@ both_parts us vs xs ys count t a x at there = elim (at_split us vs t a at) [
   ]
 ]
 
+-- lists that belong together, one after another
+zip_both : {X Y : Type 0} (R : X → Y → Type 0) (us vs : List X) (xs ys : List Y) → AllZip R us xs → AllZip R vs ys → AllZip R (us ++ vs) (xs ++ ys)
+zip_both R [] vs [] ys h k = k
+zip_both R (u ∷ us) vs (x ∷ xs) ys h k = (h.0, zip_both R us vs xs ys h.1 k)
+zip_both R us vs xs ys h k = absurd h
+
+pub zip_weaker : {X Y : Type 0} (R S : X → Y → Type 0) → ((x : X) (y : Y) → R x y → S x y) → (xs : List X) (ys : List Y) → AllZip R xs ys → AllZip S xs ys
+zip_weaker R S f [] [] h = tt
+zip_weaker R S f (x ∷ xs) (y ∷ ys) h = (f x y h.0, zip_weaker R S f xs ys h.1)
+zip_weaker R S f xs ys h = absurd h
+
 -- of no names nothing is required
 pub required_none : (files : List PackageFile) (ks : List Key) → AreRequired files ks [] []
-required_none files ks = ([], record { count = refl; each = λ k h r at there. absurd (let f : ⊥ = cc in f) }, refl)
+required_none files ks = ([], tt, refl)
 
 -- what one name more requires comes first
 pub required_more : (files : List PackageFile) (ks : List Key) (h : Address × Id) (r : Option Required) (hs : List (Address × Id)) (rs : List Required) → HandleRequires files ks h r → AreRequired files ks hs rs → AreRequired files ks (h ∷ hs) (cons_option r rs)
-required_more files ks h r hs rs own rest = (r ∷ rest.0, record { count = ap suc rest.1.count; each = says }, ap (cons_option r) rest.2)
-  where
-    says : (k : ℕ) (x : Address × Id) (q : Option Required) → slice_get (h ∷ hs) k ≡ Some x → slice_get (r ∷ rest.0) k ≡ Some q → HandleRequires files ks x q
-    says zero x q at there =
-        let name : h ≡ x = cc in
-        let same : r ≡ q = cc in
-        subst (λ (y : Address × Id). HandleRequires files ks y q) name (subst (HandleRequires files ks h) same own)
-    says (suc k) x q at there = rest.1.each k x q at there
+required_more files ks h r hs rs own rest = (r ∷ rest.0, (own, rest.1), ap (cons_option r) rest.2)
 
 pub required_append : (files : List PackageFile) (ks : List Key) (hs more : List (Address × Id)) (rs new : List Required) → AreRequired files ks hs rs → AreRequired files ks more new → AreRequired files ks (hs ++ more) (rs ++ new)
 required_append files ks hs more rs new h k = (
   h.0 ++ k.0,
-  record {
-    count = length-append h.0 k.0 ∙ ap (λ n. n + length k.0) h.1.count ∙ ap (λ n. length hs + n) k.1.count ∙ sym (length-append hs more);
-    each = λ i x r at there. elim (both_parts hs more h.0 k.0 h.1.count i x r at there) [
-      | inl prefix ↦ h.1.each i x r prefix.0 prefix.1
-      | inr rest_after ↦ k.1.each rest_after.0 x r rest_after.1 rest_after.2
-    ];
-  },
+  zip_both (HandleRequires files ks) hs more h.0 k.0 h.1 k.1,
   ap (λ (l : List Required). l ++ new) h.2 ∙ ap (λ (l : List Required). filter_map (λ (r : Option Required). r) h.0 ++ l) k.2 ∙ sym (filter_map-append (λ (r : Option Required). r) h.0 k.0),
 )
 
@@ -64,7 +62,7 @@ ended_more env env' es more (id ∷ ids) rs keep (place, steps, present, inr far
 
 -- where more occurred, too
 pub required_extended : (files : List PackageFile) {a b : List Key} → Extended a b → (hs : List (Address × Id)) (rs : List Required) → AreRequired files a hs rs → AreRequired files b hs rs
-required_extended files {a} {b} g hs rs h = (h.0, record { count = h.1.count; each = λ k x r at there. extended x r (h.1.each k x r at there) }, h.2)
+required_extended files {a} {b} g hs rs h = (h.0, zip_weaker (HandleRequires files a) (HandleRequires files b) extended hs h.0 h.1, h.2)
   where
     extended : (x : Address × Id) (r : Option Required) → HandleRequires files a x r → HandleRequires files b x r
     extended x None own = own
@@ -75,14 +73,10 @@ abbrev pub in_scope : Address → Id → Address × Id
 in_scope s id = (s, id)
 
 module _ (files : List PackageFile) (decls : Decls) (ks : List Key) (es : List TypeDef) (m : IsKeyed decls ks es) (scopes : (j : ℕ) (t : Address) (name : List ℕ) → slice_get ks j ≡ Some (Def t name) → IsDeclared files decls t) (s : Address) (env : Env) (names : AreNames ks s env) where
-  -- the entry that a name means ends where the name does
-  as_stated : (place steps : ℕ) (id : Id) (e : EntryEnd) → env id.name.now ≡ Some place → entry_end steps es place ≡ Some e → EndIs files ks s id e
-  as_stated place steps id e present is = end_source files decls ks es m scopes steps place s id e (names.present id.name.now place present) is
-
   -- what is required is what the files say
   pub ended_required : (ids : List Id) (rs : List Required) → AreEnded env es ids rs → AreRequired files ks (map (in_scope s) ids) rs
   ended_required [] rs h = subst (AreRequired files ks []) (sym h) (required_none files ks)
-  ended_required (id ∷ ids) rs (place, steps, present, inl own) = required_more files ks (s, id) None (map (in_scope s) ids) rs (as_stated place steps id IsResource present own.0) (ended_required ids rs own.1)
+  ended_required (id ∷ ids) rs (place, steps, present, inl own) = required_more files ks (s, id) None (map (in_scope s) ids) rs (end_source files decls ks es m scopes steps place s id IsResource (names.present id.name.now place present) own.0) (ended_required ids rs own.1)
   ended_required (id ∷ ids) rs (place, steps, present, inr far) =
-      let it = as_stated place steps id (ends.IsUnknown far.0) present far.2 in
+      let it = end_source files decls ks es m scopes steps place s id (ends.IsUnknown far.0) (names.present id.name.now place present) far.2 in
       subst (AreRequired files ks (map (in_scope s) (id ∷ ids))) (sym far.3) (required_more files ks (s, id) (Some (far.0, id.span)) (map (in_scope s) ids) far.1 (it.0, it.1, it.3, it.2, refl) (ended_required ids far.1 far.4))

@@ -1,7 +1,7 @@
 -- Whether two keys are one and the same.
 use Rattle.std.proofs.Common.{◌≡◌, ◌↔◌, Bool, true, false, ◌&&◌, nat_eq, refl, ap, rules}
 use Rattle.std.specs.Bool.{Decides, beq}
-use Rattle.wit_syntax.proofs.Common.{Address, AliasForm, BorrowForm, Decides-and, Decides-eqb, Decides-like, EnumForm, FixedLengthListForm, FlagsForm, Form, FutureForm, ListForm, MapForm, Member, OptionForm, OwnForm, Primitive, RecordForm, ResourceForm, ResultForm, StreamForm, TupleForm, UnknownForm, VariantForm, bytes_eq, pointwise, primitive_type, same_address, same_address-equal, same_address-from}
+use Rattle.wit_syntax.proofs.Common.{AliasForm, BorrowForm, Decides-and, Decides-eqb, Decides-like, EnumForm, FixedLengthListForm, FlagsForm, Form, FutureForm, ListForm, MapForm, Member, OptionForm, OwnForm, Primitive, RecordForm, ResourceForm, ResultForm, StreamForm, TupleForm, UnknownForm, VariantForm, bytes_eq, pointwise, primitive_type, same_address, same_address-equal, same_address-from}
 use Rattle.std.specs.Cmp.{booleans_Decides}
 use Rattle.wit_values.specs.contracts.span.SpanPartialEq.TheImpl.{eq-value as span_test}
 use Rattle.wit_types.specs.contracts.docs.DocsPartialEq.TheImpl.{eq-value as docs_test}
@@ -61,12 +61,6 @@ same_key _ _ = false
 two : {A B R : Type 0} (make : A → B → R) {a c : A} {b d : B} → (a ≡ c) × (b ≡ d) → make a b ≡ make c d
 two make e = rw (e.0, e.1) refl
 
-Decides-primitive : (p q : Primitive) → Decides (same_primitive p q) (p ≡ q)
-Decides-primitive p q = Decides-like _ (primitive_type-injective p q) (λ e. ap primitive_type e) (Decides-type (primitive_type p) (primitive_type q))
-
-Decides-address : (a b : Address) → Decides (same_address a b) (a ≡ b)
-Decides-address a b = (same_address-equal a b, same_address-from a b)
-
 Decides-member : (a b : Member) → Decides (same_member a b) (a ≡ b)
 Decides-member a b = search rules
 
@@ -75,20 +69,20 @@ Decides-case a b = Decides-like _ (two (λ m borrowed. (m, borrowed))) (λ e. (a
 
 Decides-form : (f g : Form) → Decides (same_form f g) (f ≡ g)
 Decides-form (RecordForm xs) (RecordForm ys) = Decides-like _ (λ e. ap RecordForm e) (λ e. cc) (Decides-row Decides-member xs ys)
-Decides-form ResourceForm ResourceForm = (λ h. refl, λ e. refl)
-Decides-form OwnForm OwnForm = (λ h. refl, λ e. refl)
-Decides-form BorrowForm BorrowForm = (λ h. refl, λ e. refl)
 Decides-form (FlagsForm xs) (FlagsForm ys) = Decides-like _ (λ e. ap FlagsForm e) (λ e. cc) (Decides-row Decides-member xs ys)
-Decides-form TupleForm TupleForm = (λ h. refl, λ e. refl)
 Decides-form (VariantForm xs) (VariantForm ys) = Decides-like _ (λ e. ap VariantForm e) (λ e. cc) (Decides-row Decides-case xs ys)
 Decides-form (EnumForm xs) (EnumForm ys) = Decides-like _ (λ e. ap EnumForm e) (λ e. cc) (Decides-row Decides-member xs ys)
-Decides-form OptionForm OptionForm = (λ h. refl, λ e. refl)
 Decides-form (ResultForm ok err) (ResultForm ok' err') = Decides-like _ (two ResultForm) (λ e. (cc, cc)) (Decides-and _ _ (booleans_Decides ok ok') (booleans_Decides err err'))
-Decides-form ListForm ListForm = (λ h. refl, λ e. refl)
-Decides-form MapForm MapForm = (λ h. refl, λ e. refl)
 Decides-form (FixedLengthListForm m) (FixedLengthListForm n) = Decides-like _ (λ e. ap FixedLengthListForm e) (λ e. cc) (Decides-eqb m n)
 Decides-form (FutureForm borrowed) (FutureForm borrowed') = Decides-like _ (λ e. ap FutureForm e) (λ e. cc) (booleans_Decides borrowed borrowed')
 Decides-form (StreamForm borrowed) (StreamForm borrowed') = Decides-like _ (λ e. ap StreamForm e) (λ e. cc) (booleans_Decides borrowed borrowed')
+Decides-form ResourceForm ResourceForm = (λ h. refl, λ e. refl)
+Decides-form OwnForm OwnForm = (λ h. refl, λ e. refl)
+Decides-form BorrowForm BorrowForm = (λ h. refl, λ e. refl)
+Decides-form TupleForm TupleForm = (λ h. refl, λ e. refl)
+Decides-form OptionForm OptionForm = (λ h. refl, λ e. refl)
+Decides-form ListForm ListForm = (λ h. refl, λ e. refl)
+Decides-form MapForm MapForm = (λ h. refl, λ e. refl)
 Decides-form AliasForm AliasForm = (λ h. refl, λ e. refl)
 Decides-form UnknownForm UnknownForm = (λ h. refl, λ e. refl)
 -- the last line is read of each other pair
@@ -96,17 +90,17 @@ Decides-form f g = (λ h. cc, λ e. cc)
 
 mutual
   Decides-expr : (e f : Expr) → Decides (same_expr e f) (e ≡ f)
-  Decides-expr (Prim p) (Prim q) = Decides-like _ (λ e. ap Prim e) (λ e. cc) (Decides-primitive p q)
-  Decides-expr (Use s name) (Use t other) = Decides-like _ (two Use) (λ e. (cc, cc)) (Decides-and _ _ (Decides-address s t) (Decides-text name other))
+  Decides-expr (Prim p) (Prim q) = Decides-like _ (λ e. ap Prim e) (λ e. cc) (Decides-like _ (primitive_type-injective p q) (λ e. ap primitive_type e) (Decides-type (primitive_type p) (primitive_type q)))
+  Decides-expr (Use s name) (Use t other) = Decides-like _ (two Use) (λ e. (cc, cc)) (Decides-and _ _ (same_address-equal s t, same_address-from s t) (Decides-text name other))
   Decides-expr (Of form parts) (Of other parts') = Decides-like _ (two Of) (λ e. (cc, cc)) (Decides-and _ _ (Decides-form form other) (Decides-exprs parts parts'))
   Decides-expr e f = (λ h. cc, λ h. cc)
 
   Decides-exprs : (es fs : Exprs) → Decides (same_exprs es fs) (es ≡ fs)
-  Decides-exprs End End = (λ h. refl, λ e. refl)
   Decides-exprs (More e es) (More f fs) = Decides-like _ (two More) (λ e. (cc, cc)) (Decides-and _ _ (Decides-expr e f) (Decides-exprs es fs))
+  Decides-exprs End End = (λ h. refl, λ e. refl)
   Decides-exprs es fs = (λ h. cc, λ h. cc)
 
 pub same_key_determines : (a b : Key) → (same_key a b ≡ true) ↔ (a ≡ b)
-same_key_determines (Def s name) (Def t other) = Decides-like _ (two Def) (λ e. (cc, cc)) (Decides-and _ _ (Decides-address s t) (Decides-text name other))
+same_key_determines (Def s name) (Def t other) = Decides-like _ (two Def) (λ e. (cc, cc)) (Decides-and _ _ (same_address-equal s t, same_address-from s t) (Decides-text name other))
 same_key_determines (Whole form parts) (Whole other parts') = Decides-like _ (two Whole) (λ e. (cc, cc)) (Decides-and _ _ (Decides-form form other) (Decides-exprs parts parts'))
 same_key_determines a b = (λ h. cc, λ h. cc)

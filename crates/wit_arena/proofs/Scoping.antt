@@ -1,10 +1,7 @@
 -- Names of a scope, one after another, and their rows.
-use Rattle.std.proofs.Common.{◌≡◌, ℕ, zero, suc, Bool, true, false, cond, List, [], ◌∷◌, ◌++◌, take, Option, Some, IsSome, nat_eq, inl, inr, refl, sym, ap, ◌∙◌, subst, arith}
-use Rattle.wit_syntax.proofs.Common.{Contains, Id, IsEdge, IsOrder, Leads, Row, ScopeName, at_contains, at_either, get_or_from_slice_get, in_order, in_order_has, length-map, local_name, lookup-insert_entry, name_itself, needed_ids, option_map, place_of-Some, pointwise, row_of, rows_of, slice_get, slice_get-get_or, slice_get-map, slice_get-take, slice_get_within, slice_index, some_of, target}
+use Rattle.std.proofs.Common.{◌≡◌, ℕ, zero, suc, Bool, true, false, cond, List, [], ◌∷◌, ◌++◌, take, Option, Some, IsSome, nat_eq, inl, inr, refl, sym, ap, ◌∙◌, subst, arith, ◌<◌}
+use Rattle.wit_syntax.proofs.Common.{Contains, Id, IsEdge, IsOrder, Leads, Row, ScopeName, at_contains, at_either, get_or_from_slice_get, in_order, in_order_has, local_name, lookup-insert_entry, name_itself, needed_ids, option_map, place_of-Some, pointwise, row_of, rows_of, slice_get, slice_get-get_or, slice_get-map, slice_get-take, slice_get_within, slice_index, some_of, target}
 use Rattle.wit_arena.specs.Resolving.{Env, Names, env_of, HasNames, IsStored}
-
-pub row_at : (xs : List ScopeName) (i : ℕ) (x : ScopeName) → slice_get xs i ≡ Some x → slice_get (rows_of xs) i ≡ Some (row_of x)
-row_at xs i x at = slice_get-map row_of xs i ∙ ap (option_map row_of) at
 
 -- the name after a row
 pub name_at : (xs : List ScopeName) (i : ℕ) (r : Row) → slice_get (rows_of xs) i ≡ Some r → (x : ScopeName) × (slice_get xs i ≡ Some x) × (row_of x ≡ r)
@@ -12,23 +9,26 @@ name_at [] i r at = absurd (let f : ⊥ = cc in f)
 name_at (x ∷ xs) zero r at = (x, refl, cc)
 name_at (x ∷ xs) (suc i) r at = name_at xs i r at
 
+-- in an order of rows, what an edge of a row leads to comes before it
+pub row_before : (rs : List Row) (places : List ℕ) → IsOrder rs places → (k p j : ℕ) (id : Id) → slice_get places k ≡ Some p → IsEdge rs p j id → (t : ℕ) × (b : ℕ) × (t < k) × (slice_get places t ≡ Some b) × (target rs id ≡ Some b)
+row_before rs places order k p j id next edge =
+    let b = some_of (target rs id) (order.complete p j id edge) in
+    let long = order.sorted.long in
+    let lt = slice_get_within places k p next in
+    let here : slice_index places k ≡ p = get_or_from_slice_get places k p 0 next in
+    let to : Leads rs (slice_index places k) b.0 = subst (λ a. Leads rs a b.0) (sym here) (j, id, edge, b.1) in
+    let before = order.sorted.after k b.0 (omega arith) to in
+    let below = before.below in
+    (before.index, b.0, below, slice_get-get_or places before.index 0 (omega arith) ∙ ap Some before.is, b.1)
+
 -- in the order of a scope, what a name needs is an earlier one
 pub needed_earlier : (xs : List ScopeName) (places : List ℕ) (k p : ℕ) (x : ScopeName) (id : Id) → IsOrder (rows_of xs) places → slice_get places k ≡ Some p → slice_get xs p ≡ Some x → Contains (needed_ids x) id → (i : ℕ) × (y : ScopeName) × (slice_get (in_order xs (take k places)) i ≡ Some y) × (local_name y ≡ id.name.now)
 needed_earlier xs places k p x id order at there among =
-    let rs = rows_of xs in
     let j = at_contains (needed_ids x) id among in
-    let edge : IsEdge rs p j.0 id = (row_of x, row_at xs p x there, j.1) in
-    let b = some_of (target rs id) (order.complete p j.0 id edge) in
-    let long = order.sorted.long in
-    let lt = slice_get_within places k p at in
-    let here : slice_index places k ≡ p = get_or_from_slice_get places k p 0 at in
-    let leads : Leads rs (slice_index places k) b.0 = subst (λ a. Leads rs a b.0) (sym here) (j.0, id, edge, b.1) in
-    let before = order.sorted.after k b.0 (omega (arith, length-map xs row_of)) leads in
-    let below = before.below in
-    let m : slice_get places before.index ≡ Some b.0 = slice_get-get_or places before.index 0 (omega arith) ∙ ap Some before.is in
-    let r = place_of-Some rs id.name.now b.0 b.1 in
-    let y = name_at xs b.0 r.0 r.1 in
-    let found = in_order_has xs (take k places) before.index b.0 y.0 (slice_get-take places k before.index before.below ∙ m) y.1 in
+    let b = row_before (rows_of xs) places order k p j.0 id at (row_of x, slice_get-map row_of xs p ∙ ap (option_map row_of) there, j.1) in
+    let r = place_of-Some (rows_of xs) id.name.now b.1 b.4 in
+    let y = name_at xs b.1 r.0 r.1 in
+    let found = in_order_has xs (take k places) b.0 b.1 y.0 (slice_get-take places k b.0 b.2 ∙ b.3) y.1 in
     (found.0, y.0, found.1, ap (λ (row : Row). row.name) y.2 ∙ sym r.2)
 
 pub names_none : (env : Env) → HasNames env []

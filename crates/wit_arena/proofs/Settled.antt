@@ -1,6 +1,6 @@
 -- A side of a world whose setters were placed has what it had: its types in front, and its interfaces in their order.
-use Rattle.std.proofs.Common.{◌≡◌, ℕ, zero, suc, Bool, true, false, cond, List, [], ◌∷◌, ◌++◌, Some, None, Option, inl, inr, refl, sym, ap, ◌∙◌}
-use Rattle.wit_syntax.proofs.Common.{Include, ScopeName, cases_Bool, cond-false, cond-true, filter, filter-append, flat_map, flat_map-append, flat_map_at, flat_map_has, kept_at, kept_none, list_any, slice_get}
+use Rattle.std.proofs.Common.{◌≡◌, ℕ, zero, suc, Bool, true, false, cond, List, [], ◌∷◌, ◌++◌, Some, None, Option, inl, inr, refl, ap, ◌∙◌, subst}
+use Rattle.wit_syntax.proofs.Common.{Include, ScopeName, cases_Bool, filter, filter-append, flat_map, flat_map-append, flat_map_at, flat_map_has, kept_at, kept_none, list_any, slice_get}
 use Rattle.wit_functions.specs.SettersPlaced.{early, goes_with, others, with_setters, setters_placed, pairs}
 use Rattle.wit_model.specs.ItemsOfWorlds.{function_of}
 use Rattle.wit_functions.specs.declared.function.Function.{Function}
@@ -12,6 +12,7 @@ use Rattle.wit_arena.specs.Resolving.{Names}
 use Rattle.wit_arena.specs.SideItems.{settled}
 use Rattle.wit_arena.specs.Whole.{type_imports}
 use Rattle.wit_arena.proofs.Placed.{any_at, getters_alone, placed_at, placed_has}
+use Rattle.wit_arena.proofs.Places.{same_some}
 
 abbrev Entry : Type 0
 Entry = WorldKey × WorldItem
@@ -39,10 +40,7 @@ none_at (y ∷ ys) none = absurd (none 0 y refl)
 pub settled_none : {Y : Type 0} (of : Entry → List Y) (is : List Include) (xs : List Entry) → flat_map of xs ≡ [] → flat_map of (settled is xs) ≡ []
 settled_none {Y} of is xs none = none_at (flat_map of (settled is xs)) (λ k y at. (
     let it = moved of (settled is xs) xs (settled_at is xs) k y at in
-    let empty : List Y = [] in
-    let wrong : slice_get empty it.0 ≡ Some y = ap (λ (l : List Y). slice_get l it.0) (sym none) ∙ it.1 in
-    let f : ⊥ = cc in
-    f))
+    cc (rw none at it.1)))
 
 -- what is no setter and no getter stays in front
 any_none : {X : Type 0} (test : X → Bool) (xs : List X) → ((x : X) → test x ≡ false) → list_any test xs ≡ false
@@ -56,39 +54,26 @@ module _ {X : Type 0} (goes : X → X → Bool) where
 
   early_prefix : (prefix ys : List X) → AreApart prefix → early goes (prefix ++ ys) ≡ early goes ys
   early_prefix [] ys apart = refl
-  early_prefix (e ∷ prefix) ys apart =
-      let es = prefix ++ ys in
-      cond-false (list_any (goes e) es) (e ∷ early goes es) (early goes es) (any_none (goes e) es (λ y. (apart 0 e refl y).0)) ∙ early_prefix prefix ys (λ k. apart (suc k))
+  early_prefix (e ∷ prefix) ys apart = rw (any_none (goes e) (prefix ++ ys) (λ y. (apart 0 e refl y).0)) (early_prefix prefix ys (λ k. apart (suc k)))
 
   others_prefix : (prefix ys : List X) → AreApart prefix → others goes (prefix ++ ys) ≡ prefix ++ others goes ys
   others_prefix [] ys apart = refl
-  others_prefix (e ∷ prefix) ys apart =
-      let es = prefix ++ ys in
-      cond-false (list_any (goes e) es) (others goes es) (e ∷ others goes es) (any_none (goes e) es (λ y. (apart 0 e refl y).0)) ∙ ap (λ (l : List X). e ∷ l) (others_prefix prefix ys (λ k. apart (suc k)))
+  others_prefix (e ∷ prefix) ys apart = rw (any_none (goes e) (prefix ++ ys) (λ y. (apart 0 e refl y).0)) (ap (λ (l : List X). e ∷ l) (others_prefix prefix ys (λ k. apart (suc k))))
 
   each_prefix : (setters prefix : List X) → AreApart prefix → flat_map (with_setters goes setters) prefix ≡ prefix
   each_prefix setters [] apart = refl
-  each_prefix setters (e ∷ prefix) apart =
-      ap (λ (l : List X). (e ∷ l) ++ flat_map (with_setters goes setters) prefix) (kept_none (λ s. goes s e) setters (λ i s at. (apart 0 e refl s).1))
-      ∙ ap (λ (l : List X). e ∷ l) (each_prefix setters prefix (λ k. apart (suc k)))
+  each_prefix setters (e ∷ prefix) apart = rw (kept_none (λ s. goes s e) setters (λ i s at. (apart 0 e refl s).1)) (ap (λ (l : List X). e ∷ l) (each_prefix setters prefix (λ k. apart (suc k))))
 
   placed_prefix : (prefix ys : List X) → AreApart prefix → setters_placed goes (prefix ++ ys) ≡ prefix ++ setters_placed goes ys
-  placed_prefix prefix ys apart =
-      let set = with_setters goes (early goes ys) in
-      ap (λ (l : List X). flat_map (with_setters goes l) (others goes (prefix ++ ys))) (early_prefix prefix ys apart)
-      ∙ ap (flat_map set) (others_prefix prefix ys apart)
-      ∙ flat_map-append set prefix (others goes ys)
-      ∙ ap (λ (l : List X). l ++ flat_map set (others goes ys)) (each_prefix (early goes ys) prefix apart)
+  placed_prefix prefix ys apart = cc (early_prefix prefix ys apart, others_prefix prefix ys apart, flat_map-append (with_setters goes (early goes ys)) prefix (others goes ys), each_prefix (early goes ys) prefix apart)
 
   -- a test that no setter passes keeps of what is placed what it keeps of the list
   module _ (test : X → Bool) (fails : (s g : X) → goes s g ≡ true → test s ≡ false) where
     others_passed : (es : List X) → filter test (others goes es) ≡ filter test es
     others_passed [] = refl
     others_passed (e ∷ es) = elim (cases_Bool (list_any (goes e) es)) [
-      | inl hit ↦ (
-          let g = any_at (goes e) es hit in
-          ap (filter test) (cond-true (list_any (goes e) es) (others goes es) (e ∷ others goes es) hit) ∙ others_passed es ∙ sym (cond-false (test e) (e ∷ filter test es) (filter test es) (fails e g.1 g.3)))
-      | inr miss ↦ ap (filter test) (cond-false (list_any (goes e) es) (others goes es) (e ∷ others goes es) miss) ∙ ap (λ (l : List X). cond (test e) (e ∷ l) l) (others_passed es)
+      | inl hit ↦ (let g = any_at (goes e) es hit in rw (hit, fails e g.1 g.3) (others_passed es))
+      | inr miss ↦ rw miss (ap (λ (l : List X). cond (test e) (e ∷ l) l) (others_passed es))
     ]
 
     set_passed : (setters es : List X) → filter test (flat_map (with_setters goes setters) es) ≡ filter test es
@@ -99,23 +84,15 @@ module _ {X : Type 0} (goes : X → X → Bool) where
         let none : filter test own ≡ [] = kept_none test own (λ i s at. (let k = kept_at (λ z. goes z e) setters i s at in fails s e k.2)) in
         ap (λ (l : List X). cond (test e) (e ∷ l) l) (filter-append test own rest ∙ ap (λ (l : List X). l ++ filter test rest) none ∙ set_passed setters es)
 
-    placed_passed : (es : List X) → filter test (setters_placed goes es) ≡ filter test es
-    placed_passed es = set_passed (early goes es) (others goes es) ∙ others_passed es
-
 goes_none : (s : Option Function) → goes_with s None ≡ false
 goes_none None = refl
 goes_none (Some s) = refl
 
 -- names of types are no functions
 pub types_stated : (xs : List ScopeName) (types : Names) (k : ℕ) (x : Entry) → slice_get (type_imports xs types) k ≡ Some x → function_of x.1 ≡ None
-types_stated [] types k x at = absurd (let f : ⊥ = cc in f)
-types_stated (n ∷ xs) [] k x at = absurd (let f : ⊥ = cc in f)
-types_stated (n ∷ xs) (t ∷ types) zero x at = ap (λ (o : Option Entry). as_stated o) (sym at)
-  where
-    as_stated : Option Entry → Option Function
-    as_stated None = None
-    as_stated (Some e) = function_of e.1
+types_stated (n ∷ xs) (t ∷ types) zero x at = subst (λ (e : Entry). function_of e.1 ≡ None) (same_some at) refl
 types_stated (n ∷ xs) (t ∷ types) (suc k) x at = types_stated xs types k x at
+types_stated xs types k x at = absurd (let f : ⊥ = cc in f)
 
 -- so they stay in front
 pub settled_types : (is : List Include) (xs : List ScopeName) (types : Names) (ys : List Entry) → settled is (type_imports xs types ++ ys) ≡ type_imports xs types ++ settled is ys
@@ -126,10 +103,9 @@ settled_types (i ∷ is) xs types ys = refl
 
 -- no setter is an interface
 no_interface : (s g : Entry) → pairs function_of s g ≡ true → is_interface_item s ≡ false
-no_interface (key, item.Type_ id span) g goes = refl
 no_interface (key, item.Interface id stability external_id docs span) g goes = absurd (let f : ⊥ = cc in f)
-no_interface (key, item.Function f) g goes = refl
+no_interface _ g goes = refl
 
 pub settled_interfaces : (is : List Include) (xs : List Entry) → interface_items (settled is xs) ≡ interface_items xs
-settled_interfaces [] xs = placed_passed (pairs function_of) is_interface_item no_interface xs
+settled_interfaces [] xs = set_passed (pairs function_of) is_interface_item no_interface (early (pairs function_of) xs) (others (pairs function_of) xs) ∙ others_passed (pairs function_of) is_interface_item no_interface xs
 settled_interfaces (i ∷ is) xs = refl

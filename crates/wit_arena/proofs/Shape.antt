@@ -26,8 +26,7 @@ module _ (decls : Decls) (ks : List Key) (es : List TypeDef) (m : IsKeyed decls 
   below_all : (n : ℕ) (xs : Exprs) (ts : List Ty) (part : Ty) → AreAt (take n ks) xs ts → HasPart ts part → IsBelow n part
   below_all n End [] part h has = absurd has
   below_all n (More x xs) (t ∷ ts) part h has = elim has [ inl here ↦ subst (IsBelow n) here (below_one n x t h.0) | inr rest ↦ below_all n xs ts part h.1 rest ]
-  below_all n End (t ∷ ts) part h has = absurd h
-  below_all n (More x xs) [] part h has = absurd h
+  below_all n _ ts part h has = absurd h
 
   below_entry : (i : ℕ) (k : Key) (e : TypeDef) (part : Ty) → IsEntry decls (take i ks) k e → HasPart (kind_of e.kind).parts part → IsBelow i part
   below_entry i (Def s name) e part it has = below_all i (name_exprs s it.1) (kind_of e.kind).parts part it.8 has

@@ -9,8 +9,9 @@ use Rattle.wit_arena.specs.SourceFunctions.{IsFunction}
 use Rattle.wit_arena.specs.Occurrences.{Key, Def, Occurrence, keys, Collects, Decls, all_function_occurrences}
 use Rattle.wit_arena.specs.UnfoldedTypes.{interface_functions}
 use Rattle.wit_arena.specs.Resolving.{env_of, ResolvedScope, Required, HasFunctions, AddsFunctions, AreEnded}
-use Rattle.wit_arena.specs.ResolvedArenas.{AddsInterface, AddsFunction, AddsSides}
-use Rattle.wit_arena.specs.Whole.{Ordered, Turned, turned, functions_at, side_turns, turn_occurrences, turn_handles, AreRequired}
+use Rattle.wit_arena.specs.ResolvedArenas.{AddsInterface, AddsSides}
+use Rattle.wit_arena.proofs.Ordered.{Ordered, turned, side_turns}
+use Rattle.wit_arena.specs.Whole.{Turned, functions_at, turn_occurrences, turn_handles, AreRequired}
 use Rattle.wit_arena.proofs.Added.{defines_wider}
 use Rattle.wit_arena.proofs.DoneNames.{done_function, done_function_from, names_of_functions}
 use Rattle.wit_arena.proofs.FunctionPart.{DoneFunction, done_functions, scope_functions, IsFunctionPart}
@@ -131,7 +132,7 @@ sided_none files decls written cs gs place s es is inside d = record {
 }
 
 -- a function, and what comes after it
-module _ (files : List PackageFile) (decls : Decls) (written : List Occurrence) (cs : List DoneScope) (gs : List DoneFunction) (place : ℕ) (old mid new : List TypeDef) (is is' : List Interface) (fn : SourceFunction) (f : Function) (fs : List Function) (own rest : List Required) (xs : List SideItem) (inside : List Item) (d : IsFunctionPart files decls written cs gs old) (t : ℕ) (c : DoneScope) (at_c : slice_get cs t ≡ Some c) (a : AddsFunction c.address c.types old mid fn f own) where
+module _ (files : List PackageFile) (decls : Decls) (written : List Occurrence) (cs : List DoneScope) (gs : List DoneFunction) (place : ℕ) (old mid new : List TypeDef) (is is' : List Interface) (fn : SourceFunction) (f : Function) (fs : List Function) (own rest : List Required) (xs : List SideItem) (inside : List Item) (d : IsFunctionPart files decls written cs gs old) (t : ℕ) (c : DoneScope) (at_c : slice_get cs t ≡ Some c) (adds : AddsFunctions old mid c.address c.types (fn ∷ []) (f ∷ [])) (ended : AreEnded (env_of c.types) mid (all_handles (written_types fn)) own) where
   abbrev seen_there : List Occurrence
   seen_there = all_function_occurrences c.address (fn ∷ [])
 
@@ -139,7 +140,7 @@ module _ (files : List PackageFile) (decls : Decls) (written : List Occurrence) 
   one = done_function c.address fn f
 
   pub function_step : IsFunctionPart files decls (written ++ seen_there) cs (gs ++ one ∷ []) mid
-  function_step = functions_of_parts files decls written cs gs old mid d t c at_c (fn ∷ []) (f ∷ []) a.adds
+  function_step = functions_of_parts files decls written cs gs old mid d t c at_c (fn ∷ []) (f ∷ []) adds
 
   module _ (r : AreSided files decls (written ++ seen_there) cs (gs ++ one ∷ []) place c.address new is is' fs rest xs inside) where
     abbrev sides : List Turned
@@ -151,7 +152,7 @@ module _ (files : List PackageFile) (decls : Decls) (written : List Occurrence) 
         let it = r.as_stated seen rest_after in
         let ids : List Id = all_handles (written_types fn) in
         let later : List Id = all_handles (flat_map written_types (flat_map item_function xs)) in
-        let here = required_since files decls (written ++ seen_there) (occurrences sides) cs (gs ++ one ∷ []) mid function_step t c at_c ids own a.ended seen rest_after in
+        let here = required_since files decls (written ++ seen_there) (occurrences sides) cs (gs ++ one ∷ []) mid function_step t c at_c ids own ended seen rest_after in
         let alone : map (in_scope c.address) ids ≡ turn_handles (function_turn c.address fn) = ap (λ (l : List Written). map (in_scope c.address) (all_handles l)) (sym (append-nil (written_types fn))) in
         let together : map (in_scope c.address) ids ++ map (in_scope c.address) later ≡ map (in_scope c.address) (all_handles (written_types fn ++ flat_map written_types (flat_map item_function xs))) = sym (map-append (in_scope c.address) ids later) ∙ ap (map (in_scope c.address)) (sym (all_handles-append (written_types fn) (flat_map written_types (flat_map item_function xs)))) in
         record {
@@ -313,9 +314,9 @@ fresh_later files decls cs place i b other f = record {
 pub are_sided : (files : List PackageFile) (decls : Decls) (written : List Occurrence) (cs : List DoneScope) (gs : List DoneFunction) (es new : List TypeDef) (ccs : List ResolvedScope) (count t : ℕ) (c : DoneScope) (is is' : List Interface) (fs : List Function) (rs : List Required) (xs : List SideItem) (inside : List Item) → IsFunctionPart files decls written cs gs es → slice_get cs t ≡ Some c → ((k : ℕ) (x : ResolvedScope) → slice_get ccs k ≡ Some x → (j : ℕ) × (slice_get (map resolved_scope_of cs) j ≡ Some x)) → AllDiffer (map address inside) → ((k : ℕ) (i : Item) → slice_get inside k ≡ Some i → IsFreshInside files decls cs ((count + length is) + k) i) → AddsSides ccs count c.address c.types es new is is' fs rs xs inside → AreSided files decls written cs gs (count + length is) c.address new is is' fs rs xs inside
 are_sided files decls written cs gs es new ccs count t c is is' fs rs [] inside d at known differ fresh a = rw (a.0, a.1, a.2, a.3) (sided_none files decls written cs gs (count + length is) c.address es is inside d)
 are_sided files decls written cs gs es new ccs count t c is is' fs rs (SideFunction fn ∷ xs) inside d at known differ fresh a =
-    let step = function_step files decls written cs gs (count + length is) es a.0 new is is' fn a.1 a.2 a.3 a.4 xs inside d t c at a.7 in
-    let r = are_sided files decls (written ++ all_function_occurrences c.address (fn ∷ [])) cs (gs ++ done_function c.address fn a.1 ∷ []) a.0 new ccs count t c is is' a.2 a.4 xs inside step at known differ fresh a.8 in
-    let whole = sided_function files decls written cs gs (count + length is) es a.0 new is is' fn a.1 a.2 a.3 a.4 xs inside d t c at a.7 r in
+    let step = function_step files decls written cs gs (count + length is) es a.0 new is is' fn a.1 a.2 a.3 a.4 xs inside d t c at a.7 a.8 in
+    let r = are_sided files decls (written ++ all_function_occurrences c.address (fn ∷ [])) cs (gs ++ done_function c.address fn a.1 ∷ []) a.0 new ccs count t c is is' a.2 a.4 xs inside step at known differ fresh a.9 in
+    let whole = sided_function files decls written cs gs (count + length is) es a.0 new is is' fn a.1 a.2 a.3 a.4 xs inside d t c at a.7 a.8 r in
     subst (λ (l : List Function). AreSided files decls written cs gs (count + length is) c.address new is is' l rs (SideFunction fn ∷ xs) inside) (sym a.5) (subst (λ (l : List Required). AreSided files decls written cs gs (count + length is) c.address new is is' (a.1 ∷ a.2) l (SideFunction fn ∷ xs) inside) (sym a.6) whole)
 are_sided files decls written cs gs es new ccs count t c is is' fs rs (SideLink link ∷ xs) inside d at known differ fresh a = sided_link files decls written cs gs (count + length is) c.address new is is' fs rs link xs inside (are_sided files decls written cs gs es new ccs count t c is is' fs rs xs inside d at known differ fresh a)
 are_sided files decls written cs gs es new ccs count t c is is' fs rs (SideInline x name items ∷ xs) [] d at known differ fresh a = absurd a

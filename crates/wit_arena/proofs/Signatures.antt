@@ -1,6 +1,6 @@
 -- What occurs in functions, and the types of functions of the package.
-use Rattle.std.proofs.Common.{◌≡◌, ℕ, suc, List, [], ◌∷◌, ◌++◌, length, map, Some, inl, inr, refl, sym, ap, ◌∙◌, subst, length-append, arith}
-use Rattle.wit_syntax.proofs.Common.{Address, Constructor, Form, Freestanding, Method, OnSide, Role, Shape, SourceFunction, SourceParam, Static, Unknown, all_params, at_split, at_within, flat_map, flat_map-append, length-map, map_at, option_to_list, signature, slice_get, slice_get_within}
+use Rattle.std.proofs.Common.{◌≡◌, ℕ, List, [], ◌∷◌, ◌++◌, length, map, Some, inl, inr, refl, sym, ap, ◌∙◌, subst, length-append, arith}
+use Rattle.wit_syntax.proofs.Common.{Address, Constructor, Form, Method, Role, Shape, SourceFunction, SourceParam, Static, Unknown, all_params, at_within, flat_map, length-map, map_at, option_to_list, signature, slice_get, slice_get_within, flat_map-flat_map}
 use Rattle.wit_types.specs.declared.types.«Type».{«Type» as Ty}
 use Rattle.wit_functions.specs.declared.function.Function.{Function}
 use Rattle.wit_functions.specs.declared.function.FunctionKind.{FunctionKind}
@@ -12,9 +12,10 @@ use Rattle.wit_arena.specs.UnfoldedTypes.{function_types}
 use Rattle.wit_arena.specs.Resolving.{ResolvedScope, Env, env_of, seen, all_seen, AreNames, AreKnown}
 use Rattle.wit_arena.specs.Adding.{gathered}
 use Rattle.wit_arena.proofs.Keys.{keys-shape, keys-shapes}
-use Rattle.wit_arena.proofs.Occurrence.{Has, has_either, keys-append, names_kept, no_defs}
+use Rattle.wit_arena.proofs.Occurrence.{Has, names_kept, no_defs, has_from}
 use Rattle.wit_arena.proofs.Places.{Extended, key_extended, at_extended}
 use Rattle.wit_arena.specs.OneByOne.{OneByOne}
+use Rattle.wit_arena.proofs.Required.{both_parts}
 
 -- the expressions in functions
 abbrev pub function_exprs : Address → List SourceFunction → Exprs
@@ -24,13 +25,9 @@ gathered_occurrences : (s : Address) (xs : List Shape) → flat_map (shape_occur
 gathered_occurrences s [] = refl
 gathered_occurrences s (x ∷ xs) = ap (λ ms. shape_occurrences s Unknown x ++ ms) (gathered_occurrences s xs)
 
-flat_map_twice : {X Y Z : Type 0} (g : Y → List Z) (f : X → List Y) (xs : List X) → flat_map (λ x. flat_map g (f x)) xs ≡ flat_map g (flat_map f xs)
-flat_map_twice g f [] = refl
-flat_map_twice g f (x ∷ xs) = ap (λ zs. flat_map g (f x) ++ zs) (flat_map_twice g f xs) ∙ sym (flat_map-append g (f x) (flat_map f xs))
-
 -- what occurs in functions are the unnamed expressions in them
 pub function_keys : (s : Address) (fns : List SourceFunction) → keys (all_function_occurrences s fns) ≡ all_seen (function_exprs s fns)
-function_keys s fns = ap keys (flat_map_twice (shape_occurrences s Unknown) signature fns ∙ gathered_occurrences s (flat_map signature fns)) ∙ keys-shapes s Unknown (gathered (flat_map signature fns))
+function_keys s fns = ap keys (sym (flat_map-flat_map (shape_occurrences s Unknown) signature fns) ∙ gathered_occurrences s (flat_map signature fns)) ∙ keys-shapes s Unknown (gathered (flat_map signature fns))
 
 -- no name occurs in functions
 pub no_name_in_functions : (s : Address) (fns : List SourceFunction) (t : Address) (name : List ℕ) → Has (keys (all_function_occurrences s fns)) (Def t name) → ⊥
@@ -46,14 +43,6 @@ known_beside s fns a b t cs h known = record {
   others = known.others;
 }
 
--- a type that occurs in a list of types occurs in one of them
-whole_in_shapes : (s : Address) (xs : List Shape) (form : Form) (parts : Exprs) → Has (keys (flat_map (shape_occurrences s Unknown) xs)) (Whole form parts) → (j : ℕ) × (x : Shape) × (slice_get xs j ≡ Some x) × Has (seen (expr_of s x)) (Whole form parts)
-whole_in_shapes s [] form parts h = absurd h
-whole_in_shapes s (x ∷ xs) form parts h = elim (has_either (keys (shape_occurrences s Unknown x)) (keys (flat_map (shape_occurrences s Unknown) xs)) (Whole form parts) (subst (λ (ks : List Key). Has ks (Whole form parts)) (keys-append (shape_occurrences s Unknown x) (flat_map (shape_occurrences s Unknown) xs)) h)) [
-  | inl first ↦ (0, x, refl, subst (λ (ks : List Key). Has ks (Whole form parts)) (keys-shape s Unknown x) first)
-  | inr rest ↦ (let it = whole_in_shapes s xs form parts rest in (suc it.0, it.1, it.2, it.3))
-]
-
 -- an unnamed type that occurs in functions is written in the signature of one
 pub record IsInFunctions (s : Address) (fns : List SourceFunction) (form : Form) (parts : Exprs) : Type 0 where
   pub index : ℕ
@@ -65,19 +54,17 @@ pub record IsInFunctions (s : Address) (fns : List SourceFunction) (form : Form)
   pub has : Has (seen (expr_of s shape)) (Whole form parts)
 
 pub whole_in_functions : (s : Address) (fns : List SourceFunction) (form : Form) (parts : Exprs) → Has (keys (all_function_occurrences s fns)) (Whole form parts) → IsInFunctions s fns form parts
-whole_in_functions s [] form parts h = absurd h
-whole_in_functions s (fn ∷ fns) form parts h = elim (has_either (keys (flat_map (shape_occurrences s Unknown) (signature fn))) (keys (all_function_occurrences s fns)) (Whole form parts) (subst (λ (ks : List Key). Has ks (Whole form parts)) (keys-append (flat_map (shape_occurrences s Unknown) (signature fn)) (all_function_occurrences s fns)) h)) [
-  | inl first ↦ (let it = whole_in_shapes s (signature fn) form parts first in record { index = 0; fn = fn; among = refl; position = it.0; shape = it.1; written = it.2; has = it.3 })
-  | inr rest ↦ (let it = whole_in_functions s fns form parts rest in record { index = suc it.index; fn = it.fn; among = it.among; position = it.position; shape = it.shape; written = it.written; has = it.has })
-]
+whole_in_functions s fns form parts h =
+    let f = has_from (λ (fn : SourceFunction). flat_map (shape_occurrences s Unknown) (signature fn)) fns (Whole form parts) h in
+    let x = has_from (shape_occurrences s Unknown) (signature f.1) (Whole form parts) f.3 in
+    record { index = f.0; fn = f.1; among = f.2; position = x.0; shape = x.1; written = x.2; has = subst (λ (ks : List Key). Has ks (Whole form parts)) (keys-shape s Unknown x.1) x.3 }
 
 -- a function is the written one over more keys, too
 kind_extended : {a b : List Key} → Extended a b → (s : Address) (role : Role) (k : FunctionKind) → IsKind a s role k → IsKind b s role k
-kind_extended g s (Freestanding id form) k h = h
 kind_extended g s (Method of form) k h = (h.0, h.1, key_extended g h.0 (Def s of.name.now) h.2)
 kind_extended g s (Static of form) k h = (h.0, h.1, key_extended g h.0 (Def s of.name.now) h.2)
 kind_extended g s (Constructor of) k h = (h.0, h.1, key_extended g h.0 (Def s of.name.now) h.2)
-kind_extended g s (OnSide side id form) k h = h
+kind_extended g s _ k h = h
 
 pub function_extended : {a b : List Key} → Extended a b → (s : Address) (fn : SourceFunction) (f : Function) → IsFunction a s fn f → IsFunction b s fn f
 function_extended g s fn f h = record {
@@ -102,21 +89,10 @@ pub record AreTyped (ks : List Key) (s : Address) (xs : List Shape) (ts : List T
 
 typed_append : (ks : List Key) (s : Address) (xs ys : List Shape) (ts us : List Ty) → AreTyped ks s xs ts → AreTyped ks s ys us → AreTyped ks s (xs ++ ys) (ts ++ us)
 typed_append ks s xs ys ts us p q = record {
-  count = (let a = length-append ts us in let b = length-append xs ys in let c = p.count in let d = q.count in omega arith);
-  each = λ k x t at there. elim (at_split xs ys k x at) [
-    | inl h ↦ elim (at_split ts us k t there) [
-      | inl g ↦ p.each k x t h g
-      | inr g ↦ absurd (let lt = slice_get_within xs k x h in let same = g.1 in let count = p.count in let f : ⊥ = omega arith in f)
-    ]
-    | inr h ↦ elim (at_split ts us k t there) [
-      | inl g ↦ absurd (let lt = slice_get_within ts k t g in let same = h.1 in let count = p.count in let f : ⊥ = omega arith in f)
-      | inr g ↦ (
-          let a = h.1 in
-          let b = g.1 in
-          let count = p.count in
-          let same : g.0 ≡ h.0 = omega arith in
-          q.each h.0 x t h.2 (subst (λ (j : ℕ). slice_get us j ≡ Some t) same g.2))
-    ]
+  count = omega (arith, length-append ts us, length-append xs ys, p.count, q.count);
+  each = λ k x t at there. elim (both_parts xs ys ts us p.count k x t at there) [
+    | inl h ↦ p.each k x t h.0 h.1
+    | inr h ↦ q.each h.0 x t h.1 h.2
   ];
 }
 

@@ -1,6 +1,6 @@
 -- The types and the functions among what a world imports and exports, and what owners state of the functions that were made of theirs.
 use Rattle.std.proofs.Common.{◌≡◌, ℕ, ◌+◌, List, [], ◌∷◌, ◌++◌, length, map, Some, inl, inr, refl, sym, ap, ◌∙◌, subst}
-use Rattle.wit_syntax.proofs.Common.{Address, Exported, FunctionKey, Imported, Include, ScopeName, SideItem, SourceFunction, TopName, WorldSide, append-nil, at_back, at_prefix, at_split, flat_map, flat_map-append, item_function, local_name, local_names, map_at, option_map, role_side, slice_get, slice_get-map}
+use Rattle.wit_syntax.proofs.Common.{Address, Exported, FunctionKey, Imported, Include, ScopeName, SideItem, SourceFunction, TopName, WorldSide, append-nil, at_back, at_prefix, at_split, flat_map, flat_map-append, item_function, local_names, map_at, option_map, role_side, slice_get, slice_get-map}
 use Rattle.wit_functions.specs.declared.function.Function.{Function}
 use Rattle.wit_model.specs.declared.interface.Interface.{Interface}
 use Rattle.wit_model.specs.declared.world.World.{World}
@@ -16,30 +16,22 @@ use Rattle.wit_arena.proofs.MadeOn.{made_on, made_on_has, made_on_pair}
 use Rattle.wit_arena.proofs.SideItems.{side_functions}
 use Rattle.wit_arena.proofs.Placed.{function_placed, function_from}
 use Rattle.wit_arena.proofs.Settled.{moved, settled_at, settled_has}
-
-abbrev Entry : Type 0
-Entry = WorldKey × WorldItem
+use Rattle.wit_arena.proofs.Visits.{side_has}
 
 -- what is in one list is in the other
-abbrev AreAmong : List Entry → List Entry → Type 0
-AreAmong xs ys = (k : ℕ) (x : Entry) → slice_get xs k ≡ Some x → (j : ℕ) × (slice_get ys j ≡ Some x)
+abbrev AreAmong : List (WorldKey × WorldItem) → List (WorldKey × WorldItem) → Type 0
+AreAmong xs ys = (k : ℕ) (x : (WorldKey × WorldItem)) → slice_get xs k ≡ Some x → (j : ℕ) × (slice_get ys j ≡ Some x)
 
 -- the types among imports that names of a scope are
 world_types_of : (xs : List ScopeName) (types : Names) → map (λ p. p.0) types ≡ local_names xs → flat_map import_types (type_imports xs types) ≡ types
+world_types_of (x ∷ xs) ((name, id) ∷ types) listed = cc (world_types_of xs types (cc))
 world_types_of [] [] listed = refl
-world_types_of [] (t ∷ types) listed = absurd (let f : ⊥ = cc in f)
-world_types_of (x ∷ xs) [] listed = absurd (let f : ⊥ = cc in f)
-world_types_of (x ∷ xs) ((name, id) ∷ types) listed =
-    let first : name ≡ local_name x = cc in
-    let rest : map (λ p. p.0) types ≡ local_names xs = cc in
-    ap (λ (n : List ℕ). (n, id) ∷ flat_map import_types (type_imports xs types)) (sym first) ∙ ap (λ (l : Names). (name, id) ∷ l) (world_types_of xs types rest)
+world_types_of xs types listed = cc
 
 -- none of these is a function
 no_functions_of : (xs : List ScopeName) (types : Names) → flat_map item_functions (type_imports xs types) ≡ []
-no_functions_of [] [] = refl
-no_functions_of [] (t ∷ types) = refl
-no_functions_of (x ∷ xs) [] = refl
 no_functions_of (x ∷ xs) ((name, id) ∷ types) = no_functions_of xs types
+no_functions_of xs types = refl
 
 -- the types among imports, where nothing after them is one
 pub world_types-all : (xs : List ScopeName) (types : Names) (rest_after : List (WorldKey × WorldItem)) → map (λ p. p.0) types ≡ local_names xs → flat_map import_types rest_after ≡ [] → flat_map import_types (type_imports xs types ++ rest_after) ≡ types
@@ -53,25 +45,15 @@ import_functions-all : (xs : List ScopeName) (types : Names) (rest_after : List 
 import_functions-all xs types rest_after = flat_map-append item_functions (type_imports xs types) rest_after ∙ ap (λ (l : List (List ℕ × Function)). l ++ flat_map item_functions rest_after) (no_functions_of xs types)
 
 -- those of a side under their names
-side_has : (side : WorldSide) (fns : List SourceFunction) (fs : List Function) (k : ℕ) (fn : SourceFunction) (f : Function) → slice_get fns k ≡ Some fn → slice_get fs k ≡ Some f → role_side fn.role ≡ side → (place : ℕ) × (slice_get (map (keyed side) (map by_name (made_on side fns fs))) place ≡ Some (made_key fn f, f))
-side_has side fns fs k fn f at there is =
+keyed_has : (side : WorldSide) (fns : List SourceFunction) (fs : List Function) (k : ℕ) (fn : SourceFunction) (f : Function) → slice_get fns k ≡ Some fn → slice_get fs k ≡ Some f → role_side fn.role ≡ side → (place : ℕ) × (slice_get (map (keyed side) (map by_name (made_on side fns fs))) place ≡ Some (made_key fn f, f))
+keyed_has side fns fs k fn f at there is =
     let it = made_on_has side fns fs k fn f at there is in
     let named = slice_get-map by_name (made_on side fns fs) it.0 ∙ ap (option_map by_name) it.1 in
     (it.0, slice_get-map (keyed side) (map by_name (made_on side fns fs)) it.0 ∙ ap (option_map (keyed side)) named ∙ ap (λ (s : WorldSide). Some ((s, f.name), f)) (sym is))
 
-abbrev at_side : WorldSide → List ℕ → FunctionKey
-at_side side name = (side, name)
-
 -- what a function goes by, where it is on a side under its name
 goes_by : (side : WorldSide) (x fn : SourceFunction) (name : List ℕ) (g f : Function) (key : FunctionKey) → Some x ≡ Some fn → role_side fn.role ≡ side → g.name ≡ name → keyed side (name, g) ≡ (key, f) → made_key x f ≡ key
-goes_by side x fn name g f key both is named whole =
-    let own : x ≡ fn = cc in
-    let same : g ≡ f = ap (λ (y : FunctionKey × Function). y.1) whole in
-    let here : made_key x f ≡ made_key fn f = ap (λ (y : SourceFunction). made_key y f) own in
-    let there : made_key fn f ≡ at_side side f.name = ap (λ (s : WorldSide). at_side s f.name) is in
-    let called : at_side side f.name ≡ at_side side name = ap (λ (y : Function). at_side side y.name) (sym same) ∙ ap (at_side side) named in
-    let known : at_side side name ≡ key = ap (λ (y : FunctionKey × Function). y.0) whole in
-    here ∙ there ∙ called ∙ known
+goes_by side x fn name g f key both is named whole = cc (ap (λ (y : FunctionKey × Function). y.1.name) whole, ap (λ (y : FunctionKey × Function). y.0) whole)
 
 side_from : (side : WorldSide) (fns : List SourceFunction) (fs : List Function) (place : ℕ) (key : FunctionKey) (f : Function) → slice_get (map (keyed side) (map by_name (made_on side fns fs))) place ≡ Some (key, f) → (k : ℕ) × (slice_get fs k ≡ Some f) × ((fn : SourceFunction) → slice_get fns k ≡ Some fn → made_key fn f ≡ key)
 side_from side fns fs place key f at =
@@ -82,13 +64,9 @@ side_from side fns fs place key f at =
     (it.0, it.3 ∙ ap (λ (x : FunctionKey × Function). Some x.1) whole, λ fn here. goes_by side fn it.1 g.0.name g.0 f key (sym here ∙ it.2) it.4 refl whole)
 
 stated_has : (side : WorldSide) (fns : List SourceFunction) (fs : List Function) (k : ℕ) (fn : SourceFunction) (f : Function) → slice_get fns k ≡ Some fn → slice_get fs k ≡ Some f → role_side fn.role ≡ side → (place : ℕ) × (slice_get (both_sides fns fs) place ≡ Some (made_key fn f, f))
-stated_has Imported fns fs k fn f at there is =
-    let it = side_has Imported fns fs k fn f at there is in
-    (it.0, at_prefix (map (keyed Imported) (map by_name (made_on Imported fns fs))) (map (keyed Exported) (map by_name (made_on Exported fns fs))) it.0 (made_key fn f, f) it.1)
-stated_has Exported fns fs k fn f at there is =
-    let it = side_has Exported fns fs k fn f at there is in
-    let prefix = map (keyed Imported) (map by_name (made_on Imported fns fs)) in
-    (length prefix + it.0, at_back prefix (map (keyed Exported) (map by_name (made_on Exported fns fs))) it.0 (made_key fn f, f) it.1)
+stated_has side fns fs k fn f at there is =
+    let it = keyed_has side fns fs k fn f at there is in
+    side_has [] (λ (s : WorldSide). map (keyed s) (map by_name (made_on s fns fs))) side it.0 (made_key fn f, f) it.1
 
 -- those of both sides are stated
 stated_on_sides : (fns : List SourceFunction) (fs : List Function) → AreStated fns fs (both_sides fns fs)
@@ -107,23 +85,23 @@ stated_moved fns fs xs ys there back h = record {
   from = λ place key f at. (let it = back place (key, f) at in h.from it.0 key f it.1);
 }
 
-abbrev of_side : WorldSide → List Entry → List (FunctionKey × Function)
+abbrev of_side : WorldSide → List (WorldKey × WorldItem) → List (FunctionKey × Function)
 of_side side xs = map (keyed side) (flat_map item_functions xs)
 
-side_moved : (side : WorldSide) (xs ys : List Entry) → AreAmong xs ys → (k : ℕ) (x : FunctionKey × Function) → slice_get (of_side side xs) k ≡ Some x → (j : ℕ) × (slice_get (of_side side ys) j ≡ Some x)
+side_moved : (side : WorldSide) (xs ys : List (WorldKey × WorldItem)) → AreAmong xs ys → (k : ℕ) (x : FunctionKey × Function) → slice_get (of_side side xs) k ≡ Some x → (j : ℕ) × (slice_get (of_side side ys) j ≡ Some x)
 side_moved side xs ys among k x at =
     let f = map_at (keyed side) (flat_map item_functions xs) k x at in
     let it = moved item_functions xs ys among k f.0 f.1 in
     (it.0, slice_get-map (keyed side) (flat_map item_functions ys) it.0 ∙ ap (option_map (keyed side)) it.1 ∙ ap Some f.2)
 
-sides_moved : (xs xs' ys ys' : List Entry) → AreAmong xs xs' → AreAmong ys ys' → (k : ℕ) (x : FunctionKey × Function) → slice_get (of_side Imported xs ++ of_side Exported ys) k ≡ Some x → (j : ℕ) × (slice_get (of_side Imported xs' ++ of_side Exported ys') j ≡ Some x)
+sides_moved : (xs xs' ys ys' : List (WorldKey × WorldItem)) → AreAmong xs xs' → AreAmong ys ys' → (k : ℕ) (x : FunctionKey × Function) → slice_get (of_side Imported xs ++ of_side Exported ys) k ≡ Some x → (j : ℕ) × (slice_get (of_side Imported xs' ++ of_side Exported ys') j ≡ Some x)
 sides_moved xs xs' ys ys' first second k x at = elim (at_split (of_side Imported xs) (of_side Exported ys) k x at) [
   | inl h ↦ (let it = side_moved Imported xs xs' first k x h in (it.0, at_prefix (of_side Imported xs') (of_side Exported ys') it.0 x it.1))
   | inr h ↦ (let it = side_moved Exported ys ys' second h.0 x h.2 in (length (of_side Imported xs') + it.0, at_back (of_side Imported xs') (of_side Exported ys') it.0 x it.1))
 ]
 
 -- the functions among imports and exports, whose setters were placed
-pub stated_settled : (interfaces : List Address) (top : List TopName) (xs : List ScopeName) (types : Names) (items : List SideItem) (fs : List Function) (inside : List Address) (is : List Include) (imports exports : List Entry) (w : World) → w.imports ≡ settled is (type_imports xs types ++ imports) → w.exports ≡ settled is exports → AreSideItems interfaces top Imported items fs inside imports → AreSideItems interfaces top Exported items fs inside exports → AreStated (flat_map item_function items) fs (world_functions w)
+pub stated_settled : (interfaces : List Address) (top : List TopName) (xs : List ScopeName) (types : Names) (items : List SideItem) (fs : List Function) (inside : List Address) (is : List Include) (imports exports : List (WorldKey × WorldItem)) (w : World) → w.imports ≡ settled is (type_imports xs types ++ imports) → w.exports ≡ settled is exports → AreSideItems interfaces top Imported items fs inside imports → AreSideItems interfaces top Exported items fs inside exports → AreStated (flat_map item_function items) fs (world_functions w)
 stated_settled interfaces top xs types items fs inside is imports exports w on_imports on_exports are_imported are_exported =
     let fns = flat_map item_function items in
     let whole = type_imports xs types ++ imports in
@@ -134,7 +112,7 @@ stated_settled interfaces top xs types items fs inside is imports exports w on_i
     let there = sides_moved whole (settled is whole) exports (settled is exports) (settled_has is whole) (settled_has is exports) in
     let back = sides_moved (settled is whole) whole (settled is exports) exports (settled_at is whole) (settled_at is exports) in
     let now = stated_moved fns fs (of_side Imported whole ++ of_side Exported exports) (of_side Imported (settled is whole) ++ of_side Exported (settled is exports)) there back stated in
-    subst (λ (l : List Entry). AreStated fns fs (of_side Imported l ++ of_side Exported w.exports)) (sym on_imports) (subst (λ (l : List Entry). AreStated fns fs (of_side Imported (settled is whole) ++ of_side Exported l)) (sym on_exports) now)
+    subst (λ (l : List (WorldKey × WorldItem)). AreStated fns fs (of_side Imported l ++ of_side Exported w.exports)) (sym on_imports) (subst (λ (l : List (WorldKey × WorldItem)). AreStated fns fs (of_side Imported (settled is whole) ++ of_side Exported l)) (sym on_exports) now)
 
 -- functions whose setters were placed, where all of them are imported
 pub stated_placed : (fns : List SourceFunction) (fs : List Function) (i : Interface) → ((k : ℕ) (fn : SourceFunction) → slice_get fns k ≡ Some fn → role_side fn.role ≡ Imported) → i.functions ≡ placed_functions fs → AreStated fns fs (interface_functions i)

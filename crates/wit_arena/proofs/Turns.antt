@@ -4,7 +4,8 @@ use Rattle.wit_model.specs.declared.ast_item.AstItem.{AstItem}
 use Rattle.wit_functions.specs.declared.function.FunctionKind.{FunctionKind}
 use Rattle.wit_arena.specs.SourceFunctions.{kinds_of}
 use Rattle.wit_arena.specs.Occurrences.{Occurrence, shapes_occurrences, name_occurrences}
-use Rattle.wit_arena.specs.Whole.{Ordered, OrderedWorld, Turned, turn_occurrences, foreign_entry}
+use Rattle.wit_arena.proofs.Ordered.{Ordered, OrderedWorld}
+use Rattle.wit_arena.specs.Whole.{Turned, turn_occurrences, foreign_entry}
 
 abbrev pub item_of : Ordered → Item
 item_of o = o.item

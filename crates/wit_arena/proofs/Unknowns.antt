@@ -1,43 +1,26 @@
 -- The types of unknown form are exactly the start of the arena: one for each name that is used from another package.
-use Rattle.std.proofs.Common.{◌≡◌, ◌↔◌, ℕ, ◌<◌, true, false, List, [], ◌∷◌, ◌++◌, length, Option, Some, None, inl, inr, refl, sym, ap, ◌∙◌, subst, arith}
-use Rattle.wit_syntax.proofs.Common.{Address, Attribute, Defined, ForeignName, ForeignNamed, ForeignUse, Id, InlineAt, InterfaceNamed, Item, PackageFile, ScopeName, TypeDef, TypeOwner, UnknownForm, Used, WorldNamed, about_name, all_scopes, at_within, cases_Bool, first_foreign_uses, firsts_at, foreign_uses, is_foreign, item_at, local_name, map, option_map, option_map_or, same_foreign_use, scope, scope_names, slice_get, slice_get-map, slice_get_within}
+use Rattle.std.proofs.Common.{◌≡◌, ◌↔◌, ℕ, ◌<◌, true, false, List, [], ◌++◌, length, Option, Some, None, inl, inr, refl, sym, ap, ◌∙◌, subst, arith}
+use Rattle.wit_syntax.proofs.Common.{Address, Attribute, Defined, ForeignName, ForeignNamed, ForeignUse, Id, Item, PackageFile, ScopeName, TypeDef, TypeOwner, UnknownForm, Used, about_name, all_scopes, at_within, cases_Bool, first_foreign_uses, firsts_at, foreign_uses, is_foreign, item_at, local_name, map, option_map, option_map_or, same_foreign_use, scope, scope_names, slice_get, slice_get-map, slice_get_within}
 use Rattle.wit_arena.specs.Kind.{kind_of}
 use Rattle.wit_arena.specs.Occurrences.{Key, Def, Whole, Occurrence, keys, Collects, Decls}
 use Rattle.wit_arena.specs.Whole.{foreign_use_occurrence}
 use Rattle.wit_arena.specs.Faithful.{IsAnonymousForm}
 use Rattle.wit_arena.proofs.Places.{Extended, key_extended}
-use Rattle.wit_arena.proofs.Occurrence.{collects_extended}
 use Rattle.wit_arena.proofs.Shape.{key_of}
 use Rattle.wit_arena.proofs.Forms.{body_known}
 use Rattle.wit_arena.proofs.Members.{DoneScope, IsPresent}
 use Rattle.wit_arena.proofs.Itemizing.{own_names}
 use Rattle.wit_arena.proofs.ForeignUses.{foreign_use_key, keys-foreign_uses, foreign_uses_seen, used_at, used_name_at}
-
--- what occurs after a prefix
-collects_after : (ks ls : List Occurrence) (a b c : List Occurrence) → Collects a ks b → Collects a (ks ++ ls) c → Collects b ls c
-collects_after [] ls a b c h k = subst (λ (x : List Occurrence). Collects x ls c) (sym h) k
-collects_after (x ∷ ks) ls a b c h k = elim h [
-  | inl old ↦ elim k [ inl known ↦ collects_after ks ls a b c old.1 known.1 | inr new ↦ absurd (new.0 old.0) ]
-  | inr fresh ↦ elim k [ inl known ↦ absurd (fresh.0 known.0) | inr new ↦ collects_after ks ls (a ++ x ∷ []) b c fresh.1 new.1 ]
-]
+use Rattle.wit_arena.proofs.Occurrence.{collects_longer}
 
 -- where these occur first, the keys begin with each of them where it is first used
 pub foreign_uses_prefix : (files : List PackageFile) (rest seen : List Occurrence) → Collects [] (map foreign_use_occurrence (foreign_uses files) ++ rest) seen → Extended (map foreign_use_key (first_foreign_uses files)) (keys seen)
-foreign_uses_prefix files rest seen h =
-    let first : List Occurrence = map foreign_use_occurrence (first_foreign_uses files) in
-    let rest_after = collects_after (map foreign_use_occurrence (foreign_uses files)) rest [] first seen (foreign_uses_seen files) h in
-    subst (λ (ks : List Key). Extended ks (keys seen)) (keys-foreign_uses (first_foreign_uses files)) (collects_extended rest first seen rest_after)
-
--- what is first taken is taken from another package
-first_foreign : (files : List PackageFile) (j : ℕ) (t : ForeignUse) → slice_get (first_foreign_uses files) j ≡ Some t → is_foreign t.from ≡ true
-first_foreign files j t at = let k = firsts_at same_foreign_use (foreign_uses files) j t at in (used_at files k.0 t k.1).foreign
+foreign_uses_prefix files rest seen h = subst (λ (ks : List Key). Extended ks (keys seen)) (keys-foreign_uses (first_foreign_uses files)) (collects_longer (map foreign_use_occurrence (foreign_uses files)) rest [] (map foreign_use_occurrence (first_foreign_uses files)) seen (foreign_uses_seen files) h)
 
 -- a name of another package's scope is taken
 foreign_name : (files : List PackageFile) (s : Address) (k : ℕ) (x : ScopeName) → is_foreign s ≡ true → slice_get (scope files s) k ≡ Some x → (j : ℕ) × (t : ForeignUse) × (slice_get (first_foreign_uses files) j ≡ Some t) × (t.from ≡ s) × (x ≡ ForeignName t.attributes t.id)
-foreign_name files (InterfaceNamed name) k x foreign at = absurd (let f : ⊥ = cc in f)
-foreign_name files (WorldNamed name) k x foreign at = absurd (let f : ⊥ = cc in f)
-foreign_name files (InlineAt world side place) k x foreign at = absurd (let f : ⊥ = cc in f)
 foreign_name files (ForeignNamed p name) k x foreign at = used_name_at files (ForeignNamed p name) k x at
+foreign_name files _ k x foreign at = absurd (let f : ⊥ = cc in f)
 
 -- a name of a declared item is not
 own_in : (w : Option Item) (k : ℕ) (attributes : List Attribute) (id : Id) → slice_get (option_map_or scope_names w []) k ≡ Some (ForeignName attributes id) → ⊥
@@ -45,10 +28,8 @@ own_in None k attributes id at = let f : ⊥ = cc in f
 own_in (Some w) k attributes id at = own_names w k attributes id at
 
 own_name : (files : List PackageFile) (s : Address) (k : ℕ) (attributes : List Attribute) (id : Id) → is_foreign s ≡ false → slice_get (scope files s) k ≡ Some (ForeignName attributes id) → ⊥
-own_name files (InterfaceNamed name) k attributes id own at = own_in (item_at (all_scopes files) (InterfaceNamed name)) k attributes id at
-own_name files (WorldNamed name) k attributes id own at = own_in (item_at (all_scopes files) (WorldNamed name)) k attributes id at
-own_name files (InlineAt world side place) k attributes id own at = own_in (item_at (all_scopes files) (InlineAt world side place)) k attributes id at
-own_name files (ForeignNamed p name) k attributes id own at = let f : ⊥ = cc in f
+own_name files (ForeignNamed p name) k attributes id own at = cc
+own_name files s k attributes id own at = own_in (item_at (all_scopes files) s) k attributes id at
 
 -- only what is taken has an unknown form
 unknown_used : (x : ScopeName) → (about_name x).body.form ≡ UnknownForm → (attributes : List Attribute) × (id : Id) × (x ≡ ForeignName attributes id)
@@ -57,43 +38,36 @@ unknown_used (Defined d) h = absurd (body_known d.body h)
 unknown_used (ForeignName attributes id) h = (attributes, id, refl)
 
 module _ (files : List PackageFile) (decls : Decls) (written : List Occurrence) (cs : List DoneScope) (es : List TypeDef) (d : IsPresent files decls written cs es) (prefix : Extended (map foreign_use_key (first_foreign_uses files)) (keys d.seen)) (formed : (j : ℕ) (e : TypeDef) → slice_get es j ≡ Some e → e.name ≡ None → IsAnonymousForm (kind_of e.kind).form) where
-  abbrev ks : List Key
-  ks = keys d.seen
-
   abbrev ts : List ForeignUse
   ts = first_foreign_uses files
 
   -- the entry of a name that occurred has the form of a name of its scope
-  name_at : (i : ℕ) (s : Address) (name : List ℕ) (e : TypeDef) → slice_get ks i ≡ Some (Def s name) → slice_get es i ≡ Some e → (k : ℕ) × (x : ScopeName) × (slice_get (scope files s) k ≡ Some x) × ((kind_of e.kind).form ≡ (about_name x).body.form) × (local_name x ≡ name)
+  name_at : (i : ℕ) (s : Address) (name : List ℕ) (e : TypeDef) → slice_get (keys d.seen) i ≡ Some (Def s name) → slice_get es i ≡ Some e → (k : ℕ) × (x : ScopeName) × (slice_get (scope files s) k ≡ Some x) × ((kind_of e.kind).form ≡ (about_name x).body.form) × (local_name x ≡ name)
   name_at i s name e here there =
       let of = d.before i s name here in
       let c = of.resolved_scope in
-      let own : slice_get ks i ≡ Some (Def c.address name) = here ∙ ap (λ (z : Address). Some (Def z name)) (sym of.scope) in
+      let own : slice_get (keys d.seen) i ≡ Some (Def c.address name) = here ∙ ap (λ (z : Address). Some (Def z name)) (sym of.scope) in
       let it = d.occurrence.keyed.each i (Def c.address name) e own there in
       (it.0, it.1, ap (λ (z : Address). slice_get (scope files z) it.0) (sym of.scope) ∙ ap (λ (d : List ScopeName × TypeOwner). slice_get d.0 it.0) (sym (d.own of.place c of.at)) ∙ it.2, it.7, it.3)
-
-  -- each name that is first taken is at its place
-  used_key_at : (j : ℕ) (t : ForeignUse) → slice_get ts j ≡ Some t → slice_get ks j ≡ Some (foreign_use_key t)
-  used_key_at j t at = key_extended prefix j (foreign_use_key t) (slice_get-map foreign_use_key ts j ∙ ap (option_map foreign_use_key) at)
 
   -- and has an unknown form there
   prefix_unknown : (j : ℕ) (t : ForeignUse) (e : TypeDef) → slice_get ts j ≡ Some t → slice_get es j ≡ Some e → (kind_of e.kind).form ≡ UnknownForm
   prefix_unknown j t e at there =
-      let x = name_at j t.from t.id.name.now e (used_key_at j t at) there in
-      let y = foreign_name files t.from x.0 x.1 (first_foreign files j t at) x.2 in
+      let x = name_at j t.from t.id.name.now e (key_extended prefix j (foreign_use_key t) (slice_get-map foreign_use_key ts j ∙ ap (option_map foreign_use_key) at)) there in
+      let y = foreign_name files t.from x.0 x.1 (let k = firsts_at same_foreign_use (foreign_uses files) j t at in (used_at files k.0 t k.1).foreign) x.2 in
       x.3 ∙ ap (λ (x : ScopeName). (about_name x).body.form) y.4
 
   -- a name of another package's scope comes first
-  foreign_prefix : (i : ℕ) (s : Address) (name : List ℕ) (k : ℕ) (x : ScopeName) → slice_get ks i ≡ Some (Def s name) → is_foreign s ≡ true → slice_get (scope files s) k ≡ Some x → local_name x ≡ name → i < length ts
+  foreign_prefix : (i : ℕ) (s : Address) (name : List ℕ) (k : ℕ) (x : ScopeName) → slice_get (keys d.seen) i ≡ Some (Def s name) → is_foreign s ≡ true → slice_get (scope files s) k ≡ Some x → local_name x ≡ name → i < length ts
   foreign_prefix i s name k x here foreign at called =
       let y = foreign_name files s k x foreign at in
       let key : foreign_use_key y.1 ≡ Def s name = ap (λ (z : Address). Def z y.1.id.name.now) y.3 ∙ ap (Def s) (sym (ap local_name y.4) ∙ called) in
-      let same = d.occurrence.keyed.once.differ i y.0 (Def s name) here (used_key_at y.0 y.1 y.2 ∙ ap Some key) in
+      let same = d.occurrence.keyed.once.differ i y.0 (Def s name) here ((key_extended prefix y.0 (foreign_use_key y.1) (slice_get-map foreign_use_key ts y.0 ∙ ap (option_map foreign_use_key) y.2)) ∙ ap Some key) in
       let lt = slice_get_within ts y.0 y.1 y.2 in
       omega arith
 
   -- what has an unknown form comes first
-  unknown_at : (i : ℕ) (k : Key) (e : TypeDef) → slice_get ks i ≡ Some k → slice_get es i ≡ Some e → (kind_of e.kind).form ≡ UnknownForm → i < length ts
+  unknown_at : (i : ℕ) (k : Key) (e : TypeDef) → slice_get (keys d.seen) i ≡ Some k → slice_get es i ≡ Some e → (kind_of e.kind).form ≡ UnknownForm → i < length ts
   unknown_at i (Def s name) e here there unknown =
       let x = name_at i s name e here there in
       elim (cases_Bool (is_foreign s)) [
@@ -105,6 +79,6 @@ module _ (files : List PackageFile) (decls : Decls) (written : List Occurrence) 
   -- so these are the prefix
   pub unknown_prefix : (i : ℕ) (e : TypeDef) → slice_get es i ≡ Some e → ((kind_of e.kind).form ≡ UnknownForm) ↔ (i < length ts)
   unknown_prefix i e at = (
-    λ unknown. (let k = key_of decls ks es d.occurrence.keyed i e at in unknown_at i k.0 e k.1 at unknown),
+    λ unknown. (let k = key_of decls (keys d.seen) es d.occurrence.keyed i e at in unknown_at i k.0 e k.1 at unknown),
     λ lt. (let t = at_within ts i lt in prefix_unknown i t.0 e t.1 at),
   )

@@ -34,25 +34,11 @@ result_again None None = refl
 
 -- it is found again
 kind_again : (k : TypeDefKind) → IsAnonymousForm (kind_of k).form → kind_from (kind_of k).form (kind_of k).parts ≡ k
-kind_again (kind.Handle (Borrow r)) h = refl
-kind_again (kind.Tuple t) h = refl
-kind_again (kind.Option t) h = refl
 kind_again (kind.Result r) h = result_again r.ok r.err
-kind_again (kind.List t) h = refl
-kind_again (kind.Map t u) h = refl
-kind_again (kind.FixedLengthList t n) h = refl
-kind_again (kind.Future (Some t)) h = refl
-kind_again (kind.Future None) h = refl
-kind_again (kind.Stream (Some t)) h = refl
-kind_again (kind.Stream None) h = refl
-kind_again (kind.Record r) h = absurd h
-kind_again kind.Resource h = absurd h
 kind_again (kind.Handle (Own r)) h = absurd h
-kind_again (kind.Flags f) h = absurd h
-kind_again (kind.Variant v) h = absurd h
-kind_again (kind.Enum e) h = absurd h
-kind_again (kind.Type_ t) h = absurd h
-kind_again kind.Unknown h = absurd h
+kind_again (kind.Future None) h = refl
+kind_again (kind.Stream None) h = refl
+kind_again k h = search
 
 -- the form and parts of an unnamed type are those of no other kind
 pub only_anonymous : (what : TypeDefKind) → IsAnonymousForm (kind_of what).form → IsOnly what

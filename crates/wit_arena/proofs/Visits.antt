@@ -1,30 +1,20 @@
 -- The items of other packages, at the places of their first visits.
-use Rattle.std.proofs.Common.{◌≡◌, ℕ, zero, suc, ◌+◌, Bool, true, false, not, cond, List, [], ◌++◌, length, Option, Some, None, ◌⊎◌, inl, inr, refl, sym, ap, ◌∙◌, Contains}
-use Rattle.wit_syntax.proofs.Common.{Address, AllDiffer, AstItem, Attribute, DefinitionPart, Exported, ExternPart, Foreign, ForeignNamed, ForeignVisit, FunctionPart, Id, Imported, IncludePart, Item, Local, PackageFile, PackageName, Part, TheInterface, TheWorld, TopName, Use, UsePart, UsePath, WorldSide, address, all_items, at_back, at_contains, at_part, at_prefix, at_side, bytes_eq, cases_Bool, contains_at, declaration_visits, declared_items, differ_at, differ_join, extern_paths, extern_visits, file_items, file_visits, find, find_at, find_passes, find_some, firsts_differ, firsts_has, flat_map, flat_map_at, flat_map_has, foreign_at, foreign_interfaces, foreign_items, foreign_visits, foreign_worlds, inline_uses, is_foreign, is_world_at, kept_at, kept_differ, kept_has, leads, map, map_at, not-true, option_map, option_map_or, package_of, part_uses, part_visits, parts, path_visits, same_address, same_address-equal, same_address-from, same_item, side_itself, slice_get, top_name, top_names, top_text, use_path, use_paths, uses, visited, walk}
+use Rattle.std.proofs.Common.{◌≡◌, ℕ, zero, ◌+◌, Bool, true, false, not, cond, List, [], ◌++◌, length, Option, Some, None, ◌⊎◌, inl, inr, refl, sym, ap, ◌∙◌, Contains}
+use Rattle.wit_syntax.proofs.Common.{Address, AllDiffer, AstItem, Attribute, Exported, ExternPart, Foreign, ForeignNamed, ForeignVisit, Id, Imported, Item, Local, PackageFile, PackageName, Part, TheInterface, TheWorld, TopName, Use, UsePart, UsePath, WorldSide, address, all_items, at_back, at_contains, at_part, at_prefix, at_side, bytes_eq, cases_Bool, contains_at, declaration_visits, declared_items, differ_at, differ_join, extern_paths, extern_visits, file_items, find, find_at, firsts_differ, firsts_has, flat_map, flat_map_at, flat_map_has, foreign_at, foreign_interfaces, foreign_items, foreign_visits, foreign_worlds, inline_uses, is_foreign, is_world_at, kept_at, kept_differ, kept_has, leads, map, map_at, not-true, option_map, option_map_or, package_of, part_uses, part_visits, parts, path_visits, same_address, same_address-equal, same_address-from, same_item, side_itself, slice_get, top_name, top_names, top_text, use_path, use_paths, uses, visited, walk}
 use Rattle.wit_tree.specs.declared.tree.UsePath.TheVariants as path
 use Rattle.wit_tree.specs.declared.tree.AstItem.TheVariants as ast
-use Rattle.wit_arena.specs.ResolvedArenas.{AreUsableUses}
+use Rattle.wit_arena.proofs.Places.{same_some}
 use Rattle.wit_arena.proofs.Interfaces.{AreAddresses, own_address}
+use Rattle.wit_arena.proofs.Itemizing.{find-only}
 
--- what is found is the only one that passes
-pub find-only : {X : Type 0} (p : X → Bool) (xs : List X) (t : ℕ) (x : X) → slice_get xs t ≡ Some x → p x ≡ true → ((i : ℕ) (y : X) → slice_get xs i ≡ Some y → p y ≡ true → i ≡ t) → find p xs ≡ Some x
-find-only p xs t x at pass only =
-    let it = find_some p xs t x at pass in
-    let q = find_at p xs it.0 it.1 in
-    let place = only q.0 it.0 q.1 (find_passes p xs it.0 it.1) in
-    it.1 ∙ sym q.1 ∙ ap (slice_get xs) place ∙ at
-
--- two visits of one item
-visit-from : (u v : ForeignVisit) → visited u ≡ visited v → same_item u v ≡ true
-visit-from u v h = same_address-from (visited u) (visited v) h
-
-visit-equal : (u v : ForeignVisit) → same_item u v ≡ true → visited u ≡ visited v
-visit-equal u v h = same_address-equal (visited u) (visited v) h
+-- the path of each `use` of these items leads to an interface
+pub record AreUsableUses (files : List PackageFile) (items : List Item) : Type 0 where
+  pub usable : (item : Item) (u : Use) → Contains items item → Contains (uses item) u → is_world_at files (leads item.top u.from) ≡ Some false
 
 module _ (files : List PackageFile) where
   -- no item is twice
   pub visits_differ : AllDiffer (map visited (foreign_items files))
-  visits_differ = firsts_differ same_item visited visit-from visit-equal (foreign_visits files)
+  visits_differ = firsts_differ same_item visited (λ x y. same_address-from (visited x) (visited y)) (λ x y. same_address-equal (visited x) (visited y)) (foreign_visits files)
 
   pub interfaces_differ : AllDiffer (map visited (foreign_interfaces files))
   interfaces_differ = kept_differ visited (λ v. not v.wants_world) (foreign_items files) visits_differ
@@ -43,8 +33,7 @@ module _ (files : List PackageFile) where
   pub visit_once : (p q : ℕ) (u v : ForeignVisit) → slice_get (foreign_items files) p ≡ Some u → slice_get (foreign_items files) q ≡ Some v → visited u ≡ visited v → u ≡ v
   visit_once p q u v at_u at_v same =
       let place = differ_at visited (foreign_items files) visits_differ p q u v at_u at_v same in
-      let both : Some u ≡ Some v = sym at_u ∙ ap (slice_get (foreign_items files)) place ∙ at_v in
-      cc
+      same_some (sym at_u ∙ ap (slice_get (foreign_items files)) place ∙ at_v)
 
   -- an interface is no world
   pub interface_apart : (i j : ℕ) (u v : ForeignVisit) → slice_get (foreign_interfaces files) i ≡ Some u → slice_get (foreign_worlds files) j ≡ Some v → visited u ≡ visited v → ⊥
@@ -52,9 +41,7 @@ module _ (files : List PackageFile) where
       let p = interface_visit i u at_u in
       let q = world_visit j v at_v in
       let one = visit_once p.0 q.0 u v p.1 q.1 same in
-      let wrong : false ≡ true = sym p.2 ∙ ap (λ (v : ForeignVisit). v.wants_world) one ∙ q.2 in
-      let f : ⊥ = cc in
-      f
+      cc (sym p.2 ∙ ap (λ (v : ForeignVisit). v.wants_world) one ∙ q.2)
 
   pub visited_addresses : AreAddresses (map visited (foreign_interfaces files)) (map visited (foreign_worlds files))
   visited_addresses = record {
@@ -72,27 +59,24 @@ module _ (files : List PackageFile) where
 
   -- what is visited is listed
   pub visit_listed : (k : ℕ) (v : ForeignVisit) → slice_get (foreign_visits files) k ≡ Some v → (p : ℕ) × (u : ForeignVisit) × (slice_get (foreign_items files) p ≡ Some u) × (visited u ≡ visited v)
-  visit_listed k v at = firsts_has same_item visited visit-from visit-equal (foreign_visits files) k v at
+  visit_listed k v at = firsts_has same_item visited (λ x y. same_address-from (visited x) (visited y)) (λ x y. same_address-equal (visited x) (visited y)) (foreign_visits files) k v at
 
 -- two lists of addresses after others that are foreign
 pub addresses_join : (cs ds is ws : List Address) → AreAddresses cs ds → AreAddresses is ws → ((i : ℕ) (s : Address) → slice_get cs i ≡ Some s → is_foreign s ≡ true) → ((i : ℕ) (s : Address) → slice_get ds i ≡ Some s → is_foreign s ≡ true) → ((i : ℕ) (s : Address) → slice_get is i ≡ Some s → is_foreign s ≡ false) → ((i : ℕ) (s : Address) → slice_get ws i ≡ Some s → is_foreign s ≡ false) → AreAddresses (cs ++ is) (ds ++ ws)
 addresses_join cs ds is ws prefix back cs_foreign ds_foreign is_own ws_own = record {
-  interfaces = differ_join cs is prefix.interfaces back.interfaces (λ i j s at_i at_j. never_both s (cs_foreign i s at_i) (is_own j s at_j));
-  worlds = differ_join ds ws prefix.worlds back.worlds (λ i j s at_i at_j. never_both s (ds_foreign i s at_i) (ws_own j s at_j));
+  interfaces = differ_join cs is prefix.interfaces back.interfaces (λ i j s at_i at_j. cc (cs_foreign i s at_i, is_own j s at_j));
+  worlds = differ_join ds ws prefix.worlds back.worlds (λ i j s at_i at_j. cc (ds_foreign i s at_i, ws_own j s at_j));
   apart = λ i j s at_i at_j. elim (at_part cs is i s at_i) [
     | inl a ↦ elim (at_part ds ws j s at_j) [
       | inl b ↦ prefix.apart a.0 b.0 s a.1 b.1
-      | inr w ↦ never_both s (cs_foreign a.0 s a.1) (ws_own w.0 s w.1)
+      | inr w ↦ cc (cs_foreign a.0 s a.1, ws_own w.0 s w.1)
     ]
     | inr b ↦ elim (at_part ds ws j s at_j) [
-      | inl a ↦ never_both s (ds_foreign a.0 s a.1) (is_own b.0 s b.1)
+      | inl a ↦ cc (ds_foreign a.0 s a.1, is_own b.0 s b.1)
       | inr w ↦ back.apart b.0 w.0 s b.1 w.1
     ]
   ];
 }
-  where
-    never_both : (s : Address) → is_foreign s ≡ true → is_foreign s ≡ false → ⊥
-    never_both s h k = let wrong : true ≡ false = sym h ∙ k in let f : ⊥ = cc in f
 
 -- what is visited is foreign
 pub visited_foreign : (vs : List ForeignVisit) (i : ℕ) (s : Address) → slice_get (map visited vs) i ≡ Some s → is_foreign s ≡ true
@@ -115,10 +99,8 @@ pub record IsOrigin (files : List PackageFile) (w : Item) : Type 0 where
 
 declared_item : (top : List TopName) (a : AstItem) (j : ℕ) (w : Item) → slice_get (declared_items top a) j ≡ Some w → (w.top ≡ top) × (declaration_visits a ≡ walk part_visits extern_visits (parts w))
 declared_item top (ast.Interface i) zero w at = (let same : record { top = top; declared = TheInterface i } ≡ w = cc in (ap (λ (x : Item). x.top) (sym same), ap (λ (x : Item). walk part_visits extern_visits (parts x)) same))
-declared_item top (ast.Interface i) (suc j) w at = absurd (let f : ⊥ = cc in f)
 declared_item top (ast.World i) zero w at = (let same : record { top = top; declared = TheWorld i } ≡ w = cc in (ap (λ (x : Item). x.top) (sym same), ap (λ (x : Item). walk part_visits extern_visits (parts x)) same))
-declared_item top (ast.World i) (suc j) w at = absurd (let f : ⊥ = cc in f)
-declared_item top (ast.Use u) j w at = absurd (let f : ⊥ = cc in f)
+declared_item top _ j w at = absurd (let f : ⊥ = cc in f)
 
 pub item_origin : (files : List PackageFile) (p : ℕ) (w : Item) → slice_get (all_items files) p ≡ Some w → IsOrigin files w
 item_origin files p w at =
@@ -131,7 +113,7 @@ item_origin files p w at =
 pub declaration_visited : (files : List PackageFile) (i k j : ℕ) (f : PackageFile) (a : AstItem) (v : ForeignVisit) → slice_get files i ≡ Some f → slice_get f.decl_list.items.items k ≡ Some a → slice_get (declaration_visits a) j ≡ Some v → (n : ℕ) × (slice_get (foreign_visits files) n ≡ Some v)
 declaration_visited files i k j f a v at_file at_item at_visit =
     let inner = flat_map_has declaration_visits f.decl_list.items.items k j a v at_item at_visit in
-    flat_map_has file_visits files i inner.0 f v at_file inner.1
+    flat_map_has (λ (f : PackageFile). flat_map declaration_visits f.decl_list.items.items) files i inner.0 f v at_file inner.1
 
 -- a visit by which the item of this name in this package is visited
 pub record IsVisited (files : List PackageFile) (p : PackageName) (id : Id) : Type 0 where
@@ -149,9 +131,8 @@ foreign_path attributes world (path.Package of other) p id h =
 
 -- a name at the top of a file that leads to another package is that of a `use`
 foreign_top : (a : AstItem) (p : PackageName) (id : Id) → (top_name a).target ≡ Foreign p id → (v : ForeignVisit) × (slice_get (declaration_visits a) 0 ≡ Some v) × (visited v ≡ ForeignNamed p id.name.now)
-foreign_top (ast.Interface i) p id h = absurd (let wrong : Local i.name ≡ Foreign p id = h in let f : ⊥ = cc in f)
-foreign_top (ast.World w) p id h = absurd (let wrong : Local w.name ≡ Foreign p id = h in let f : ⊥ = cc in f)
 foreign_top (ast.Use u) p id h = foreign_path u.attributes.items false u.item p id h
+foreign_top _ p id h = cc
 
 top_leads : (o : Option TopName) (other : Id) (p : PackageName) (id : Id) → option_map_or (λ (t : TopName). t.target) o (Local other) ≡ Foreign p id → (t : TopName) × (o ≡ Some t) × (t.target ≡ Foreign p id)
 top_leads None other p id h = absurd (let f : ⊥ = cc in f)
@@ -197,14 +178,9 @@ side_at prefix of k y at = elim (at_part prefix (of Imported ++ of Exported) k y
 
 -- the visit of a `use` of a part is one of the item's
 use_visited : (ps : List Part) (m : ℕ) (x : Part) (j : ℕ) (u : Use) (v : ForeignVisit) → slice_get ps m ≡ Some x → slice_get (part_uses x) j ≡ Some u → slice_get (path_visits u.attributes.items false u.from) 0 ≡ Some v → (n : ℕ) × (slice_get (walk part_visits extern_visits ps) n ≡ Some v)
-use_visited ps m (DefinitionPart d) j u v part at first = absurd (let f : ⊥ = cc in f)
 use_visited ps m (UsePart y) zero u v part at first =
-    let same : y ≡ u = cc in
-    let inner = flat_map_has part_visits ps m 0 (UsePart y) v part (ap (λ (z : Use). slice_get (path_visits z.attributes.items false z.from) 0) same ∙ first) in
+    let inner = flat_map_has part_visits ps m 0 (UsePart y) v part (ap (λ (z : Use). slice_get (path_visits z.attributes.items false z.from) 0) (same_some at) ∙ first) in
     (inner.0, at_prefix (flat_map part_visits ps) (flat_map (at_side extern_visits Imported) ps ++ flat_map (at_side extern_visits Exported) ps) inner.0 v inner.1)
-use_visited ps m (UsePart y) (suc j) u v part at first = absurd (let f : ⊥ = cc in f)
-use_visited ps m (IncludePart i) j u v part at first = absurd (let f : ⊥ = cc in f)
-use_visited ps m (FunctionPart g) j u v part at first = absurd (let f : ⊥ = cc in f)
 use_visited ps m (ExternPart x) j u v part at first =
     let visits = λ (z : Use). path_visits z.attributes.items false z.from in
     let own = flat_map_has visits (inline_uses x.kind) j 0 u v at first in
@@ -212,6 +188,7 @@ use_visited ps m (ExternPart x) j u v part at first =
     let here : slice_get (at_side extern_visits x.side (ExternPart x)) own.0 ≡ Some v = ap (λ (b : Bool). slice_get (cond b (extern_visits x) []) own.0) (side_itself x.side) ∙ there in
     let on_side = flat_map_has (at_side extern_visits x.side) ps m own.0 (ExternPart x) v part here in
     side_has (flat_map part_visits ps) (λ side. flat_map (at_side extern_visits side) ps) x.side on_side.0 v on_side.1
+use_visited ps m _ j u v part at first = absurd (let f : ⊥ = cc in f)
 
 -- so where the path of a `use` of an item leads to another package, what it leads to is visited
 pub leads_visited : (files : List PackageFile) (q : ℕ) (w : Item) (u : Use) (p : PackageName) (id : Id) → slice_get (all_items files) q ≡ Some w → Contains (uses w) u → leads w.top u.from ≡ Foreign p id → IsVisited files p id
@@ -239,9 +216,6 @@ used_interface_visit files usable q w u p id at among lead =
     let is : visited v ≡ ForeignNamed p id.name.now = it.3 ∙ here.is in
     let found : is_world_at files (leads w.top u.from) ≡ Some v.wants_world = ap (is_world_at files) lead ∙ ap (λ s. option_map (λ (v : ForeignVisit). v.wants_world) (foreign_at files s)) (sym is) ∙ ap (option_map (λ (v : ForeignVisit). v.wants_world)) (foreign_at-visited files it.0 v it.2) in
     elim (cases_Bool v.wants_world) [
-      | inl wrong ↦ absurd (
-          let both : Some true ≡ Some false = sym (found ∙ ap Some wrong) ∙ usable.usable w u (contains_at (all_items files) q w at) among in
-          let f : ⊥ = cc in
-          f)
+      | inl wrong ↦ cc (sym (found ∙ ap Some wrong) ∙ usable.usable w u (contains_at (all_items files) q w at) among)
       | inr right ↦ (let k = kept_has (λ x. not x.wants_world) (foreign_items files) it.0 v (ap not right) it.2 in (k.0, v, k.1, is))
     ]

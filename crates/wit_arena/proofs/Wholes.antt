@@ -1,10 +1,10 @@
 -- Where unnamed types occur in scopes.
-use Rattle.std.proofs.Common.{◌≡◌, ℕ, suc, List, [], ◌∷◌, ◌++◌, Some, ◌⊎◌, inl, inr, refl, subst}
+use Rattle.std.proofs.Common.{◌≡◌, ℕ, List, [], ◌∷◌, ◌++◌, Some, ◌⊎◌, inl, inr, subst}
 use Rattle.wit_syntax.proofs.Common.{Address, Form, ScopeName, SourceFunction, local_name, slice_get}
 use Rattle.wit_arena.specs.Expr.{Exprs, name_exprs}
 use Rattle.wit_arena.specs.Occurrences.{Key, Def, Whole, keys, name_occurrences, all_function_occurrences}
 use Rattle.wit_arena.specs.Resolving.{all_seen}
-use Rattle.wit_arena.proofs.Occurrence.{Has, has_either, keys-append}
+use Rattle.wit_arena.proofs.Occurrence.{Has, has_either, keys-append, has_from}
 use Rattle.wit_arena.proofs.DefinitionPart.{name_keys, parts_keys}
 use Rattle.wit_arena.proofs.Signatures.{IsInFunctions, whole_in_functions}
 use Rattle.wit_arena.proofs.Turns.{parts_occurrences, all_name_occurrences}
@@ -18,11 +18,9 @@ whole_in_name s x form parts h = elim (has_either (keys (parts_occurrences s x))
 
 -- an unnamed type that occurs in names is written in one
 pub whole_in_names : (s : Address) (xs : List ScopeName) (form : Form) (parts : Exprs) → Has (keys (all_name_occurrences s xs)) (Whole form parts) → (k : ℕ) × (x : ScopeName) × (slice_get xs k ≡ Some x) × Has (all_seen (name_exprs s x)) (Whole form parts)
-whole_in_names s [] form parts h = absurd h
-whole_in_names s (x ∷ xs) form parts h = elim (has_either (keys (name_occurrences s x)) (keys (all_name_occurrences s xs)) (Whole form parts) (subst (λ (ks : List Key). Has ks (Whole form parts)) (keys-append (name_occurrences s x) (all_name_occurrences s xs)) h)) [
-  | inl first ↦ (0, x, refl, whole_in_name s x form parts first)
-  | inr rest ↦ (let it = whole_in_names s xs form parts rest in (suc it.0, it.1, it.2, it.3))
-]
+whole_in_names s xs form parts h =
+    let it = has_from (name_occurrences s) xs (Whole form parts) h in
+    (it.0, it.1, it.2, whole_in_name s it.1 form parts it.3)
 
 -- an unnamed type that occurs there is in one of its names, or in one of its functions
 pub whole_in_turn : (s : Address) (xs : List ScopeName) (fns : List SourceFunction) (form : Form) (parts : Exprs) → Has (keys (all_name_occurrences s xs ++ all_function_occurrences s fns)) (Whole form parts) → Has (keys (all_name_occurrences s xs)) (Whole form parts) ⊎ IsInFunctions s fns form parts

@@ -6,9 +6,11 @@ use Rattle.wit_model.specs.declared.interface.Interface.{Interface}
 use Rattle.wit_model.specs.declared.world.World.{World}
 use Rattle.wit_types.specs.declared.types.TypeOwner.TheVariants as owner
 use Rattle.wit_arena.specs.Occurrences.{Occurrence}
-use Rattle.wit_arena.specs.ResolvedArenas.{interfaces_at, worlds_at, WorldArenas, AddsScope, AddsSides, AddsForeign, AreUsableUses}
+use Rattle.wit_arena.specs.ResolvedArenas.{interfaces_at, worlds_at, WorldArenas, AddsScope, AddsSides, AddsForeign}
+use Rattle.wit_arena.proofs.Visits.{AreUsableUses}
 use Rattle.wit_arena.specs.Resolving.{Names, ResolvedScope, Required, resolved_scopes, Defines}
-use Rattle.wit_arena.specs.Whole.{Ordered, Turned, all_turns, all_inside, all_occurrences}
+use Rattle.wit_arena.proofs.Ordered.{Ordered, all_turns, all_inside}
+use Rattle.wit_arena.specs.Whole.{Turned, all_occurrences}
 use Rattle.wit_syntax.specs.Source as source
 use Rattle.wit_arena.proofs.Added.{InterfacesDone, WorldOwner, inside_of, interface_list, world_list, decls, defines_wider, prefix_apart, resolved_scopes_among, next_world, inline_declared, world_item_declared}
 use Rattle.wit_arena.proofs.Sided.{AreSided, IsFreshInside, are_sided}

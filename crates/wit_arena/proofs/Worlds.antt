@@ -8,9 +8,11 @@ use Rattle.wit_type_tree.specs.declared.types.«Type».{«Type» as Written}
 use Rattle.wit_arena.specs.Occurrences.{Occurrence, keys, Collects}
 use Rattle.wit_arena.specs.UnfoldedTypes.{import_types, world_functions}
 use Rattle.wit_arena.specs.SideItems.{settled}
-use Rattle.wit_arena.specs.ResolvedArenas.{interfaces_at, worlds_at, WorldArenas, prefix_worlds, AddsWorld, AddsWorlds, AddsForeign, AreUsableUses}
+use Rattle.wit_arena.specs.ResolvedArenas.{interfaces_at, worlds_at, WorldArenas, prefix_worlds, AddsWorld, AddsWorlds, AddsForeign}
+use Rattle.wit_arena.proofs.Visits.{AreUsableUses}
 use Rattle.wit_arena.specs.Resolving.{Names, env_of, Required}
-use Rattle.wit_arena.specs.Whole.{Ordered, OrderedWorld, Turned, addresses, turned, side_turns, world_turns, all_turns, all_inside, all_occurrences, turn_handles, AreRequired, functions_at}
+use Rattle.wit_arena.proofs.Ordered.{Ordered, OrderedWorld, addresses, turned, side_turns, world_turns, all_turns, all_inside}
+use Rattle.wit_arena.specs.Whole.{Turned, all_occurrences, turn_handles, AreRequired, functions_at}
 use Rattle.wit_arena.proofs.Added.{InterfacesDone, WorldOwner, inside_of, interface_list, world_list, decls}
 use Rattle.wit_arena.proofs.Sided.{AreAsStated, AreSided}
 use Rattle.wit_arena.proofs.DoneNames.{done_of}
@@ -74,7 +76,7 @@ module _ (files : List PackageFile) (is ws : List Item) (interfaces : AreOfSort 
       both = world_functions adds.added
 
       stated_all : AreStated (functions w) adds.functions both
-      stated_all = subst (λ (l : List SourceFunction). AreStated l adds.functions both) (sym (functions_items w)) (stated_settled all_addresses w.top turns_names adds.types (side_items w) adds.functions inside_addresses (includes w) adds.imported adds.exported adds.added adds.imports adds.exports adds.are_imported adds.are_exported)
+      stated_all = subst (λ (l : List SourceFunction). AreStated l adds.functions both) (sym (functions_items w)) (stated_settled all_addresses w.top turns_names adds.types (side_items w) adds.functions inside_addresses (includes w) adds.imports.0 adds.exports.0 adds.added adds.imports.2 adds.exports.2 adds.imports.1 adds.exports.1)
 
       abbrev opened : DoneScope
       opened = c files is ws interfaces worlds is_items ws_items uses es prefix wprefix foreign middle xs irs d us old a qs e w next adds.middle adds.types adds.adds adds.functions both []
@@ -195,20 +197,16 @@ module _ (files : List PackageFile) (is ws : List Item) (interfaces : AreOfSort 
 
       is_resolved_scope : resolved_scope_of closed ≡ world_resolved_scope adds.added
       is_resolved_scope =
-          let none = settled_none import_types (includes w) adds.imported (side_types all_addresses w.top Imported (side_items w) adds.functions inside_addresses adds.imported adds.are_imported) in
-          let types = own_types turns_names adds.types (settled (includes w) adds.imported) adds.added listed (adds.imports ∙ settled_types (includes w) turns_names adds.types adds.imported) none in
+          let none = settled_none import_types (includes w) adds.imports.0 (side_types all_addresses w.top Imported (side_items w) adds.functions inside_addresses adds.imports.0 adds.imports.1) in
+          let types = own_types turns_names adds.types (settled (includes w) adds.imports.0) adds.added listed (adds.imports.2 ∙ settled_types (includes w) turns_names adds.types adds.imports.0) none in
           ap (λ (x : Address). record { address = x; types = adds.types; functions = free_of both }) (world_address w (worlds.each (length us) w next))
           ∙ ap (named_world adds.types both) (sym adds.says.0)
           ∙ ap (λ (x : Names). named_world x both adds.added.name) (sym types)
 
       makes : MakesWorld (interface_list files is (inside_of ws)) world.own closed adds.added
       makes = record {
-        imported = adds.imported;
-        imports = adds.imports;
-        exported = adds.exported;
-        exports = adds.exports;
-        are_imported = side_items_wider all_addresses (interface_list files is (inside_of ws)) (interface_added files is ws interfaces worlds is_items ws_items uses es prefix wprefix foreign middle xs irs d us old a qs e w next b.addresses adds.more) w.top Imported (side_items w) adds.functions inside_addresses adds.imported adds.are_imported;
-        are_exported = side_items_wider all_addresses (interface_list files is (inside_of ws)) (interface_added files is ws interfaces worlds is_items ws_items uses es prefix wprefix foreign middle xs irs d us old a qs e w next b.addresses adds.more) w.top Exported (side_items w) adds.functions inside_addresses adds.exported adds.are_exported;
+        imports = (adds.imports.0, side_items_wider all_addresses (interface_list files is (inside_of ws)) (interface_added files is ws interfaces worlds is_items ws_items uses es prefix wprefix foreign middle xs irs d us old a qs e w next b.addresses adds.more) w.top Imported (side_items w) adds.functions inside_addresses adds.imports.0 adds.imports.1, adds.imports.2);
+        exports = (adds.exports.0, side_items_wider all_addresses (interface_list files is (inside_of ws)) (interface_added files is ws interfaces worlds is_items ws_items uses es prefix wprefix foreign middle xs irs d us old a qs e w next b.addresses adds.more) w.top Exported (side_items w) adds.functions inside_addresses adds.exports.0 adds.exports.1, adds.exports.2);
         stated = refl;
       }
 

@@ -1,6 +1,6 @@
 -- Written types by their parts: the shapes of these, and the names in them.
 use Rattle.std.proofs.Common.{◌≡◌, List, [], ◌∷◌, ◌++◌, refl, sym, ap, ◌∙◌, append_assoc, Vec}
-use Rattle.wit_syntax.proofs.Common.{Address, Both', Err', Global, Id, More, Neither, None', Of, Ok', Prim, ResultTypes, Row_of-Type, Shape, Shapes, Some', Span, Stability, Word, all_handles, all_shapes, all_words, append-nil, end_of-Type, handles, head, more_of-Type, part_types, result_shapes, result_types, row_handles, row_shapes, row_types, shape_of, tuple_types, words}
+use Rattle.wit_syntax.proofs.Common.{Address, Both', Err', Global, Id, More, Neither, None', Of, Ok', Prim, ResultTypes, Row_of-Type, Shape, Shapes, Some', Span, Stability, all_handles, all_shapes, all_words, append-nil, end_of-Type, handles, head, more_of-Type, part_types, result_shapes, result_types, row_handles, row_shapes, row_types, shape_of, tuple_types, words}
 use Rattle.wit_type_tree.specs.declared.types.«Type».{«Type» as Written}
 use Rattle.wit_type_tree.specs.declared.types.«Type».TheVariants as written
 use Rattle.wit_syntax.specs.Shape.{End}
@@ -14,9 +14,7 @@ row_shapes-all (more_of-Type t rest) = ap (More (shape_of t)) (row_shapes-all re
 
 pub result_shapes-all : (of : ResultTypes) → result_shapes of ≡ all_shapes (result_types of)
 result_shapes-all Neither = refl
-result_shapes-all (Ok' p t) = refl
-result_shapes-all (Err' p t) = refl
-result_shapes-all (Both' p t q u) = refl
+result_shapes-all _ = refl
 
 -- the parts of a shape
 abbrev pub inner : Shape → Shapes
@@ -32,11 +30,9 @@ IsOfTypes t = Unit {0}
 pub inner-parts : (t : Written) → IsOfTypes t → inner (shape_of t) ≡ all_shapes (part_types t)
 inner-parts (written.Result span of) h = result_shapes-all of
 inner-parts (written.Tuple' span shape ts) h = row_shapes-all ts
-inner-parts (written.Future' span None') h = refl
-inner-parts (written.Future' span (Some' p t)) h = refl
-inner-parts (written.Stream' span None') h = refl
-inner-parts (written.Stream' span (Some' p t)) h = refl
 inner-parts (written.Borrow span id) h = absurd h
+inner-parts (written.Future' span None') h = refl
+inner-parts (written.Stream' span None') h = refl
 inner-parts _ h = refl
 
 -- of a tuple, too
@@ -59,8 +55,7 @@ all_words-append (t ∷ ts) us = ap (λ ids. words (shape_of t) ++ ids) (all_wor
 -- a definition that is one type has the names of the type
 pub words-head : (x : Shape) → all_words (head x).parts ≡ words x
 words-head (Prim p) = refl
-words-head (Word id) = refl
-words-head (Of span form parts) = refl
+words-head _ = refl
 
 -- the names in handles, of types and of further ones
 pub all_handles-append : (ts us : List Written) → all_handles (ts ++ us) ≡ all_handles ts ++ all_handles us
@@ -85,13 +80,10 @@ handles-parts (written.List' span p t) h = sym (append-nil (handles t))
 handles-parts (written.FixedLengthList' span p t size) h = sym (append-nil (handles t))
 handles-parts (written.Map' span p key q value) h = ap (λ (l : List Id). handles key ++ l) (sym (append-nil (handles value)))
 handles-parts (written.Option' span p t) h = sym (append-nil (handles t))
-handles-parts (written.Result span Neither) h = refl
 handles-parts (written.Result span (Ok' p t)) h = sym (append-nil (handles t))
 handles-parts (written.Result span (Err' p t)) h = sym (append-nil (handles t))
 handles-parts (written.Result span (Both' p t q u)) h = ap (λ (l : List Id). handles t ++ l) (sym (append-nil (handles u)))
 handles-parts (written.Tuple' span shape ts) h = row_handles-all ts
-handles-parts (written.Future' span None') h = refl
 handles-parts (written.Future' span (Some' p t)) h = sym (append-nil (handles t))
-handles-parts (written.Stream' span None') h = refl
 handles-parts (written.Stream' span (Some' p t)) h = sym (append-nil (handles t))
 handles-parts _ h = refl

@@ -1,5 +1,5 @@
 -- The form and the parts of a type of the arena.
-use Rattle.std.specs.Prelude.{Bool, List, [], ◌∷◌, ◌++◌, map, is_some}
+use Rattle.std.specs.Prelude.{List, [], ◌∷◌, ◌++◌, map, is_some}
 use Rattle.std.specs.List.{filter_map}
 use Rattle.std.specs.Option.{option_to_list}
 use Rattle.wit_types.specs.declared.types.«Type».{«Type» as Ty}
@@ -11,39 +11,26 @@ use Rattle.wit_types.specs.declared.types.EnumCase.{EnumCase}
 use Rattle.wit_types.specs.declared.types.Handle.TheVariants.{Own, Borrow}
 use Rattle.wit_types.specs.declared.types.TypeDefKind.{TypeDefKind}
 use Rattle.wit_types.specs.declared.types.TypeDefKind.TheVariants as kind
-use Rattle.wit_syntax.specs.Form.{Member, Form, RecordForm, ResourceForm, OwnForm, BorrowForm, FlagsForm, TupleForm, VariantForm, EnumForm, OptionForm, ResultForm, ListForm, MapForm, FixedLengthListForm, FutureForm, StreamForm, AliasForm, UnknownForm}
+use Rattle.wit_syntax.specs.Form.{Form, RecordForm, ResourceForm, OwnForm, BorrowForm, FlagsForm, TupleForm, VariantForm, EnumForm, OptionForm, ResultForm, ListForm, MapForm, FixedLengthListForm, FutureForm, StreamForm, AliasForm, UnknownForm}
 
 -- what a type is: a form over parts
 pub record Kind : Type 0 where
   pub form : Form
   pub parts : List Ty
 
-abbrev pub field_member : Field → Member
-field_member f = record { name = f.name; docs = f.docs; span = f.span }
-
-abbrev pub flag_member : Flag → Member
-flag_member f = record { name = f.name; docs = f.docs; span = f.span }
-
-abbrev pub case_member : Case → Member × Bool
-case_member c = (record { name = c.name; docs = c.docs; span = c.span }, is_some c.ty)
-
-abbrev pub enum_case_member : EnumCase → Member
-enum_case_member c = record { name = c.name; docs = c.docs; span = c.span }
-
--- the types of the cases that have one
-abbrev pub payloads : List Case → List Ty
-payloads cs = filter_map (λ c. c.ty) cs
-
 -- the form and the parts of a type of the arena
 abbrev pub kind_of : TypeDefKind → Kind
-kind_of (kind.Record r) = record { form = RecordForm (map field_member r.fields); parts = map (λ f. f.ty) r.fields }
+kind_of (kind.Record r) = record { form = RecordForm (map (λ (f : Field). record { name = f.name; docs = f.docs; span = f.span }) r.fields); parts = map (λ f. f.ty) r.fields }
 kind_of kind.Resource = record { form = ResourceForm; parts = [] }
 kind_of (kind.Handle (Own r)) = record { form = OwnForm; parts = Id r ∷ [] }
 kind_of (kind.Handle (Borrow r)) = record { form = BorrowForm; parts = Id r ∷ [] }
-kind_of (kind.Flags f) = record { form = FlagsForm (map flag_member f.flags); parts = [] }
+kind_of (kind.Flags f) = record { form = FlagsForm (map (λ (x : Flag). record { name = x.name; docs = x.docs; span = x.span }) f.flags); parts = [] }
 kind_of (kind.Tuple t) = record { form = TupleForm; parts = t.types }
-kind_of (kind.Variant v) = record { form = VariantForm (map case_member v.cases); parts = payloads v.cases }
-kind_of (kind.Enum e) = record { form = EnumForm (map enum_case_member e.cases); parts = [] }
+kind_of (kind.Variant v) = record {
+  form = VariantForm (map (λ (c : Case). (record { name = c.name; docs = c.docs; span = c.span }, is_some c.ty)) v.cases);
+  parts = filter_map (λ c. c.ty) v.cases;
+}
+kind_of (kind.Enum e) = record { form = EnumForm (map (λ (c : EnumCase). record { name = c.name; docs = c.docs; span = c.span }) e.cases); parts = [] }
 kind_of (kind.Option t) = record { form = OptionForm; parts = t ∷ [] }
 kind_of (kind.Result r) = record { form = ResultForm (is_some r.ok) (is_some r.err); parts = option_to_list r.ok ++ option_to_list r.err }
 kind_of (kind.List t) = record { form = ListForm; parts = t ∷ [] }

@@ -35,7 +35,7 @@ use Rattle.wit_syntax.specs.Repeats.{firsts}
 use Rattle.wit_syntax.specs.ExternPart.{same_side}
 use Rattle.wit_syntax.specs.Address.{Address, package_of, WorldNamed}
 use Rattle.wit_syntax.specs.Node.{primitive_type}
-use Rattle.wit_syntax.specs.Metadata.{Metadata, metadata, docs_of, no_docs, no_metadata, stability_of, first_known}
+use Rattle.wit_syntax.specs.Metadata.{Metadata, docs_of, no_docs, no_metadata, stability_of, first_known}
 use Rattle.wit_syntax.specs.Source.{path_id, path_scope, leads, TopName, Item, address, ScopeName, all_items, scope_names, local_name, local_id, ForeignUse, first_foreign_uses, about, declared_metadata, target_scope, about_name}
 use Rattle.wit_syntax.specs.ScopesOfTrees.{scope}
 use Rattle.wit_syntax.specs.Foreign.{ForeignVisit, visited, foreign_interfaces, foreign_worlds, foreign_packages}
@@ -106,11 +106,11 @@ abbrev pub foreign_interface : List PackageFile → (Key → ℕ) → ForeignVis
 foreign_interface files id v = interface None (name_places id (visited v) (scope files (visited v))) [] no_metadata v.id.span
 
 -- the names of an item as they are resolved: the used ones, and then the definitions in their order
-abbrev pub names_in_turn : (Address → List ℕ) → Item → List ScopeName
-names_in_turn order i = in_turn (scope_names i) (order (address i))
+abbrev pub names_in_turn : (Item → List ℕ) → Item → List ScopeName
+names_in_turn order i = in_turn (scope_names i) (order i)
 
 -- an interface of files, with its names in turn, and with its functions, each setter that is written before its getter directly after it
-abbrev pub own_interface : (Key → ℕ) → (Address → List ℕ) → Item → Interface
+abbrev pub own_interface : (Key → ℕ) → (Item → List ℕ) → Item → Interface
 own_interface id order i = interface (about i.declared).called (name_places id (address i) (names_in_turn order i)) (placed Some (map (λ fn. (fn.name, function_in id (address i) fn)) (functions i))) (declared_metadata i.declared) (about i.declared).id.span
 
 -- the place of a scope among these
@@ -151,29 +151,28 @@ abbrev pub world_entries : (Key → ℕ) → List Address → Item → List (Wor
 world_entries id ss i = side_entries (function_in id (address i)) ss i.top (side_items i) (inline_items i)
 
 -- a world of files, where the interfaces have these scopes and the worlds those: it imports its names in turn, and then what is on that side
-abbrev pub own_world : (Key → ℕ) → (Address → List ℕ) → List Address → List Address → Item → World
+abbrev pub own_world : (Key → ℕ) → (Item → List ℕ) → List Address → List Address → Item → World
 own_world id order ss ws i = world (about i.declared).id.name.now
     (settled (includes i) (name_imports id (address i) (names_in_turn order i) ++ entries_on Imported (world_entries id ss i)))
     (settled (includes i) (entries_on Exported (world_entries id ss i))) (map (include_in ws i.top) (includes i)) (declared_metadata i.declared) (about i.declared).id.span
 
 -- an interface, as it is resolved: whole
-abbrev pub interface_turn : (Address → List ℕ) → Item → Turned
+abbrev pub interface_turn : (Item → List ℕ) → Item → Turned
 interface_turn order i = record { address = address i; names = names_in_turn order i; functions = functions i }
 
 -- what is on the sides of a world, as it is resolved: its functions, each by itself, and the interfaces that are written there, whole
-abbrev pub turns_on_sides : (Address → List ℕ) → Address → List SideItem → List Item → List Turned
+abbrev pub turns_on_sides : (Item → List ℕ) → Address → List SideItem → List Item → List Turned
 turns_on_sides order s [] is = []
 turns_on_sides order s (SideFunction fn ∷ xs) is = record { address = s; names = []; functions = fn ∷ [] } ∷ turns_on_sides order s xs is
-turns_on_sides order s (SideLink link ∷ xs) is = turns_on_sides order s xs is
-turns_on_sides order s (SideInline x name items ∷ xs) [] = turns_on_sides order s xs []
 turns_on_sides order s (SideInline x name items ∷ xs) (i ∷ is) = interface_turn order i ∷ turns_on_sides order s xs is
+turns_on_sides order s (x ∷ xs) is = turns_on_sides order s xs is
 
 -- a world, as it is resolved: its names, and then what is on its sides
-abbrev pub turns_of_world : (Address → List ℕ) → Item → List Turned
+abbrev pub turns_of_world : (Item → List ℕ) → Item → List Turned
 turns_of_world order i = record { address = address i; names = names_in_turn order i; functions = [] } ∷ turns_on_sides order (address i) (side_items i) (inline_items i)
 
 -- interfaces and then worlds, as they are resolved
-abbrev pub item_turns : (Address → List ℕ) → List Item → List Turned
+abbrev pub item_turns : (Item → List ℕ) → List Item → List Turned
 item_turns order is = map (interface_turn order) (interfaces_of is) ++ flat_map (turns_of_world order) (worlds_of is)
 
 -- the interfaces of the package: the declared ones, and then those that are written in worlds
@@ -192,8 +191,8 @@ abbrev pub AreInOrder : List PackageFile → List Item → Type 0
 AreInOrder files is = (places : List ℕ) × IsOrder (item_rows files) places × (is ≡ in_order (all_items files) places)
 
 -- each scope has the least order in which its definitions come after those that they name
-abbrev pub AreNamesInOrder : List PackageFile → (Address → List ℕ) → Type 0
-AreNamesInOrder files order = (i : Item) → Contains (all_scopes files) i → IsOrder (rows_of (scope_names i)) (order (address i))
+abbrev pub AreNamesInOrder : List PackageFile → (Item → List ℕ) → Type 0
+AreNamesInOrder files order = (i : Item) → Contains (all_scopes files) i → IsOrder (rows_of (scope_names i)) (order i)
 
 -- The package has the name and the version of the last header, and the docs of the first that has some. Its arenas of interfaces and of worlds
 -- begin with the items of other packages, in the order of their first visits; then come the declared ones in the least order, and after the
@@ -209,7 +208,8 @@ pub record Makes (files : List PackageFile) (p : UnresolvedPackage) : Type 0 whe
   pub unknown : p.unknown_type_spans ≡ map (λ (t : ForeignUse). t.id.span) (first_foreign_uses files)
   pub items : List Item
   pub in_order : AreInOrder files items
-  pub order : Address → List ℕ
+  pub order : Item → List ℕ
+  pub by_address : (i j : Item) → address i ≡ address j → order i ≡ order j
   pub names_in_order : AreNamesInOrder files order
   -- a test of whether two are one and the same
   pub same : Key → Key → Bool

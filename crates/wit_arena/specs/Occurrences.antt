@@ -40,9 +40,8 @@ keys ms = map (λ m. m.key) ms
 -- what occurs in a type: the parts of a form, and then the whole
 abbrev mutual
   pub shape_occurrences : Address → Stability → Shape → List Occurrence
-  shape_occurrences s given (shape.Prim p) = []
-  shape_occurrences s given (shape.Word id) = []
   shape_occurrences s given (shape.Of span form parts) = shapes_occurrences s given parts ++ record { key = Whole form (exprs_of s parts); span = span; given = given } ∷ []
+  shape_occurrences s given _ = []
 
   pub shapes_occurrences : Address → Stability → Shapes → List Occurrence
   shapes_occurrences s given shape.End = []

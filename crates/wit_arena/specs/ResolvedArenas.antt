@@ -1,7 +1,6 @@
 -- What resolving interfaces and worlds does to the arenas, one after another.
-use Rattle.std.specs.Prelude.{◌≡◌, ℕ, ◌+◌, false, List, [], ◌∷◌, ◌++◌, length, map, Some, slice_get, Contains}
+use Rattle.std.specs.Prelude.{◌≡◌, ℕ, ◌+◌, List, [], ◌∷◌, ◌++◌, length, map}
 use Rattle.std.specs.List.{flat_map}
-use Rattle.wit_tree.specs.declared.tree.Use.{Use}
 use Rattle.wit_tree.specs.declared.tree.PackageFile.{PackageFile}
 use Rattle.wit_types.specs.declared.types.TypeDef.{TypeDef}
 use Rattle.wit_types.specs.declared.types.TypeDefKind.TheVariants.{Unknown}
@@ -12,31 +11,21 @@ use Rattle.wit_model.specs.declared.world.World.{World}
 use Rattle.wit_graph.specs.Table.{IsOrder}
 use Rattle.wit_syntax.specs.Address.{Address, WorldNamed}
 use Rattle.wit_syntax.specs.Metadata.{metadata, no_docs}
-use Rattle.wit_model.specs.declared.world.WorldKey.{WorldKey}
-use Rattle.wit_model.specs.declared.world.WorldItem.{WorldItem}
-use Rattle.wit_syntax.specs.Source.{leads, Item, address, ScopeName, scope_names, ForeignUse, first_foreign_uses, about, declared_metadata}
+use Rattle.wit_syntax.specs.Source.{Item, address, ScopeName, scope_names, ForeignUse, first_foreign_uses, about, declared_metadata}
 use Rattle.wit_syntax.specs.Foreign.{visited, foreign_interfaces, foreign_worlds}
 use Rattle.wit_arena.specs.Occurrences.{keys}
 use Rattle.wit_arena.specs.OneByOne.{OneByOne}
 use Rattle.wit_arena.specs.UnfoldedTypes.{IsInterface, IsWorld, IsForeignWorld}
-use Rattle.wit_syntax.specs.ScopeTables.{uses, includes, rows_of, in_order, defined, in_turn, AreDistinct}
+use Rattle.wit_syntax.specs.ScopeTables.{includes, rows_of, in_turn, AreDistinct}
 use Rattle.wit_functions.specs.declared.function.Function.{Function}
-use Rattle.wit_syntax.specs.Function.{SourceFunction, functions as item_functions, name_types, written_types, all_types}
+use Rattle.wit_syntax.specs.Function.{functions as item_functions, name_types, written_types, all_types}
 use Rattle.wit_tree.specs.declared.tree.WorldSide.TheVariants.{Imported, Exported}
 use Rattle.wit_arena.specs.SourceFunctions.{placed_functions}
-use Rattle.wit_arena.specs.SideItems.{AreSideItems, settled}
-use Rattle.wit_syntax.specs.Broken.{is_world_at}
+use Rattle.wit_arena.specs.SideItems.{HasSide}
 use Rattle.wit_syntax.specs.Sides.{SideItem, SideFunction, SideLink, SideInline, side_items, inline_items}
 use Rattle.wit_arena.specs.Whole.{owner_at, foreign_use_occurrence, IsForeignInterface, type_imports, AreIncludes}
 use Rattle.wit_arena.specs.Resolving.{Names, env_of, ResolvedScope, resolved_scopes, named, Defines, AddsFunctions, Required, AreEnded}
 use Rattle.wit_syntax.specs.Shape.{all_handles}
-
--- the definitions of a scope were added in the least dependency-first order, after its used names
-pub record DefinesAll (old new : List TypeDef) (o : TypeOwner) (names names' : Names) (xs : List ScopeName) : Type 0 where
-  pub order : List ℕ
-  pub least : IsOrder (rows_of xs) order
-  pub distinct : AreDistinct xs
-  pub defines : (cs : List ResolvedScope) (s : Address) → Defines old new cs o s names names' (defined (in_order xs order))
 
 -- what the names of a scope add to the arena of types, in the order of its table; `cs` are the scopes that they may use
 pub record AddsScope (old new : List TypeDef) (cs : List ResolvedScope) (o : TypeOwner) (xs : List ScopeName) (types : Names) : Type 0 where
@@ -50,13 +39,9 @@ pub record AddsAfter (old new : List TypeDef) (item : Item) (order : List ℕ) (
   pub adds : AddsFunctions old new (address item) names (item_functions item) fs
   pub ended : AreEnded (env_of names) new (all_handles (all_types (in_turn (scope_names item) order) (item_functions item))) rs
 
--- an interface of the arena is the one of an item, apart from its types and functions
-abbrev pub IsInterfaceOf : Item → Interface → Type 0
-IsInterfaceOf item i = IsInterface (about item.declared).called (about item.declared).id.span (declared_metadata item.declared) i
-
 -- what an interface adds to the arena of types, where it is at this place, and these are the scopes that it may use
 pub record AddsInterface (cs : List ResolvedScope) (place : ℕ) (old new : List TypeDef) (added : Interface) (rs : List Required) (item : Item) : Type 0 where
-  pub says : IsInterfaceOf item added
+  pub says : IsInterface (about item.declared).called (about item.declared).id.span (declared_metadata item.declared) added
   pub middle : List TypeDef
   pub adds : AddsScope old middle cs (owner.Interface place) (scope_names item) added.types
   pub functions : List Function
@@ -79,16 +64,11 @@ worlds_at (s ∷ ss) (w ∷ ws) = s ∷ worlds_at ss ws
 abbrev pub interfaces_at : List Address → List Interface → List Address
 interfaces_at foreign is = map (λ c. c.address) (resolved_scopes foreign is)
 
--- what a function of a scope adds to the arena of types, after its names, and what its handles require
-pub record AddsFunction (s : Address) (names : Names) (old new : List TypeDef) (fn : SourceFunction) (f : Function) (rs : List Required) : Type 0 where
-  pub adds : AddsFunctions old new s names (fn ∷ []) (f ∷ [])
-  pub ended : AreEnded (env_of names) new (all_handles (written_types fn)) rs
-
 -- What is on the sides of a world adds to the arenas, one after another, after its names: functions, and the interfaces that are written
 -- there, which are these items, after so many others; `cs` are the scopes that these may use.
 abbrev pub AddsSides : List ResolvedScope → ℕ → Address → Names → List TypeDef → List TypeDef → List Interface → List Interface → List Function → List Required → List SideItem → List Item → Type 0
 AddsSides cs count s names old new is is' fs rs [] inside = (new ≡ old) × (is' ≡ is) × (fs ≡ []) × (rs ≡ [])
-AddsSides cs count s names old new is is' fs rs (SideFunction fn ∷ xs) inside = (mid : List TypeDef) × (f : Function) × (more : List Function) × (own : List Required) × (rest : List Required) × (fs ≡ f ∷ more) × (rs ≡ own ++ rest) × AddsFunction s names old mid fn f own × AddsSides cs count s names mid new is is' more rest xs inside
+AddsSides cs count s names old new is is' fs rs (SideFunction fn ∷ xs) inside = (mid : List TypeDef) × (f : Function) × (more : List Function) × (own : List Required) × (rest : List Required) × (fs ≡ f ∷ more) × (rs ≡ own ++ rest) × AddsFunctions old mid s names (fn ∷ []) (f ∷ []) × AreEnded (env_of names) mid (all_handles (written_types fn)) own × AddsSides cs count s names mid new is is' more rest xs inside
 AddsSides cs count s names old new is is' fs rs (SideLink link ∷ xs) inside = AddsSides cs count s names old new is is' fs rs xs inside
 AddsSides cs count s names old new is is' fs rs (SideInline x name items ∷ xs) [] = ⊥
 AddsSides cs count s names old new is is' fs rs (SideInline x name items ∷ xs) (i ∷ inside) = (mid : List TypeDef) × (added : Interface) × (own : List Required) × (rest : List Required) × (rs ≡ own ++ rest) × AddsInterface cs (count + length is) old mid added own i × AddsSides cs count s names mid new (is ++ added ∷ []) is' fs rest xs inside
@@ -114,12 +94,8 @@ pub record AddsWorld (foreign others : List Address) (is : List Interface) (old 
   pub rest : List Required
   pub requires : rs ≡ own ++ rest
   pub sides : AddsSides (resolved_scopes foreign is) (length is) (address item) types middle new a.inside b.inside functions rest (side_items item) (inline_items item)
-  pub imported : List (WorldKey × WorldItem)
-  pub are_imported : AreSideItems (interfaces_at foreign is ++ b.addresses) item.top Imported (side_items item) functions (map address (inline_items item)) imported
-  pub imports : added.imports ≡ settled (includes item) (type_imports (in_turn (scope_names item) adds.order) types ++ imported)
-  pub exported : List (WorldKey × WorldItem)
-  pub are_exported : AreSideItems (interfaces_at foreign is ++ b.addresses) item.top Exported (side_items item) functions (map address (inline_items item)) exported
-  pub exports : added.exports ≡ settled (includes item) exported
+  pub imports : HasSide (interfaces_at foreign is ++ b.addresses) (map address (inline_items item)) item Imported functions (type_imports (in_turn (scope_names item) adds.order) types) added.imports
+  pub exports : HasSide (interfaces_at foreign is ++ b.addresses) (map address (inline_items item)) item Exported functions [] added.exports
   pub includes : AreIncludes (worlds_at others a.worlds) item added.includes
 
 -- what items add to the arenas, one after another, and what they require, where `Adds` says what one of them does
@@ -138,16 +114,6 @@ AddsWorlds foreign others is old new a b rs items = AddsEach (AddsWorld foreign 
 -- the arenas with these worlds in front
 abbrev pub prefix_worlds : List World → WorldArenas
 prefix_worlds ws = record { worlds = ws; inside = []; addresses = [] }
-
--- the path of each `use` of these items leads to an interface
-pub record AreUsableUses (files : List PackageFile) (items : List Item) : Type 0 where
-  pub usable : (item : Item) (u : Use) → Contains items item → Contains (uses item) u → is_world_at files (leads item.top u.from) ≡ Some false
-
--- an item at a place, once some of those at places were gone over
-pub record IsNext (items : List Item) (places : List ℕ) (count : ℕ) (item : Item) : Type 0 where
-  pub place : ℕ
-  pub next : slice_get places count ≡ Some place
-  pub at : slice_get items place ≡ Some item
 
 -- the entry of a name of another package: nothing is known of it but whose it is
 abbrev pub foreign_type : List PackageFile → ForeignUse → TypeDef

@@ -1,15 +1,14 @@
 -- What resolving types and names does to the arena, from whatever occurred before.
-use Rattle.std.specs.Prelude.{◌≡◌, ℕ, false, List, [], ◌∷◌, ◌++◌, length, map, Option, Some, None, ◌⊎◌, slice_get, nat_eq, Contains, IsSome}
+use Rattle.std.specs.Prelude.{◌≡◌, ℕ, List, [], ◌∷◌, ◌++◌, length, map, Option, Some, None, ◌⊎◌, slice_get, nat_eq, IsSome}
 use Rattle.std.specs.Cmp.Lexicographic.{pointwise}
 use Rattle.std.specs.List.{flat_map}
 use Rattle.std.specs.Map.{lookup}
-use Rattle.std.specs.Option.{option_map, unwrap_or}
+use Rattle.std.specs.Option.{unwrap_or}
 use Rattle.indexmap.specs.IndexMap.{insert_entry}
 use Rattle.wit_values.specs.declared.span.Span.{Span}
 use Rattle.wit_type_tree.specs.declared.leaves.Id.{Id}
 use Rattle.wit_type_tree.specs.declared.leaves.Attribute.{Attribute}
 use Rattle.wit_tree.specs.declared.tree.UseName.{UseName}
-use Rattle.wit_tree.specs.declared.tree.PackageFile.{PackageFile}
 use Rattle.wit_types.specs.declared.stability.Stability.{Stability}
 use Rattle.wit_types.specs.declared.types.«Type».{«Type» as Ty}
 use Rattle.wit_types.specs.declared.types.«Type».TheVariants as type
@@ -19,14 +18,12 @@ use Rattle.wit_types.specs.declared.types.TypeDef.{TypeDef}
 use Rattle.wit_types.specs.declared.types.TypeOwner.{TypeOwner}
 use Rattle.wit_types.specs.declared.types.TypeOwner.TheVariants as owner
 use Rattle.wit_model.specs.declared.interface.Interface.{Interface}
-use Rattle.wit_syntax.specs.Address.{Address, InterfaceNamed, WorldNamed, ForeignNamed}
-use Rattle.wit_syntax.specs.Source.{Target, Local, Foreign, ScopeName, Used, local_name}
-use Rattle.wit_syntax.specs.Foreign.{foreign_at, ForeignVisit}
+use Rattle.wit_syntax.specs.Address.{Address, InterfaceNamed}
+use Rattle.wit_syntax.specs.Source.{ScopeName, Used, local_name}
 use Rattle.wit_syntax.specs.ScopeTables.{AreDistinct, local_names}
 use Rattle.wit_syntax.specs.Metadata.{Metadata, metadata, no_docs}
 use Rattle.wit_arena.specs.Expr.{Expr, Prim, Use, Of, Exprs, End, More}
 use Rattle.wit_arena.specs.Occurrences.{Key, Def, Whole, Occurrence, keys, IsSeen, Collects, AreAt, Decls, IsOccurrence, name_occurrences, all_function_occurrences, settled}
-use Rattle.wit_syntax.specs.Fault.{Fault, missing_type_at}
 use Rattle.wit_arena.specs.UnfoldedTypes.{At}
 use Rattle.wit_syntax.specs.Function.{SourceFunction}
 use Rattle.wit_functions.specs.declared.function.Function.{Function}
@@ -147,13 +144,6 @@ pub record IsDefined (decls : Decls) (ms : List Occurrence) (new : List TypeDef)
 pub record Defines (old new : List TypeDef) (cs : List ResolvedScope) (o : TypeOwner) (s : Address) (names names' : Names) (xs : List ScopeName) : Type 0 where
   pub from : (decls : Decls) (ms : List Occurrence) → AreOwned decls o s xs → AreDistinct xs → AreNew (keys ms) s xs → AreKnown (keys ms) s cs → IsOccurrence decls ms old → AreNames (keys ms) s (env_of names) → IsDefined decls ms new s names names' xs
 
--- a name means nothing yet
-pub record IsUnknown (env : Env) (ids : List Id) (f : Fault) : Type 0 where
-  pub id : Id
-  pub among : Contains ids id
-  pub free : env id.name.now ≡ None
-  pub is : f ≡ missing_type_at id
-
 -- a name was put into a table
 pub record IsStored (names names' : Names) (name : List ℕ) : Type 0 where
   pub place : ℕ
@@ -162,11 +152,6 @@ pub record IsStored (names names' : Names) (name : List ℕ) : Type 0 where
 -- each of these is in a table of names
 pub record HasNames (env : Env) (xs : List ScopeName) : Type 0 where
   pub has : (i : ℕ) (x : ScopeName) → slice_get xs i ≡ Some x → IsSome (env (local_name x))
-
--- interfaces that were resolved, and their places by name
-pub record IsIndex (cs : List ResolvedScope) (by_name : Names) : Type 0 where
-  pub present : (name : List ℕ) (t : ℕ) → env_of by_name name ≡ Some t → (c : ResolvedScope) × (slice_get cs t ≡ Some c) × (c.address ≡ InterfaceNamed name)
-  pub has : (t : ℕ) (c : ResolvedScope) (name : List ℕ) → slice_get cs t ≡ Some c → c.address ≡ InterfaceNamed name → IsSome (env_of by_name name)
 
 -- the scope at an address was resolved
 pub record IsFound (cs : List ResolvedScope) (from : Address) (c : ResolvedScope) : Type 0 where
@@ -183,15 +168,10 @@ pub record IsUsed (old new : List TypeDef) (cs : List ResolvedScope) (o : TypeOw
   pub free : env_of names (local_name (Used from attributes n)) ≡ None
   pub added : IsAdded old new o names names' (local_name (Used from attributes n)) (metadata no_docs attributes) n.name.span (Type_ (type.Id id))
 
--- worlds that were resolved, at these addresses, and the places of those of the package by name
-pub record IsWorldIndex (worlds : List Address) (by_name : Names) : Type 0 where
-  pub present : (name : List ℕ) (t : ℕ) → env_of by_name name ≡ Some t → slice_get worlds t ≡ Some (WorldNamed name)
-  pub has : (t : ℕ) (name : List ℕ) → slice_get worlds t ≡ Some (WorldNamed name) → IsSome (env_of by_name name)
-
--- no world is where a path leads: of the package none that was resolved, of another package an interface
-abbrev pub IsNoWorld : List PackageFile → Names → Target → Type 0
-IsNoWorld files by_name (Local id) = env_of by_name id.name.now ≡ None
-IsNoWorld files by_name (Foreign p id) = option_map (λ (v : ForeignVisit). v.wants_world) (foreign_at files (ForeignNamed p id.name.now)) ≡ Some false
+-- places by name: among these addresses, a name has the place of the one that it is called by
+pub record IsNameIndex (called : List ℕ → Address) (all : List Address) (by_name : Names) : Type 0 where
+  pub present : (name : List ℕ) (t : ℕ) → env_of by_name name ≡ Some t → slice_get all t ≡ Some (called name)
+  pub has : (t : ℕ) (name : List ℕ) → slice_get all t ≡ Some (called name) → IsSome (env_of by_name name)
 
 -- what occurred, extended by what occurs in functions of a scope, and the functions over that
 pub record HasFunctions (decls : Decls) (ms : List Occurrence) (new : List TypeDef) (s : Address) (fns : List SourceFunction) (fs : List Function) : Type 0 where

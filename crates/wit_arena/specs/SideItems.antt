@@ -1,5 +1,5 @@
 -- What is on the sides of a world in a package, after types: functions, and interfaces at their places; and where its setters are.
-use Rattle.std.specs.Prelude.{◌≡◌, ℕ, List, [], ◌∷◌, Option, Some, slice_get, if◌then◌else◌}
+use Rattle.std.specs.Prelude.{◌≡◌, ℕ, List, [], ◌∷◌, Option, Some, slice_get, if◌then◌else◌, ◌++◌}
 use Rattle.std.specs.Option.{option_map_or}
 use Rattle.wit_tree.specs.declared.tree.Extern.{Extern}
 use Rattle.wit_type_tree.specs.declared.leaves.Id.{Id}
@@ -19,9 +19,10 @@ use Rattle.wit_model.specs.ItemsOfWorlds.{function_of}
 use Rattle.wit_syntax.specs.Address.{Address}
 use Rattle.wit_syntax.specs.ExternPart.{same_side}
 use Rattle.wit_syntax.specs.Metadata.{docs_of, no_docs, stability_of}
-use Rattle.wit_syntax.specs.Source.{TopName, path_id, path_scope}
-use Rattle.wit_syntax.specs.Sides.{role_side, Link, SideItem, SideFunction, SideLink, SideInline}
+use Rattle.wit_syntax.specs.Source.{TopName, path_id, path_scope, Item}
+use Rattle.wit_syntax.specs.Sides.{role_side, Link, SideItem, SideFunction, SideLink, SideInline, side_items}
 use Rattle.wit_arena.specs.SourceFunctions.{function_item}
+use Rattle.wit_syntax.specs.ScopeTables.{includes}
 
 -- an interface without a name of its own goes by its place
 abbrev pub link_key : Option Id → ℕ → WorldKey
@@ -57,3 +58,8 @@ AreSideItems interfaces top side written fs ss xs = ⊥
 abbrev pub settled : List Include → List (WorldKey × WorldItem) → List (WorldKey × WorldItem)
 settled [] xs = placed function_of xs
 settled (i ∷ is) xs = xs
+
+-- A world of an item has these entries on a side: after some, what the item has there, and each setter after its getter where it includes
+-- nothing.
+abbrev pub HasSide : List Address → List Address → Item → WorldSide → List Function → List (WorldKey × WorldItem) → List (WorldKey × WorldItem) → Type 0
+HasSide interfaces inside i side fs before entries = (on : List (WorldKey × WorldItem)) × AreSideItems interfaces i.top side (side_items i) fs inside on × (entries ≡ settled (includes i) (before ++ on))

@@ -1,10 +1,19 @@
 -- The first occurrences of files, and that they are the same of files that say the same.
-use Rattle.std.specs.Prelude.{◌≡◌, ◌↔◌, List}
+use Rattle.std.specs.Prelude.{◌≡◌, ◌↔◌, ℕ, List, []}
 use Rattle.wit_tree.specs.declared.tree.PackageFile.{PackageFile}
 use Rattle.wit_model.specs.declared.unresolved.UnresolvedPackage.{UnresolvedPackage}
-use Rattle.wit_arena.specs.Occurrences.{Occurrence}
-use Rattle.wit_arena.specs.Made.{Makes}
-use Rattle.wit_arena.specs.Whole.{AreFirstOccurrences}
+use Rattle.wit_syntax.specs.Source.{Declared, Item}
+use Rattle.wit_arena.specs.Occurrences.{Occurrence, Collects}
+use Rattle.wit_arena.specs.Made.{AreInOrder, AreNamesInOrder, Makes, item_turns}
+use Rattle.wit_arena.specs.Whole.{all_occurrences}
+
+-- this is what is first seen in files, where their items and the names of their scopes are resolved in order
+pub record AreFirstOccurrences (files : List PackageFile) (seen : List Occurrence) : Type 0 where
+  pub items : List Item
+  pub in_order : AreInOrder files items
+  pub order : Declared → List ℕ
+  pub names_in_order : AreNamesInOrder files (λ i. order i.declared)
+  pub first : Collects [] (all_occurrences files (item_turns (λ i. order i.declared) items)) seen
 
 -- what is first seen in the one is first seen in the others, in the same order, and each where it is written there; and it is one list
 pub record HaveSameOccurrences (files others : List PackageFile) : Type 0 where

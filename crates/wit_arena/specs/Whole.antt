@@ -10,7 +10,6 @@ use Rattle.wit_model.specs.declared.ast_item.AstItem.{AstItem}
 use Rattle.wit_model.specs.declared.ast_item.AstItem.TheVariants as entry
 use Rattle.wit_package_names.specs.declared.package_name.PackageName.{PackageName}
 use Rattle.wit_model.specs.declared.interface.Interface.{Interface}
-use Rattle.wit_model.specs.declared.world.World.{World}
 use Rattle.wit_model.specs.declared.world.WorldInclude.{WorldInclude}
 use Rattle.wit_model.specs.declared.world.IncludeName.{IncludeName}
 use Rattle.wit_model.specs.declared.world.WorldKey.{WorldKey}
@@ -20,76 +19,28 @@ use Rattle.wit_model.specs.declared.world.WorldItem.TheVariants.{Type_}
 use Rattle.wit_types.specs.declared.stability.Stability.{Stability}
 use Rattle.wit_types.specs.declared.types.TypeOwner.{TypeOwner}
 use Rattle.wit_types.specs.declared.types.TypeOwner.TheVariants as owner
-use Rattle.wit_graph.specs.Table.{IsOrder}
-use Rattle.std.specs.List.{flat_map, filter_map, prefix_len, filter}
+use Rattle.std.specs.List.{flat_map, filter_map, prefix_len, filter, AllZip}
 use Rattle.wit_syntax.specs.Shape.{all_handles}
 use Rattle.wit_syntax.specs.Address.{Address, same_address, WorldNamed, package_of, same_package}
-use Rattle.wit_syntax.specs.Source.{path_id, leads, TopName, Item, address, ScopeName, all_items, item_at, scope_names, local_name, local_id, ForeignUse, foreign_uses, target_scope}
+use Rattle.wit_syntax.specs.Source.{path_id, leads, TopName, Item, address, ScopeName, item_at, local_name, local_id, ForeignUse, foreign_uses, target_scope}
 use Rattle.wit_syntax.specs.ScopesOfTrees.{scope}
 use Rattle.wit_syntax.specs.Foreign.{ForeignVisit, visited, same_item, foreign_interfaces, foreign_worlds, foreign_visits, foreign_items}
 use Rattle.wit_syntax.specs.Function.{SourceFunction, functions as item_functions, all_types}
 use Rattle.wit_syntax.specs.NameEnds.{AtResource, AtForeign, EndsAt}
 use Rattle.wit_type_tree.specs.declared.leaves.Id.{Id}
-use Rattle.wit_syntax.specs.ScopeTables.{item_rows, interfaces_of, worlds_of, includes, rows_of, in_order, in_turn}
+use Rattle.wit_syntax.specs.ScopeTables.{includes}
 use Rattle.wit_types.specs.declared.docs.Docs.{Docs}
 use Rattle.wit_syntax.specs.Metadata.{docs_of, no_docs, stability_of, no_metadata}
-use Rattle.wit_syntax.specs.Sides.{SideItem, SideFunction, SideLink, SideInline, side_items, inline_items, all_scopes}
-use Rattle.wit_arena.specs.Occurrences.{Key, Def, Occurrence, name_occurrences, Collects, all_function_occurrences, Decls}
+use Rattle.wit_syntax.specs.Sides.{all_scopes}
+use Rattle.wit_arena.specs.Occurrences.{Key, Def, Occurrence, name_occurrences, all_function_occurrences, Decls}
 use Rattle.wit_arena.specs.OneByOne.{OneByOne}
 use Rattle.wit_arena.specs.UnfoldedTypes.{IsInterface}
-
--- an item, with an order of its names
-pub record Ordered : Type 0 where
-  pub item : Item
-  pub order : List ℕ
-
--- the names of an item: the used ones, and then the definitions in its order
-abbrev pub ordered_names : Ordered → List ScopeName
-ordered_names o = in_turn (scope_names o.item) o.order
 
 -- a scope, with its names as they are resolved, and its functions
 pub record Turned : Type 0 where
   pub address : Address
   pub names : List ScopeName
   pub functions : List SourceFunction
-
-abbrev pub turned : Ordered → Turned
-turned o = record { address = address o.item; names = ordered_names o; functions = item_functions o.item }
-
--- a world, and the interfaces that are written in it, each with an order of its names
-pub record OrderedWorld : Type 0 where
-  pub own : Ordered
-  pub inside : List Ordered
-
--- what is on the sides of a world, one after another: its functions, each by itself, and the interfaces that are written there, whole
-abbrev pub side_turns : Address → List SideItem → List Ordered → List Turned
-side_turns s [] os = []
-side_turns s (SideFunction fn ∷ xs) os = record { address = s; names = []; functions = fn ∷ [] } ∷ side_turns s xs os
-side_turns s (SideLink link ∷ xs) os = side_turns s xs os
-side_turns s (SideInline x name items ∷ xs) [] = side_turns s xs []
-side_turns s (SideInline x name items ∷ xs) (o ∷ os) = turned o ∷ side_turns s xs os
-
--- a world, as it is resolved: its names, and then what is on its sides
-abbrev pub world_turns : OrderedWorld → List Turned
-world_turns w = record { address = address w.own.item; names = ordered_names w.own; functions = [] } ∷ side_turns (address w.own.item) (side_items w.own.item) w.inside
-
--- interfaces and then worlds, as they are resolved
-abbrev pub all_turns : List Ordered → List OrderedWorld → List Turned
-all_turns is ws = map turned is ++ flat_map world_turns ws
-
--- the interfaces that are written in worlds
-abbrev pub all_inside : List OrderedWorld → List Ordered
-all_inside ws = flat_map (λ w. w.inside) ws
-
--- These are the interfaces and the worlds of files in the order of their table, each world with the interfaces that are written in it, and
--- each with the order of the table of its names.
-pub record AreOrdered (files : List PackageFile) (interfaces : List Ordered) (worlds : List OrderedWorld) : Type 0 where
-  pub places : List ℕ
-  pub item_order : IsOrder (item_rows files) places
-  pub all_interfaces : map (λ o. o.item) interfaces ≡ interfaces_of (in_order (all_items files) places)
-  pub all_worlds : map (λ w. w.own.item) worlds ≡ worlds_of (in_order (all_items files) places)
-  pub inside : (t : ℕ) (w : OrderedWorld) → slice_get worlds t ≡ Some w → map (λ o. o.item) w.inside ≡ inline_items w.own.item
-  pub least : (t : ℕ) (o : Ordered) → slice_get (interfaces ++ (map (λ w. w.own) worlds ++ all_inside worlds)) t ≡ Some o → IsOrder (rows_of (scope_names o.item)) o.order
 
 -- what occurs in a scope: in its names, and then in its functions
 abbrev pub turn_occurrences : Turned → List Occurrence
@@ -106,10 +57,6 @@ owner_at is ws s = unwrap_or (option_or (option_map owner.Interface (place_at is
 -- the names of each scope, and its owner, where the interfaces have these addresses and the worlds those
 abbrev pub declarations : List PackageFile → List Address → List Address → Decls
 declarations files is ws s = (scope files s, owner_at is ws s)
-
--- the addresses of items
-abbrev pub addresses : List Ordered → List Address
-addresses os = map (λ o. address o.item) os
 
 -- these are the names of a scope in turn, and they mean their places
 pub record HasTypes (ks : List Key) (t : Turned) (types : List (List ℕ × ℕ)) : Type 0 where
@@ -145,7 +92,7 @@ HandleRequires files ks h (Some r) = (s : Address) × (name : List ℕ) × EndsA
 
 -- these are what the names in handles require, in order
 abbrev pub AreRequired : List PackageFile → List Key → List (Address × Id) → List (ℕ × Span) → Type 0
-AreRequired files ks hs rs = (each : List (Option (ℕ × Span))) × OneByOne (HandleRequires files ks) hs each × (rs ≡ filter_map (λ r. r) each)
+AreRequired files ks hs rs = (each : List (Option (ℕ × Span))) × AllZip (HandleRequires files ks) hs each × (rs ≡ filter_map (λ r. r) each)
 
 -- a name that is taken from another package, where it is used
 abbrev pub foreign_use_occurrence : ForeignUse → Occurrence
@@ -154,14 +101,6 @@ foreign_use_occurrence t = record { key = Def t.from t.id.name.now; span = t.id.
 -- what occurs in files: first what they take from other packages, then what is in these scopes
 abbrev pub all_occurrences : List PackageFile → List Turned → List Occurrence
 all_occurrences files ts = map foreign_use_occurrence (foreign_uses files) ++ flat_map turn_occurrences ts
-
--- the addresses of other packages' interfaces, and of these
-abbrev pub interface_addresses : List PackageFile → List Ordered → List Address
-interface_addresses files os = map visited (foreign_interfaces files) ++ addresses os
-
--- the addresses of other packages' worlds, and of these
-abbrev pub world_addresses : List PackageFile → List OrderedWorld → List Address
-world_addresses files ws = map visited (foreign_worlds files) ++ map (λ w. address w.own.item) ws
 
 -- an interface of another package, where a path first leads to it, with the names that are taken from it
 abbrev pub IsForeignInterface : List PackageFile → List Key → ForeignVisit → Interface → Type 0
@@ -183,13 +122,6 @@ dep files v = (package_of v.of, map (λ i. (i.id.name.now, (foreign_entry files 
 abbrev pub first_docs : List Header → Docs
 first_docs [] = no_docs
 first_docs (h ∷ hs) = if length h.docs.docs.items == 0 then first_docs hs else docs_of h.docs
-
--- this is what is first seen in files, where their scopes are resolved in these orders
-pub record AreFirstOccurrences (files : List PackageFile) (seen : List Occurrence) : Type 0 where
-  pub interfaces : List Ordered
-  pub worlds : List OrderedWorld
-  pub ordered : AreOrdered files interfaces worlds
-  pub first : Collects [] (all_occurrences files (all_turns interfaces worlds)) seen
 
 -- the functions of a scope
 abbrev pub functions_at : List PackageFile → Address → List SourceFunction
