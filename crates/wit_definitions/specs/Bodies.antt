@@ -1,36 +1,35 @@
--- What bodies of definitions with fields and cases say.
-use Rattle.std.specs.Prelude.{◌≡◌, List, map, is_some}
-use Rattle.std.specs.Option.{option_to_list}
-use Rattle.wit_type_tree.specs.TypeParts.{field_types, case_types}
-use Rattle.wit_type_tree.specs.declared.types.Field.{Field}
-use Rattle.wit_type_tree.specs.declared.types.Case.{Case}
+-- What bodies of definitions are resolved to, and their members.
+use Rattle.std.specs.Prelude.{Bool, List, Result, is_some}
+use Rattle.wit_type_tree.specs.TypeParts.{body_types}
+use Rattle.wit_type_tree.specs.declared.error.ParseError.{ParseError}
+use Rattle.wit_type_tree.specs.declared.types.TypeBody.{TypeBody}
 use Rattle.wit_types.specs.declared.stability.Stability.{Stability}
-use Rattle.wit_types.specs.declared.types.Field.{Field as MadeField}
 use Rattle.wit_types.specs.declared.types.Case.{Case as MadeCase}
+use Rattle.wit_types.specs.declared.types.EnumCase.{EnumCase as MadeEnumCase}
+use Rattle.wit_types.specs.declared.types.Field.{Field as MadeField}
+use Rattle.wit_types.specs.declared.types.Flag.{Flag as MadeFlag}
 use Rattle.wit_types.specs.declared.types.TypeDef.{TypeDef}
-use Rattle.wit_syntax.specs.Form.{RecordForm, VariantForm}
-use Rattle.wit_syntax.specs.Shape.{Body, all_shapes, member}
-use Rattle.wit_arena.specs.Kind.{case_member, field_member, payloads}
-use Rattle.wit_arena.specs.Resolving.{Env}
-use Rattle.wit_entries.specs.ResolvedForms.{AreTypes}
+use Rattle.wit_types.specs.declared.types.TypeDefKind.{TypeDefKind}
+use Rattle.wit_syntax.specs.Form.{Member}
+use Rattle.wit_syntax.specs.Shape.{all_handles, body_of}
+use Rattle.wit_arena.specs.Resolving.{Names, Required, env_of}
+use Rattle.wit_entries.specs.EntryFaults.{body_fault}
+use Rattle.wit_entries.specs.Requiring.{Resolves}
+use Rattle.wit_entries.specs.ResolvedForms.{IsKindOf}
 
--- a record with these fields
-abbrev pub record_body : List Field → Body
-record_body fields = record { form = RecordForm (map (λ f. member f.docs f.name) fields); parts = all_shapes (field_types fields) }
+-- a field, a flag or a case that was made, without its type
+abbrev pub field_member : MadeField → Member
+field_member f = record { name = f.name; docs = f.docs; span = f.span }
 
--- a variant with these cases
-abbrev pub variant_body : List Case → Body
-variant_body cases = record { form = VariantForm (map (λ c. (member c.docs c.name, is_some c.ty)) cases); parts = all_shapes (case_types cases) }
+abbrev pub flag_member : MadeFlag → Member
+flag_member f = record { name = f.name; docs = f.docs; span = f.span }
 
--- fields are made of written ones, and so are a case and cases
-pub record AreFieldsOf (old new : List TypeDef) (env : Env) (given : Stability) (fields : List Field) (made : List MadeField) : Type 0 where
-  pub types : AreTypes old new env given (field_types fields) (map (λ f. f.ty) made)
-  pub members : map field_member made ≡ map (λ f. member f.docs f.name) fields
+abbrev pub case_member : MadeCase → Member × Bool
+case_member c = (record { name = c.name; docs = c.docs; span = c.span }, is_some c.ty)
 
-pub record IsCaseOf (old new : List TypeDef) (env : Env) (given : Stability) (case : Case) (made : MadeCase) : Type 0 where
-  pub types : AreTypes old new env given (option_to_list case.ty) (option_to_list made.ty)
-  pub members : case_member made ≡ (member case.docs case.name, is_some case.ty)
+abbrev pub enum_case_member : MadeEnumCase → Member
+enum_case_member c = record { name = c.name; docs = c.docs; span = c.span }
 
-pub record AreCasesOf (old new : List TypeDef) (env : Env) (given : Stability) (cases : List Case) (made : List MadeCase) : Type 0 where
-  pub types : AreTypes old new env given (case_types cases) (payloads made)
-  pub members : map case_member made ≡ map (λ c. (member c.docs c.name, is_some c.ty)) cases
+-- a call resolves a body to a kind
+abbrev pub ResolvesBody : Names → Stability → (old new : List TypeDef) → (before after : List Required) → TypeBody → Result TypeDefKind ParseError → Type 0
+ResolvesBody names given old new before after b r = Resolves (env_of names) old new before after (all_handles (body_types b)) (body_fault (env_of names) new b) (IsKindOf old new (env_of names) given (body_of b)) r

@@ -1,17 +1,12 @@
 //! Bodies of definitions, as kinds of entries.
-ghost use Rattle.std.specs.Prelude.{◌≡◌, [], codes, map, IfOk, OnOk};
+ghost use Rattle.std.specs.Prelude.{◌≡◌, map, IfOk, is_some};
+ghost use Rattle.std.specs.List.{filter_map};
 ghost use Rattle.std.specs.Option.{option_to_list};
-ghost use Rattle.wit_type_tree.specs.TypeParts.{field_types, case_types, body_types};
-ghost use Rattle.wit_syntax.specs.Form.{FlagsForm, EnumForm};
-ghost use Rattle.wit_arena.specs.Kind.{kind_of, field_member, flag_member, case_member, enum_case_member};
-ghost use Rattle.wit_syntax.specs.Shape.{member, written_body, body_of, handles, all_handles};
-ghost use Rattle.wit_first.specs.First.{Finds};
-ghost use Rattle.wit_first.specs.ListFaults.{flags_fault, members_fault};
-ghost use Rattle.wit_arena.specs.Resolving.{env_of};
-ghost use Rattle.wit_entries.specs.EntryFaults.{body_fault, types_fault, written_fault};
-ghost use Rattle.wit_entries.specs.ResolvedForms.{IsKindOf, IsOwn};
-ghost use Rattle.wit_entries.specs.Requiring.{IsExtended, Requires};
-ghost use Rattle.wit_definitions.specs.Bodies.{AreCasesOf, AreFieldsOf, IsCaseOf, record_body, variant_body};
+ghost use Rattle.wit_type_tree.specs.TypeParts.{field_types, case_types};
+ghost use Rattle.wit_type_tree.specs.declared.types.TypeBody.TheVariants.{Plain};
+ghost use Rattle.wit_syntax.specs.Shape.{member};
+ghost use Rattle.wit_entries.specs.ResolvedForms.{ResolvesTypes};
+ghost use Rattle.wit_definitions.specs.Bodies.{ResolvesBody, case_member, enum_case_member, field_member, flag_member};
 
 use std::alloc::{AllocError, Global};
 use wit_entries::entries::Entries;
@@ -30,8 +25,7 @@ use wit_values::{Row, Text};
 
 /// A field of this type.
 fn field(alloc: Global, field: &tree::Field<'_>, ty: Type) -> Result<Field, AllocError>
-    ensures member { IfOk result (λ r. field_member r ≡ member field.now.docs field.now.name) }
-    ensures ty { IfOk result (λ r. r.ty ≡ ty) }
+    ensures { IfOk result (λ r. (field_member r ≡ member field.now.docs field.now.name) × (r.ty ≡ ty)) }
 {
     Ok(Field {
         name: Text::from_str(alloc, field.name.name)?,
@@ -50,10 +44,8 @@ fn resolve_fields(
     given: &Stability,
     fields: &[tree::Field<'_>],
 ) -> ParseResult<Row<Field>>
-    ensures made { IfOk result (AreFieldsOf types.old types.new (env_of names.now) given.now fields.now) }
-    ensures handled { OnOk result (Requires (env_of names.now) types.new (all_handles (field_types fields.now)) required.old.items required.new.items) }
-    ensures extended { IsExtended types.old types.new }
-    ensures first { Finds (types_fault (env_of names.now) types.new (field_types fields.now)) result }
+    ensures members { IfOk result (λ made. map field_member made ≡ map (λ f. member f.docs f.name) fields.now) }
+    ensures resolves { ResolvesTypes names.now given.now types.old types.new required.old.items required.new.items (field_types fields.now) (map (λ f. f.ty)) result }
 {
     let mut resolved = Vec::with_capacity(alloc, fields.len())?;
     for written in fields {
@@ -61,24 +53,6 @@ fn resolve_fields(
         resolved.push(field(alloc, written, ty)?)?;
     }
     Ok(Row::from(resolved))
-}
-
-/// The kind of a record, whose fields are checked.
-fn resolve_record(
-    alloc: Global,
-    types: &mut Entries,
-    names: &TextTable<TypeId>,
-    required: &mut Vec<Required>,
-    given: &Stability,
-    fields: &[tree::Field<'_>],
-) -> ParseResult<TypeDefKind>
-    ensures kind { IfOk result (IsKindOf types.old types.new (env_of names.now) given.now (record_body fields.now)) }
-    ensures handled { OnOk result (Requires (env_of names.now) types.new (all_handles (field_types fields.now)) required.old.items required.new.items) }
-    ensures extended { IsExtended types.old types.new }
-    ensures first { Finds (types_fault (env_of names.now) types.new (field_types fields.now)) result }
-{
-    let fields = resolve_fields(alloc, types, names, required, given, fields)?;
-    Ok(TypeDefKind::Record(Record { fields }))
 }
 
 /// A flag.
@@ -103,21 +77,9 @@ fn flags(alloc: Global, flags: &[tree::Flag<'_>]) -> Result<Row<Flag>, AllocErro
     Ok(Row::from(made))
 }
 
-/// The kind of flags.
-fn resolve_flags(alloc: Global, span: Span, written: &[tree::Flag<'_>]) -> ParseResult<TypeDefKind>
-    ensures form { IfOk result (λ r. (kind_of r).form ≡ FlagsForm (map (λ x. member x.docs x.name) written.now)) }
-    ensures parts { IfOk result (λ r. (kind_of r).parts ≡ []) }
-    ensures first { Finds (flags_fault span written.now) result }
-{
-    check_flags(alloc, span, written)?;
-    let flags = flags(alloc, written)?;
-    Ok(TypeDefKind::Flags(Flags { flags }))
-}
-
 /// A case of a variant, with the type of what it holds.
 fn case(alloc: Global, case: &tree::Case<'_>, ty: Option<Type>) -> Result<Case, AllocError>
-    ensures name { IfOk result (λ r. (case_member r).0 ≡ member case.now.docs case.now.name) }
-    ensures ty { IfOk result (λ r. r.ty ≡ ty) }
+    ensures { IfOk result (λ r. (case_member r ≡ (member case.now.docs case.now.name, is_some ty)) × (r.ty ≡ ty)) }
 {
     Ok(Case {
         name: Text::from_str(alloc, case.name.name)?,
@@ -136,10 +98,8 @@ fn resolve_case(
     given: &Stability,
     written: &tree::Case<'_>,
 ) -> ParseResult<Case>
-    ensures made { IfOk result (IsCaseOf types.old types.new (env_of names.now) given.now written.now) }
-    ensures handled { OnOk result (Requires (env_of names.now) types.new (all_handles (option_to_list written.now.ty)) required.old.items required.new.items) }
-    ensures extended { IsExtended types.old types.new }
-    ensures first { Finds (types_fault (env_of names.now) types.new (option_to_list written.now.ty)) result }
+    ensures member { IfOk result (λ made. case_member made ≡ (member written.now.docs written.now.name, is_some written.now.ty)) }
+    ensures resolves { ResolvesTypes names.now given.now types.old types.new required.old.items required.new.items (option_to_list written.now.ty) (λ c. option_to_list c.ty) result }
 {
     match &written.ty {
         Some(ty) => {
@@ -159,10 +119,8 @@ fn resolve_cases(
     given: &Stability,
     cases: &[tree::Case<'_>],
 ) -> ParseResult<Row<Case>>
-    ensures made { IfOk result (AreCasesOf types.old types.new (env_of names.now) given.now cases.now) }
-    ensures handled { OnOk result (Requires (env_of names.now) types.new (all_handles (case_types cases.now)) required.old.items required.new.items) }
-    ensures extended { IsExtended types.old types.new }
-    ensures first { Finds (types_fault (env_of names.now) types.new (case_types cases.now)) result }
+    ensures members { IfOk result (λ made. map case_member made ≡ map (λ c. (member c.docs c.name, is_some c.ty)) cases.now) }
+    ensures resolves { ResolvesTypes names.now given.now types.old types.new required.old.items required.new.items (case_types cases.now) (filter_map (λ c. c.ty)) result }
 {
     let mut resolved = Vec::with_capacity(alloc, cases.len())?;
     for written in cases {
@@ -170,24 +128,6 @@ fn resolve_cases(
         resolved.push(case)?;
     }
     Ok(Row::from(resolved))
-}
-
-/// The kind of a variant, whose cases are checked.
-fn resolve_variant(
-    alloc: Global,
-    types: &mut Entries,
-    names: &TextTable<TypeId>,
-    required: &mut Vec<Required>,
-    given: &Stability,
-    cases: &[tree::Case<'_>],
-) -> ParseResult<TypeDefKind>
-    ensures kind { IfOk result (IsKindOf types.old types.new (env_of names.now) given.now (variant_body cases.now)) }
-    ensures handled { OnOk result (Requires (env_of names.now) types.new (all_handles (case_types cases.now)) required.old.items required.new.items) }
-    ensures extended { IsExtended types.old types.new }
-    ensures first { Finds (types_fault (env_of names.now) types.new (case_types cases.now)) result }
-{
-    let cases = resolve_cases(alloc, types, names, required, given, cases)?;
-    Ok(TypeDefKind::Variant(Variant { cases }))
 }
 
 /// A case of an enum.
@@ -212,40 +152,6 @@ fn enum_cases(alloc: Global, cases: &[tree::EnumCase<'_>]) -> Result<Row<EnumCas
     Ok(Row::from(made))
 }
 
-/// The kind of an enum.
-fn resolve_enum(
-    alloc: Global,
-    span: Span,
-    written: &[tree::EnumCase<'_>],
-) -> ParseResult<TypeDefKind>
-    ensures form { IfOk result (λ r. (kind_of r).form ≡ EnumForm (map (λ x. member x.docs x.name) written.now)) }
-    ensures parts { IfOk result (λ r. (kind_of r).parts ≡ []) }
-    ensures first { Finds (members_fault 24 (codes "case") (λ x. x.name) span written.now) result }
-{
-    check_enum(alloc, span, written)?;
-    let cases = enum_cases(alloc, written)?;
-    Ok(TypeDefKind::Enum(Enum { cases }))
-}
-
-/// The kind of a definition that is another word for a type, or its form.
-fn resolve_word(
-    alloc: Global,
-    types: &mut Entries,
-    names: &TextTable<TypeId>,
-    required: &mut Vec<Required>,
-    given: &Stability,
-    ty: &tree::Type<'_>,
-) -> ParseResult<TypeDefKind>
-    requires { IsOwn ty.now → ⊥ }
-    ensures kind { IfOk result (IsKindOf types.old types.new (env_of names.now) given.now (written_body ty.now)) }
-    ensures handled { OnOk result (Requires (env_of names.now) types.new (handles ty.now) required.old.items required.new.items) }
-    ensures extended { IsExtended types.old types.new }
-    ensures first { Finds (written_fault (env_of names.now) types.new ty.now) result }
-{
-    let reading = read(alloc, types, names, required, given, ty)?;
-    Ok(named_kind(reading))
-}
-
 /// The kind of a definition that is a type: a resource that is handed over is a handle there.
 fn resolve_plain(
     alloc: Global,
@@ -255,16 +161,14 @@ fn resolve_plain(
     given: &Stability,
     ty: &tree::Type<'_>,
 ) -> ParseResult<TypeDefKind>
-    ensures kind { IfOk result (IsKindOf types.old types.new (env_of names.now) given.now (written_body ty.now)) }
-    ensures handled { OnOk result (Requires (env_of names.now) types.new (handles ty.now) required.old.items required.new.items) }
-    ensures extended { IsExtended types.old types.new }
-    ensures first { Finds (written_fault (env_of names.now) types.new ty.now) result }
+    ensures { ResolvesBody names.now given.now types.old types.new required.old.items required.new.items (Plain ty.now) result }
 {
     if let tree::Type::Own(_, id) = ty {
         let resource = find_resource(alloc, types, names, required, *id)?;
         return Ok(TypeDefKind::Handle(Handle::Own(resource)));
     }
-    resolve_word(alloc, types, names, required, given, ty)
+    let reading = read(alloc, types, names, required, given, ty)?;
+    Ok(named_kind(reading))
 }
 
 /// The kind of a definition.
@@ -278,29 +182,31 @@ pub fn resolve_body(
     given: &Stability,
     body: &tree::TypeBody<'_>,
 ) -> ParseResult<TypeDefKind>
-    ensures kind { IfOk result (IsKindOf types.old types.new (env_of names.now) given.now (body_of body.now)) }
-    ensures handled { OnOk result (Requires (env_of names.now) types.new (all_handles (body_types body.now)) required.old.items required.new.items) }
-    ensures extended { IsExtended types.old types.new }
-    ensures first { Finds (body_fault (env_of names.now) types.new body.now) result }
+    ensures { ResolvesBody names.now given.now types.old types.new required.old.items required.new.items body.now result }
 {
     match body {
         tree::TypeBody::Record { span, fields } => {
             check_record(alloc, *span, fields)?;
-            let kind = resolve_record(alloc, types, names, required, given, fields)?;
-            Ok(kind)
+            let fields = resolve_fields(alloc, types, names, required, given, fields)?;
+            Ok(TypeDefKind::Record(Record { fields }))
         }
-        tree::TypeBody::Flags { span, flags } => {
-            let kind = resolve_flags(alloc, *span, flags)?;
-            Ok(kind)
+        tree::TypeBody::Flags {
+            span,
+            flags: written,
+        } => {
+            check_flags(alloc, *span, written)?;
+            let flags = flags(alloc, written)?;
+            Ok(TypeDefKind::Flags(Flags { flags }))
         }
         tree::TypeBody::Variant { span, cases } => {
             check_variant(alloc, *span, cases)?;
-            let kind = resolve_variant(alloc, types, names, required, given, cases)?;
-            Ok(kind)
+            let cases = resolve_cases(alloc, types, names, required, given, cases)?;
+            Ok(TypeDefKind::Variant(Variant { cases }))
         }
         tree::TypeBody::Enum { span, cases } => {
-            let kind = resolve_enum(alloc, *span, cases)?;
-            Ok(kind)
+            check_enum(alloc, *span, cases)?;
+            let cases = enum_cases(alloc, cases)?;
+            Ok(TypeDefKind::Enum(Enum { cases }))
         }
         tree::TypeBody::Resource { .. } => Ok(TypeDefKind::Resource),
         tree::TypeBody::Plain(ty) => {

@@ -1,12 +1,14 @@
 -- Arenas beside which it is stated where each entry ends, and one entry more.
-use Rattle.std.proofs.Common.{◌≡◌, ℕ, suc, List, [], ◌∷◌, ◌++◌, length, Option, Some, inl, inr, refl, sym, ap, ◌∙◌, subst, length-append, arith}
-use Rattle.wit_syntax.proofs.Common.{TypeDef, TypeDefKind, at_either, slice_get, slice_get_within, take-append_seam}
+use Rattle.std.proofs.Common.{◌≡◌, ℕ, suc, List, [], ◌∷◌, ◌++◌, length, take, Option, Some, None, inl, inr, refl, sym, ap, ◌∙◌, subst, length-append, arith}
+use Rattle.wit_syntax.proofs.Common.{TypeDef, TypeDefKind, at_either, at_within, slice_get, slice_get_within, take-append_seam}
 use Rattle.wit_types.specs.declared.types.«Type».TheVariants as type
 use Rattle.wit_types.specs.declared.types.TypeDefKind.TheVariants as kind
 use Rattle.wit_types.specs.declared.types.Handle.TheVariants as handle
-use Rattle.wit_arena.proofs.Common.{EntryEnd, entry_end, entry_end-same, found_end, kind_end, kind_of}
+use Rattle.wit_arena.proofs.Common.{EntryEnd, IsOther, entry_end, entry_end-same, found_end, kind_end, kind_of}
 use Rattle.wit_entries.specs.declared.ends.End.{End}
-use Rattle.wit_entries.specs.EndsOfEntries.{end_means, EndsAt, EndsNext, AreAsStated}
+use Rattle.wit_entries.specs.EndsOfEntries.{end_means, EndsNext, AreAsStated}
+use Rattle.wit_entries.specs.EntryFaults.{end_in}
+use Rattle.wit_entries.proofs.Ending.{found_in}
 
 at_last : {X : Type 0} (xs : List X) (x : X) → slice_get (xs ++ x ∷ []) (length xs) ≡ Some x
 at_last [] x = refl
@@ -24,27 +26,40 @@ ends_kind es kind.Resource x h = (1, ap (λ (y : End). Some (end_means y)) (sym 
 ends_kind es kind.Unknown x h = (1, ap (λ (y : End). Some (end_means y)) (sym h))
 ends_kind es (kind.Handle (handle.Own r)) x h = (1, ap (λ (y : End). Some (end_means y)) (sym h))
 ends_kind es (kind.Handle (handle.Borrow r)) x h = (1, ap (λ (y : End). Some (end_means y)) (sym h))
-ends_kind es (kind.Type_ (type.Id i)) x h = (h.steps, h.is)
+ends_kind es (kind.Type_ (type.Id i)) x h = (suc (suc i), h)
 ends_kind es (kind.Type_ t) x h = (1, ap (λ (y : End). Some (end_means y)) (sym h))
 ends_kind es k x h = (1, ap (λ (y : End). Some (end_means y)) (sym h))
 
-pub ends_last : (es : List TypeDef) (e : TypeDef) (x : End) → EndsNext es e.kind x → EndsAt (es ++ e ∷ []) (length es) x
+pub ends_last : (es : List TypeDef) (e : TypeDef) (x : End) → EndsNext es e.kind x → end_in (es ++ e ∷ []) (length es) ≡ Some (end_means x)
 ends_last es e x h =
     let it = ends_kind es e.kind x h in
-    record { steps = suc it.0; is = last_end it.0 es e ∙ it.1 }
+    found_in (suc it.0) (es ++ e ∷ []) (length es) (end_means x) (last_end it.0 es e ∙ it.1)
 
 -- one entry more
-pub stated_more : (ends : List End) (es : List TypeDef) (e : TypeDef) (x : End) → AreAsStated ends es → EndsAt (es ++ e ∷ []) (length es) x → AreAsStated (ends ++ x ∷ []) (es ++ e ∷ [])
+pub stated_more : (ends : List End) (es : List TypeDef) (e : TypeDef) (x : End) → AreAsStated ends es → end_in (es ++ e ∷ []) (length es) ≡ Some (end_means x) → AreAsStated (ends ++ x ∷ []) (es ++ e ∷ [])
 stated_more ends es e x as_stated last = record {
   count = (let a = length-append ends (x ∷ []) in let b = length-append es (e ∷ []) in let c = as_stated.count in omega arith);
   each = λ i y at. elim (at_either ends x i y at) [
     | inl there ↦ (
-        let h = as_stated.each i y there in
         let lt = slice_get_within ends i y there in
         let count = as_stated.count in
-        record { steps = h.steps; is = entry_end-same h.steps es (e ∷ []) i (omega arith) ∙ h.is })
+        entry_end-same (suc (suc i)) es (e ∷ []) i (omega arith) ∙ as_stated.each i y there)
     | inr here ↦ (
         let place : length es ≡ i = sym (here.0 ∙ as_stated.count) in
-        subst (λ (j : ℕ). EndsAt (es ++ e ∷ []) j y) place (subst (EndsAt (es ++ e ∷ []) (length es)) (sym here.1) last))
+        subst (λ (j : ℕ). end_in (es ++ e ∷ []) j ≡ Some (end_means y)) place (subst (λ (z : End). end_in (es ++ e ∷ []) (length es) ≡ Some (end_means z)) (sym here.1) last))
   ];
 }
+
+-- nothing is at a place past the last one
+pub past_other : (ends : List End) (es : List TypeDef) (i : ℕ) → AreAsStated ends es → slice_get ends i ≡ None → end_in es i ≡ Some IsOther
+past_other ends es i as_stated none = by (slice_get es i) refl
+  where
+    by : (o : Option TypeDef) → slice_get es i ≡ o → end_in es i ≡ Some IsOther
+    by None is = ap (found_end (entry_end (suc i) (take i es)) i) is
+    by (Some x) is = absurd (
+        let lt = slice_get_within es i x is in
+        let count = as_stated.count in
+        let there = at_within ends i (omega arith) in
+        let wrong : None ≡ Some there.0 = sym none ∙ there.1 in
+        let f : ⊥ = cc in
+        f)

@@ -2,17 +2,13 @@
 use Rattle.std.proofs.Common.{◌≡◌, ◌⊎◌, ℕ, Bool, true, false, List, [], ◌∷◌, ◌++◌, length, Option, Some, None, if◌then◌else◌, inl, inr, refl, sym, ap, ◌∙◌}
 use Rattle.std.specs.Bool.{Decides}
 use Rattle.wit_syntax.proofs.Common.{Span, Stability, TypeDef, TypeDefKind, at_either}
-use Rattle.wit_arena.proofs.Common.{At, IsUnnamedOf, unnamed}
+use Rattle.wit_arena.proofs.Common.{unnamed}
 use Rattle.wit_intern.specs.declared.key.InternKey.{InternKey}
 use Rattle.wit_intern.specs.TypeKeys.{key_of}
 use Rattle.wit_intern.specs.FiniteMap.{FiniteMap}
 use Rattle.wit_intern.proofs.TypeKeys.{keys_determine}
 use Rattle.wit_intern.proofs.SameKeys.{Decides-key}
-use Rattle.wit_entries.specs.Known.{AreKnown, IsSet, Keyless, AtKeyHash, AtKey, key_hash_of}
-
--- no unnamed entry is of the kind
-abbrev pub IsMissing : TypeDefKind → List TypeDef → Type 0
-IsMissing kind es = (j : ℕ) (e : TypeDef) → At es j e → IsUnnamedOf kind e → ⊥
+use Rattle.wit_entries.specs.Known.{AreKnown, IsMissing, IsSet, Keyless, AtKeyHash, AtKey, key_hash_of}
 
 chosen : {P : Type 0} {X : Type 0} (b : Bool) (x y : X) → Decides b P → P → (if b then x else y) ≡ x
 chosen true x y d p = refl

@@ -1,7 +1,7 @@
 pub mod Reading
 mod Digested
 mod Known
-pub mod FormKinds
+pub mod Resolves
 mod EndsOfEntries
 pub mod Requiring
 mod Settled

@@ -12,7 +12,7 @@ use Rattle.wit_arena.proofs.UnnamedKinds.{only_anonymous}
 use Rattle.wit_arena.proofs.Resolving.{resolved_more, resolved_whole}
 use Rattle.wit_entries.specs.declared.types.Reading.{Reading}
 use Rattle.wit_entries.specs.declared.types.Reading.TheVariants as reading
-use Rattle.wit_entries.specs.ResolvedForms.{IsResolved, AreParts, AreTypes, IsKindOf, IsLeaf, IsOwn, IsForm, IsRead, Denotes, named_kind}
+use Rattle.wit_entries.specs.ResolvedForms.{IsResolved, AreParts, AreTypes, IsKindOf, IsLeaf, IsForm, IsRead, named_kind}
 
 -- the type of a name
 pub resolved_word : (es : List TypeDef) (env : Env) (given : Stability) (id : Name) (i : ℕ) → env id.name.now ≡ Some i → IsResolved es es env given (Word id) (Id i)
@@ -24,11 +24,6 @@ whole_present old mid new env given (Prim p) k span i form interned s = absurd f
 whole_present old mid new env given (Word id) k span i form interned s = absurd form
 whole_present old mid new env given (Of at f parts) k span i form interned s =
     rw (form.0, ← form.1) (resolved_whole k given span i (only_anonymous k (subst IsAnonymousForm (sym form.1) form.2)) (form.3 s) interned)
-
--- the type that means what was read
-pub read_present : (old mid new : List TypeDef) (env : Env) (given : Stability) (x : Shape) (r : Reading) (ty : Ty) → IsRead old mid env given x r → Denotes mid new given r ty → IsResolved old new env given x ty
-read_present old mid new env given x (reading.Leaf t) ty read present = rw (present.0, present.1) read.1
-read_present old mid new env given x (reading.Form k span) ty read present = rw present.1 (whole_present old mid new env given x k span present.0 read present.2)
 
 -- a type by itself as one part
 pub alone : {old new : List TypeDef} {env : Env} {ty : Ty} (given : Stability) (x : Shape) → IsResolved old new env given x ty → AreParts old new env given (one x) (ty ∷ [])
@@ -51,6 +46,11 @@ read_kind old new env given x (reading.Leaf t) read = rw (leaf_head x read.0) (r
 read_kind old new env given (Prim p) (reading.Form k span) read = absurd read
 read_kind old new env given (Word id) (reading.Form k span) read = absurd read
 read_kind old new env given (Of at form parts) (reading.Form k span) read = record { form = read.1; parts = read.3 }
+
+-- a resource that is handed over
+abbrev pub IsOwn : Written → Type 0
+IsOwn (written.Own span id) = Unit {0}
+IsOwn t = ⊥
 
 -- every other type than one that is handed over is under a name as it does by itself
 plain_body : (t : Written) → (IsOwn t → ⊥) → written_body t ≡ head (shape_of t)

@@ -1,8 +1,9 @@
 -- Arenas that grow, and what handles require, one after another.
-use Rattle.std.proofs.Common.{◌≡◌, List, [], ◌∷◌, ◌++◌, refl, sym, ap, ◌∙◌, subst, append_assoc}
+use Rattle.std.proofs.Common.{◌≡◌, ℕ, suc, List, [], ◌∷◌, ◌++◌, Some, inl, inr, refl, sym, ap, ◌∙◌, subst, append_assoc}
 use Rattle.wit_syntax.proofs.Common.{Id, TypeDef, all_handles, append-nil, handles, part_types}
 use Rattle.wit_type_tree.specs.declared.types.«Type».{«Type» as Written}
-use Rattle.wit_arena.proofs.Common.{AreEnded, Env, IsNoHandle, Required, all_handles-append, ended_append, ended_more, handles-parts}
+use Rattle.wit_arena.proofs.Common.{AreEnded, Env, IsNoHandle, IsResource, IsUnknown, Required, all_handles-append, ended_append, ended_more, handles-parts}
+use Rattle.wit_entries.specs.EntryFaults.{end_in}
 use Rattle.wit_entries.specs.Requiring.{IsExtended, Requires}
 
 pub extended_then : (old mid new : List TypeDef) → IsExtended old mid → IsExtended mid new → IsExtended old new
@@ -11,6 +12,13 @@ extended_then old mid new p q = record { more = p.more ++ q.more; is = q.is ∙ 
 -- nothing is required
 pub requires_none : (env : Env) (es : List TypeDef) (rs : List Required) → Requires env es [] rs rs
 requires_none env es rs = record { list = []; added = sym (append-nil rs); ended = refl }
+
+-- by one name, which ends at a resource, or at an unknown type
+pub requires_resource : (env : Env) (es : List TypeDef) (id : Id) (place : ℕ) (rs : List Required) → env id.name.now ≡ Some place → end_in es place ≡ Some IsResource → Requires env es (id ∷ []) rs rs
+requires_resource env es id place rs present is = record { list = []; added = sym (append-nil rs); ended = (place, suc (suc place), present, inl (is, refl)) }
+
+pub requires_unknown : (env : Env) (es : List TypeDef) (id : Id) (place unknown : ℕ) (a b : List Required) → env id.name.now ≡ Some place → end_in es place ≡ Some (IsUnknown unknown) → b ≡ a ++ (unknown, id.span) ∷ [] → Requires env es (id ∷ []) a b
+requires_unknown env es id place unknown a b present is pushed = record { list = (unknown, id.span) ∷ []; added = pushed; ended = (place, suc (suc place), present, inr (unknown, [], is, refl, refl)) }
 
 -- in a grown arena
 pub requires_extended : (env : Env) (es new : List TypeDef) (ids : List Id) (a b : List Required) → IsExtended es new → Requires env es ids a b → Requires env new ids a b

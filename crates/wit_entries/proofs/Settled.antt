@@ -1,13 +1,13 @@
 -- The first known stability of the parts of a kind, slot by slot.
 use Rattle.std.proofs.Common.{◌≡◌, ℕ, zero, suc, ◌+◌, List, [], ◌∷◌, ◌++◌, take, Option, Some, None, refl, sym, ap, ◌∙◌}
-use Rattle.wit_syntax.proofs.Common.{Field, Stability, TypeDef, TypeDefKind, cons_option, first_known, get_or_from_slice_get, map, map_map, option_map, option_to_list, slice_get, slice_get-map, slice_get_within, slots, take_more}
+use Rattle.wit_syntax.proofs.Common.{Field, Stability, TypeDef, TypeDefKind, cons_option, first_known, get_or_from_slice_get, map, map_map, option_map, option_to_list, slice_get, slice_get-map, slice_get_within, slots, take_more, filter_map}
 use Rattle.wit_types.specs.declared.stability.Stability.TheVariants as stability
 use Rattle.wit_types.specs.declared.types.Case.{Case}
 use Rattle.wit_types.specs.declared.types.Handle.{Handle}
 use Rattle.wit_types.specs.declared.types.«Type».{«Type» as Ty}
 use Rattle.wit_types.specs.declared.types.TypeDefKind.TheVariants as kind
-use Rattle.wit_arena.proofs.Common.{kind_of, payloads, stability_at}
-use Rattle.wit_entries.specs.FirstStability.{known, slot_stability, known_in_slots, known_in_parts}
+use Rattle.wit_arena.proofs.Common.{kind_of, stability_at}
+use Rattle.wit_entries.specs.FirstStability.{known, slot_stability}
 
 -- a known one is the first of all after it
 first_here : (x : Stability) (xs : List Stability) (s : Stability) → known x ≡ Some s → known (first_known (x ∷ xs)) ≡ Some s
@@ -44,7 +44,7 @@ abbrev pub IsNoneKnown : List TypeDef → TypeDefKind → ℕ → Type 0
 IsNoneKnown es k i = known (first_known (take i (map (slot_stability es) (slots k)))) ≡ None
 
 -- the first known one is in a slot after those of which none is known
-pub known_here : (es : List TypeDef) (k : TypeDefKind) (i : ℕ) (t : Option Ty) (s : Stability) → slice_get (slots k) i ≡ Some t → IsNoneKnown es k i → known (slot_stability es t) ≡ Some s → known_in_slots es k ≡ Some s
+pub known_here : (es : List TypeDef) (k : TypeDefKind) (i : ℕ) (t : Option Ty) (s : Stability) → slice_get (slots k) i ≡ Some t → IsNoneKnown es k i → known (slot_stability es t) ≡ Some s → known (first_known (map (slot_stability es) (slots k))) ≡ Some s
 known_here es k i t s at none is = first_after (map (slot_stability es) (slots k)) i (slot_stability es t) s (slot_at es k i t at) none is
 
 -- nor in one slot more
@@ -66,9 +66,9 @@ option_slot : (es : List TypeDef) (o : Option Ty) (ts : List Ty) (xs : List Stab
 option_slot es None ts xs h = h
 option_slot es (Some t) ts xs h = first_more (stability_at es t) (map (stability_at es) ts) xs h
 
-case_slots : (es : List TypeDef) (cs : List Case) → first_known (map (stability_at es) (payloads cs)) ≡ first_known (map (slot_stability es) (map (λ (c : Case). c.ty) cs))
+case_slots : (es : List TypeDef) (cs : List Case) → first_known (map (stability_at es) (filter_map (λ (c : Case). c.ty) cs)) ≡ first_known (map (slot_stability es) (map (λ (c : Case). c.ty) cs))
 case_slots es [] = refl
-case_slots es (c ∷ cs) = option_slot es c.ty (payloads cs) (map (slot_stability es) (map (λ (x : Case). x.ty) cs)) (case_slots es cs)
+case_slots es (c ∷ cs) = option_slot es c.ty (filter_map (λ (c : Case). c.ty) cs) (map (slot_stability es) (map (λ (x : Case). x.ty) cs)) (case_slots es cs)
 
 option_parts : (es : List TypeDef) (o : Option Ty) → first_known (map (stability_at es) (option_to_list o)) ≡ first_known (slot_stability es o ∷ [])
 option_parts es None = refl
@@ -103,5 +103,5 @@ parts_in_slots es (kind.Stream t) other = option_parts es t
 parts_in_slots es (kind.Type_ t) other = refl
 parts_in_slots es kind.Unknown other = refl
 
-pub slots_determine : (es : List TypeDef) (k : TypeDefKind) → ((h : Handle) → k ≡ kind.Handle h → ⊥) → known_in_parts es k ≡ known_in_slots es k
+pub slots_determine : (es : List TypeDef) (k : TypeDefKind) → ((h : Handle) → k ≡ kind.Handle h → ⊥) → known (first_known (map (stability_at es) (kind_of k).parts)) ≡ known (first_known (map (slot_stability es) (slots k)))
 slots_determine es k other = ap known (parts_in_slots es k other)

@@ -1,6 +1,5 @@
 -- The type that a list or an option is made of.
 use Rattle.std.specs.Prelude.{◌≡◌, ◌+◌, ℕ, List, Option, Some, None}
-use Rattle.wit_types.specs.declared.types.«Type».{«Type»}
 use Rattle.wit_types.specs.declared.types.«Type».TheVariants.{Id}
 use Rattle.wit_types.specs.declared.types.TypeDef.{TypeDef}
 use Rattle.wit_types.specs.declared.types.TypeDefKind.{TypeDefKind}
@@ -8,15 +7,10 @@ use Rattle.wit_types.specs.declared.types.TypeDefKind.TheVariants as kind
 use Rattle.wit_arena.specs.Resolving.{IsUnnamedOf}
 use Rattle.wit_arena.specs.UnfoldedTypes.{At}
 
--- the place of a type, unless it is a primitive
-abbrev pub place_of : «Type» → Option ℕ
-place_of (Id i) = Some i
-place_of ty = None
-
 -- the place of the type that a list or an option is made of, unless that is a primitive
 abbrev pub inner_of : TypeDefKind → Option ℕ
-inner_of (kind.List ty) = place_of ty
-inner_of (kind.Option ty) = place_of ty
+inner_of (kind.List (Id i)) = Some i
+inner_of (kind.Option (Id i)) = Some i
 inner_of k = None
 
 -- the unnamed type of a kind is not right after the unnamed type that it is made of

@@ -4,7 +4,8 @@ use Rattle.wit_types.specs.declared.types.«Type».TheVariants as type
 use Rattle.wit_types.specs.declared.types.TypeDef.{TypeDef}
 use Rattle.wit_types.specs.declared.types.TypeDefKind.{TypeDefKind}
 use Rattle.wit_types.specs.declared.types.TypeDefKind.TheVariants as kind
-use Rattle.wit_arena.specs.EntryEnds.{EntryEnd, IsResource, IsUnknown, IsOther, entry_end}
+use Rattle.wit_arena.specs.EntryEnds.{EntryEnd, IsResource, IsUnknown, IsOther}
+use Rattle.wit_entries.specs.EntryFaults.{end_in}
 use Rattle.wit_entries.specs.declared.ends.End.{End}
 use Rattle.wit_entries.specs.declared.ends.End.TheVariants as end
 
@@ -14,19 +15,14 @@ end_means end.Resource = IsResource
 end_means (end.Unknown place) = IsUnknown place
 end_means end.Other = IsOther
 
--- the entry at a place ends there
-pub record EndsAt (es : List TypeDef) (place : ℕ) (end : End) : Type 0 where
-  pub steps : ℕ
-  pub is : entry_end steps es place ≡ Some (end_means end)
-
 -- an entry of this kind ends there, if it is the next one: another word for a type where that does
 abbrev pub EndsNext : List TypeDef → TypeDefKind → End → Type 0
 EndsNext es kind.Resource x = x ≡ end.Resource
 EndsNext es kind.Unknown x = x ≡ end.Unknown (length es)
-EndsNext es (kind.Type_ (type.Id i)) x = EndsAt es i x
+EndsNext es (kind.Type_ (type.Id i)) x = end_in es i ≡ Some (end_means x)
 EndsNext es _ x = x ≡ end.Other
 
 -- each entry of an arena ends where it is stated to
 pub record AreAsStated (ends : List End) (es : List TypeDef) : Type 0 where
   pub count : length ends ≡ length es
-  pub each : (i : ℕ) (e : End) → slice_get ends i ≡ Some e → EndsAt es i e
+  pub each : (i : ℕ) (e : End) → slice_get ends i ≡ Some e → end_in es i ≡ Some (end_means e)

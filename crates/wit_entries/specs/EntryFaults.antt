@@ -3,7 +3,6 @@ use Rattle.std.specs.Prelude.{ℕ, suc, List, Option, Some, None}
 use Rattle.std.specs.Option.{option_or}
 use Rattle.wit_type_tree.specs.declared.leaves.Id.{Id}
 use Rattle.wit_type_tree.specs.declared.types.«Type».{«Type» as Written}
-use Rattle.wit_type_tree.specs.declared.types.ResultTypes.{ResultTypes}
 use Rattle.wit_type_tree.specs.declared.types.TypeBody.{TypeBody}
 use Rattle.wit_type_tree.specs.declared.types.TypeDef.{TypeDef as Definition}
 use Rattle.wit_type_tree.specs.TypeParts.{body_types}
@@ -12,7 +11,7 @@ use Rattle.wit_syntax.specs.Fault.{Fault, missing_type_at, no_resource}
 use Rattle.wit_first.specs.AttributeFaults.{metadata_fault}
 use Rattle.wit_first.specs.First.{first_in}
 use Rattle.wit_first.specs.ListFaults.{list_fault}
-use Rattle.wit_first.specs.TypeFaults.{type_fault, outcome_fault}
+use Rattle.wit_first.specs.TypeFaults.{type_fault}
 use Rattle.wit_arena.specs.EntryEnds.{EntryEnd, IsOther, entry_end}
 use Rattle.wit_arena.specs.Resolving.{Env}
 
@@ -44,12 +43,9 @@ handle_fault lost env es id = handled_fault lost es id (env id.name.now)
 abbrev pub named_fault : (Id → Fault) → Env → List TypeDef → Written → Option Fault
 named_fault lost env es t = type_fault (name_fault lost env) (handle_fault lost env es) t
 
--- of a type, of the types of a result, and of types one after another, in a definition
+-- of a type, and of types one after another, in a definition
 abbrev pub written_fault : Env → List TypeDef → Written → Option Fault
 written_fault env es t = named_fault missing_type_at env es t
-
-abbrev pub either_fault : Env → List TypeDef → ResultTypes → Option Fault
-either_fault env es of = outcome_fault (name_fault missing_type_at env) (handle_fault missing_type_at env es) of
 
 abbrev pub types_fault : Env → List TypeDef → List Written → Option Fault
 types_fault env es ts = first_in (written_fault env es) ts

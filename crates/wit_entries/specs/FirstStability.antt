@@ -1,13 +1,9 @@
--- The first stability that is known, among the parts of a kind.
-use Rattle.std.specs.Prelude.{List, Option, Some, None, map}
+-- The stabilities that are known, among those of what is in a kind.
+use Rattle.std.specs.Prelude.{List, Option, Some, None}
 use Rattle.wit_types.specs.declared.stability.Stability.{Stability}
 use Rattle.wit_types.specs.declared.stability.Stability.TheVariants as stability
 use Rattle.wit_types.specs.declared.types.«Type».{«Type» as Ty}
 use Rattle.wit_types.specs.declared.types.TypeDef.{TypeDef}
-use Rattle.wit_types.specs.declared.types.TypeDefKind.{TypeDefKind}
-use Rattle.wit_types.specs.InnerTypes.{slots}
-use Rattle.wit_arena.specs.Kind.{kind_of}
-use Rattle.wit_syntax.specs.Metadata.{first_known}
 use Rattle.wit_arena.specs.Occurrences.{stability_at}
 
 -- a stability, where it is known
@@ -20,11 +16,3 @@ known (stability.Stable since deprecated) = Some (stability.Stable since depreca
 abbrev pub slot_stability : List TypeDef → Option Ty → Stability
 slot_stability es None = stability.Unknown
 slot_stability es (Some t) = stability_at es t
-
--- the first known one of the slots of a kind
-abbrev pub known_in_slots : List TypeDef → TypeDefKind → Option Stability
-known_in_slots es kind = known (first_known (map (slot_stability es) (slots kind)))
-
--- of its parts
-abbrev pub known_in_parts : List TypeDef → TypeDefKind → Option Stability
-known_in_parts es kind = known (first_known (map (stability_at es) (kind_of kind).parts))

@@ -3,6 +3,8 @@ use Rattle.std.specs.Prelude.{◌≡◌, ◌⊎◌, ℕ, List, Option, Some, Non
 use Rattle.std.specs.Hash.FoldHasher.{initial, write, finish}
 use Rattle.std.specs.List.{fold}
 use Rattle.wit_types.specs.declared.types.TypeDef.{TypeDef}
+use Rattle.wit_types.specs.declared.types.TypeDefKind.{TypeDefKind}
+use Rattle.wit_arena.specs.Resolving.{IsUnnamedOf}
 use Rattle.wit_arena.specs.UnfoldedTypes.{At}
 use Rattle.wit_intern.specs.contracts.key.InternKeyHash.TheImpl.{hash_input-value as key_writes}
 use Rattle.wit_intern.specs.declared.key.InternKey.{InternKey}
@@ -22,3 +24,12 @@ pub data IsSet (key : Option InternKey) (i : ℕ) (key_hashes : ℕ → Option �
   Keyless : key ≡ None → new_key_hashes ≡ key_hashes → new_keys ≡ keys → IsSet key i key_hashes keys new_key_hashes new_keys
   AtKeyHash : (k : InternKey) → key ≡ Some k → ((n j : ℕ) → key_hashes n ≡ Some j → new_key_hashes n ≡ Some j) → new_key_hashes (key_hash_of k) ≡ Some i → new_keys ≡ keys → IsSet key i key_hashes keys new_key_hashes new_keys
   AtKey : (k : InternKey) → key ≡ Some k → new_key_hashes ≡ key_hashes → new_keys ≡ set_at k i keys → IsSet key i key_hashes keys new_key_hashes new_keys
+
+-- no unnamed entry is of a kind
+abbrev pub IsMissing : TypeDefKind → List TypeDef → Type 0
+IsMissing kind es = (j : ℕ) (e : TypeDef) → At es j e → IsUnnamedOf kind e → ⊥
+
+-- the unnamed entry of a kind is at a place, or where there is no place this is so
+abbrev pub IsFoundOr : Type 0 → List TypeDef → TypeDefKind → Option ℕ → Type 0
+IsFoundOr Other es kind (Some i) = (e : TypeDef) × At es i e × IsUnnamedOf kind e
+IsFoundOr Other es kind None = Other

@@ -1,10 +1,10 @@
 //! Where the entries of an arena end, through names that are other words for a type.
-ghost use Rattle.std.specs.Prelude.{◌≡◌, List, [], ◌∷◌, ◌++◌, length, IfOk, IfErr, OnOk, OnErr};
-ghost use Rattle.wit_type_tree.specs.RefusalText.{IsAllocationFailure};
+ghost use Rattle.std.specs.Prelude.{◌≡◌, List, Some, [], ◌∷◌, ◌++◌, length, IfOk, OnOk, OnErr};
 ghost use Rattle.wit_types.specs.declared.types.TypeDef.{TypeDef};
-ghost use Rattle.wit_entries.specs.EndsOfEntries.{EndsAt, EndsNext, AreAsStated};
+ghost use Rattle.wit_entries.specs.EndsOfEntries.{EndsNext, AreAsStated, end_means};
+ghost use Rattle.wit_entries.specs.EntryFaults.{end_in};
 
-use wit_tree::ParseResult;
+use std::alloc::AllocError;
 use wit_types::{Arena, Type, TypeDef, TypeDefKind, TypeId, TypePlace};
 
 /// Where a type ends.
@@ -20,7 +20,7 @@ pub enum End {
 
 /// Where the entry at a place ends; nothing comes after the last one.
 pub(crate) fn end_at(ends: &[End], id: TypeId) -> End
-    ensures { (es : List TypeDef) → AreAsStated ends.now es → EndsAt es id result }
+    ensures { (es : List TypeDef) → AreAsStated ends.now es → end_in es id ≡ Some (end_means result) }
 {
     match ends.get(id.index()) {
         Some(end) => *end,
@@ -47,12 +47,11 @@ pub(crate) fn add_entry(
     types: &mut Arena<TypeDef, TypePlace>,
     ends: &mut Vec<End>,
     entry: TypeDef,
-) -> ParseResult<TypeId>
+) -> Result<TypeId, AllocError>
     ensures id { IfOk result (λ id. id ≡ length types.old) }
     ensures added { OnOk result (types.new ≡ types.old ++ entry ∷ []) }
     ensures kept { OnErr result (types.new ≡ types.old) }
     ensures as_stated { AreAsStated ends.old.items types.old → AreAsStated ends.new.items types.new }
-    ensures refused { IfErr result IsAllocationFailure }
 {
     let end = end_of(ends, &entry.kind, types.next_id());
     ends.push(end)?;
@@ -60,7 +59,7 @@ pub(crate) fn add_entry(
         Ok(id) => Ok(id),
         Err(e) => {
             ends.pop();
-            Err(e.into())
+            Err(e)
         }
     }
 }

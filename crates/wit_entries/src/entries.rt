@@ -1,6 +1,5 @@
 //! The types of a package, while they are made: each unnamed one once.
-ghost use Rattle.std.specs.Prelude.{◌≡◌, ◌+◌, ℕ, None, Some, [], ◌∷◌, ◌++◌, ◌↔◌, length, IsTrue, IfOk, OnOk, OnErr, IfErr, IfSome, IfNone};
-ghost use Rattle.wit_type_tree.specs.RefusalText.{IsAllocationFailure};
+ghost use Rattle.std.specs.Prelude.{◌≡◌, ◌+◌, None, Some, [], ◌∷◌, ◌++◌, ◌↔◌, length, IsTrue, IfOk, OnOk, OnErr};
 ghost use Rattle.wit_types.specs.declared.types.TypeDef.{TypeDef};
 ghost use Rattle.wit_arena.specs.Occurrences.{settled as the_settled};
 ghost use Rattle.wit_arena.specs.UnfoldedTypes.{At};
@@ -8,10 +7,10 @@ ghost use Rattle.wit_arena.specs.Resolving.{IsUnnamedOf, IsInterned, named, unna
 ghost use Rattle.wit_intern.specs.TypeKeys.{key_of};
 ghost use Rattle.wit_notes.specs.BorrowedMetadata.{metadata_view};
 ghost use Rattle.wit_entries.specs.ElementTypes.{IsNotAfter, inner_of};
-ghost use Rattle.wit_entries.specs.Known.{AreKnown, IsSet};
+ghost use Rattle.wit_entries.specs.Known.{AreKnown, IsFoundOr, IsMissing, IsSet};
 ghost use Rattle.wit_entries.specs.UnnamedTypes.{key_hashes_at, keys_at};
 ghost use Rattle.wit_entries.specs.EntryFaults.{end_in};
-ghost use Rattle.wit_entries.specs.EndsOfEntries.{EndsAt, end_means};
+ghost use Rattle.wit_entries.specs.EndsOfEntries.{end_means};
 ghost use Rattle.wit_entries.specs.Requiring.{IsExtended};
 
 use crate::ends::{End, add_entry, end_at};
@@ -21,8 +20,8 @@ use std::alloc::{AllocError, Global};
 use std::marker::Model;
 use wit_intern::InternKey;
 use wit_notes::Metadata;
+use wit_tree::Span;
 use wit_tree::tree::Id;
-use wit_tree::{ParseResult, Span};
 use wit_types::{
     Arena, Docs, Stability, Type, TypeDef, TypeDefKind, TypeId, TypeOwner, TypePlace, is_same_kind,
 };
@@ -72,8 +71,7 @@ fn is_unnamed_of(entry: &TypeDef, kind: &TypeDefKind) -> bool
 
 /// The unnamed type of a kind, where there is one, by looking at each entry.
 fn find_unnamed(types: &Arena<TypeDef, TypePlace>, kind: &TypeDefKind) -> Option<TypeId>
-    ensures found { IfSome result (λ i. (e : TypeDef) × At types.now i e × IsUnnamedOf kind.now e) }
-    ensures none { IfNone result ((j : ℕ) (e : TypeDef) → At types.now j e → IsUnnamedOf kind.now e → ⊥) }
+    ensures { IsFoundOr (IsMissing kind.now types.now) types.now kind.now result }
 {
     for place in 0..types.len() {
         let id = types.id_at(place);
@@ -86,8 +84,7 @@ fn find_unnamed(types: &Arena<TypeDef, TypePlace>, kind: &TypeDefKind) -> Option
 
 /// The place, where the unnamed type of a kind is there.
 fn confirmed(types: &Arena<TypeDef, TypePlace>, id: TypeId, kind: &TypeDefKind) -> Option<TypeId>
-    ensures found { IfSome result (λ i. (e : TypeDef) × At types.now i e × IsUnnamedOf kind.now e) }
-    ensures none { IfNone result ((e : TypeDef) → At types.now id e → IsUnnamedOf kind.now e → ⊥) }
+    ensures { IsFoundOr ((e : TypeDef) → At types.now id e → IsUnnamedOf kind.now e → ⊥) types.now kind.now result }
 {
     if id.index() < types.len() {
         if is_unnamed_of(types.get(id), kind) {
@@ -110,8 +107,7 @@ fn inner_of(kind: &TypeDefKind) -> Option<TypeId>
 /// The unnamed type of a kind, if it is right after the unnamed type that it is made of: there it
 /// was added if that was new too.
 fn find_aliased(types: &Arena<TypeDef, TypePlace>, kind: &TypeDefKind) -> Option<TypeId>
-    ensures found { IfSome result (λ i. (e : TypeDef) × At types.now i e × IsUnnamedOf kind.now e) }
-    ensures none { IfNone result (IsNotAfter types.now kind.now) }
+    ensures { IsFoundOr (IsNotAfter types.now kind.now) types.now kind.now result }
 {
     let inner = inner_of(kind)?;
     let place = inner.index();
@@ -171,11 +167,10 @@ impl Entries {
         name: Id<'_>,
         metadata: Metadata,
         kind: TypeDefKind,
-    ) -> ParseResult<TypeId>
+    ) -> Result<TypeId, AllocError>
         ensures id { IfOk result (λ id. id ≡ length self.old) }
         ensures added { OnOk result (self.new ≡ self.old ++ named owner name.entry.name.now kind (metadata_view metadata) name.entry.span ∷ []) }
         ensures extended { IsExtended self.old self.new }
-        ensures refused { IfErr result IsAllocationFailure }
     {
         let text = Text::from_str(alloc, name.name)?;
         let entry = TypeDef {
@@ -193,8 +188,7 @@ impl Entries {
 
     /// Where the entry at an id ends, through names that are other words for a type.
     pub fn end(&self, id: TypeId) -> End
-        ensures ends { EndsAt self.now id result }
-        ensures end { end_in self.now id ≡ Some (end_means result) }
+        ensures { end_in self.now id ≡ Some (end_means result) }
     {
         end_at(&self.ends, id)
     }
@@ -202,8 +196,7 @@ impl Entries {
     /// The unnamed type of a kind with this key, where there is one.
     fn find_keyed(&self, key: &InternKey, kind: &TypeDefKind) -> Option<TypeId>
         requires { Some key.now ≡ key_of kind.now }
-        ensures found { IfSome result (λ i. (e : TypeDef) × At self.now i e × IsUnnamedOf kind.now e) }
-        ensures none { IfNone result ((j : ℕ) (e : TypeDef) → At self.now j e → IsUnnamedOf kind.now e → ⊥) }
+        ensures { IsFoundOr (IsMissing kind.now self.now) self.now kind.now result }
     {
         if let Some(id) = self.table.at_key_hash(key) {
             if let Some(found) = confirmed(&self.arena, id, kind) {
@@ -219,8 +212,7 @@ impl Entries {
     /// The unnamed type of a kind, where there is one. A kind without a key is looked for in each entry.
     fn find(&self, key: &Option<InternKey>, kind: &TypeDefKind) -> Option<TypeId>
         requires { key.now ≡ key_of kind.now }
-        ensures found { IfSome result (λ i. (e : TypeDef) × At self.now i e × IsUnnamedOf kind.now e) }
-        ensures none { IfNone result ((j : ℕ) (e : TypeDef) → At self.now j e → IsUnnamedOf kind.now e → ⊥) }
+        ensures { IsFoundOr (IsMissing kind.now self.now) self.now kind.now result }
     {
         match key {
             Some(key) => self.find_keyed(key, kind),
@@ -240,13 +232,12 @@ impl Entries {
         kind: TypeDefKind,
         given: &Stability,
         span: Span,
-    ) -> ParseResult<TypeId>
+    ) -> Result<TypeId, AllocError>
         requires keyed { key ≡ key_of kind }
-        requires missing { (j : ℕ) (e : TypeDef) → At self.old j e → IsUnnamedOf kind e → ⊥ }
+        requires missing { IsMissing kind self.old }
         ensures id { IfOk result (λ id. id ≡ length self.old) }
         ensures added { OnOk result (self.new ≡ self.old ++ unnamed kind (the_settled self.old given.now kind) span ∷ []) }
         ensures extended { IsExtended self.old self.new }
-        ensures refused { IfErr result IsAllocationFailure }
     {
         let stability = settled(&self.arena, given, &kind)?;
         set(&mut self.table, key, self.arena.next_id())?;
@@ -273,10 +264,9 @@ impl Entries {
         kind: TypeDefKind,
         given: &Stability,
         span: Span,
-    ) -> ParseResult<TypeId>
+    ) -> Result<TypeId, AllocError>
         ensures interned { IfOk result (λ id. IsInterned self.old self.new kind given.now span id) }
         ensures extended { IsExtended self.old self.new }
-        ensures refused { IfErr result IsAllocationFailure }
     {
         if let Some(id) = find_aliased(&self.arena, &kind) {
             return Ok(id);

@@ -1,12 +1,11 @@
 //! Names that are written in types: what they mean, and whether a handle may name them.
-ghost use Rattle.std.specs.Prelude.{◌≡◌, ◌⊎◌, [], ◌∷◌, IfOk, OnOk, Some, string_bytes};
+ghost use Rattle.std.specs.Prelude.{◌≡◌, ◌⊎◌, ◌++◌, codes, IfOk, Some, string_bytes};
 ghost use Rattle.wit_type_tree.specs.RefusalText.{IsAllocationFailure};
-ghost use Rattle.wit_syntax.specs.Words.{handle_words};
 ghost use Rattle.wit_syntax.specs.Fault.{fault_of, missing_type_at, no_resource};
 ghost use Rattle.wit_first.specs.First.{Finds};
 ghost use Rattle.wit_arena.specs.Resolving.{env_of};
-ghost use Rattle.wit_entries.specs.EntryFaults.{handle_fault, name_fault};
-ghost use Rattle.wit_entries.specs.Requiring.{Requires};
+ghost use Rattle.wit_entries.specs.EntryFaults.{name_fault};
+ghost use Rattle.wit_entries.specs.Requiring.{FindsResource};
 
 use crate::ends::End;
 use crate::entries::Entries;
@@ -31,7 +30,7 @@ pub fn find_name(alloc: Global, names: &TextTable<TypeId>, id: Id<'_>) -> ParseR
 
 /// The words for a name in a handle that ends at no resource.
 fn handle_words(alloc: Global, name: &str) -> Result<String, AllocError>
-    ensures { IfOk result (λ words. string_bytes words ≡ handle_words name.now) }
+    ensures { IfOk result (λ words. string_bytes words ≡ codes "type `" ++ (name.now ++ codes "` used in a handle must be a resource")) }
 {
     format!(in alloc; "type `{name}` used in a handle must be a resource")
 }
@@ -55,9 +54,7 @@ pub fn find_resource(
     required: &mut Vec<Required>,
     id: Id<'_>,
 ) -> ParseResult<TypeId>
-    ensures found { IfOk result (λ place. env_of names.now id.entry.name.now ≡ Some place) }
-    ensures handled { OnOk result (Requires (env_of names.now) types.now (id.entry ∷ []) required.old.items required.new.items) }
-    ensures first { Finds (handle_fault missing_type_at (env_of names.now) types.now id.entry) result }
+    ensures { FindsResource names.now types.now required.old.items required.new.items id.entry result }
 {
     let place = find_name(alloc, names, id)?;
     match types.end(place) {

@@ -1,16 +1,15 @@
 //! The names of a scope, while it is resolved.
-ghost use Rattle.std.specs.Prelude.{◌≡◌, OnOk, IfErr};
-ghost use Rattle.wit_type_tree.specs.RefusalText.{IsAllocationFailure};
+ghost use Rattle.std.specs.Prelude.{◌≡◌, OnOk};
 ghost use Rattle.wit_notes.specs.BorrowedMetadata.{metadata_view};
 ghost use Rattle.wit_entries.specs.Defining.{Declares};
 ghost use Rattle.wit_entries.specs.Requiring.{IsExtended};
 
 use crate::entries::Entries;
-use std::alloc::Global;
+use std::alloc::{AllocError, Global};
 use wit_maps::TextTable;
 use wit_notes::Metadata;
+use wit_tree::Span;
 use wit_tree::tree::Id;
-use wit_tree::{ParseResult, Span};
 use wit_types::{TypeDefKind, TypeId, TypeOwner};
 
 /// A type of another package that has to be a resource, and where a handle names it.
@@ -38,12 +37,11 @@ impl Scope {
         name: Id<'_>,
         metadata: Metadata,
         kind: TypeDefKind,
-    ) -> ParseResult<()>
+    ) -> Result<(), AllocError>
         ensures added { OnOk result (Declares self.old self.new types.old types.new name.entry (metadata_view metadata) kind) }
         ensures owner { OnOk result (self.new.owner ≡ self.old.owner) }
         ensures required { self.new.required ≡ self.old.required }
         ensures extended { IsExtended types.old types.new }
-        ensures refused { IfErr result IsAllocationFailure }
     {
         let id = types.add_named(alloc, self.owner, name, metadata, kind)?;
         self.names.put(String::from_str(alloc, name.name)?, id)?;

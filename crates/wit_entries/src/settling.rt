@@ -1,9 +1,11 @@
 //! The stability of an unnamed type: that of the definition that it is in, or of its parts.
-ghost use Rattle.std.specs.Prelude.{◌≡◌, IfOk};
+ghost use Rattle.std.specs.Prelude.{◌≡◌, IfOk, map};
 ghost use Rattle.std.specs.Option.{option_copied};
-ghost use Rattle.wit_types.specs.InnerTypes.{handled};
+ghost use Rattle.wit_types.specs.InnerTypes.{handled, slots};
+ghost use Rattle.wit_syntax.specs.Metadata.{first_known};
+ghost use Rattle.wit_arena.specs.Kind.{kind_of};
 ghost use Rattle.wit_arena.specs.Occurrences.{stability_at, settled as the_settled};
-ghost use Rattle.wit_entries.specs.FirstStability.{known as the_known, slot_stability, known_in_slots, known_in_parts};
+ghost use Rattle.wit_entries.specs.FirstStability.{known as the_known, slot_stability};
 
 use std::alloc::AllocError;
 use wit_types::type_slots::{slot, slot_count};
@@ -50,7 +52,7 @@ fn first_in_slots<'e>(
     types: &'e Arena<TypeDef, TypePlace>,
     kind: &TypeDefKind,
 ) -> Option<&'e Stability>
-    ensures { option_copied result ≡ known_in_slots types.now kind.now }
+    ensures { option_copied result ≡ the_known (first_known (map (slot_stability types.now) (slots kind.now))) }
 {
     for place in 0..slot_count(kind) {
         if let Some(found) = known_in_slot(types, slot(kind, place)) {
@@ -74,7 +76,7 @@ fn first_in_parts<'e>(
     types: &'e Arena<TypeDef, TypePlace>,
     kind: &TypeDefKind,
 ) -> Option<&'e Stability>
-    ensures { option_copied result ≡ known_in_parts types.now kind.now }
+    ensures { option_copied result ≡ the_known (first_known (map (stability_at types.now) (kind_of kind.now).parts)) }
 {
     match kind {
         TypeDefKind::Handle(handle) => known_at(types, Type::Id(resource_of(handle))),

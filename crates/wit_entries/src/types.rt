@@ -1,14 +1,12 @@
 //! Written types, as types of the arena.
-ghost use Rattle.std.specs.Prelude.{◌≡◌, IfOk, IfErr, OnOk};
-ghost use Rattle.wit_type_tree.specs.RefusalText.{IsAllocationFailure};
-ghost use Rattle.wit_type_tree.specs.TypeParts.{result_types, boxed_types};
+ghost use Rattle.std.specs.Prelude.{◌≡◌, ◌∷◌, [], IfOk, is_some};
+ghost use Rattle.std.specs.Option.{option_to_list};
+ghost use Rattle.wit_type_tree.specs.TypeParts.{boxed_types, err_type, ok_type, result_types};
+ghost use Rattle.wit_types.specs.declared.types.TypeDefKind.TheVariants.{Result};
 ghost use Rattle.wit_syntax.specs.Node.{primitive_type as the_primitive_type};
-ghost use Rattle.wit_syntax.specs.Shape.{shape_of, handles, all_handles};
-ghost use Rattle.wit_first.specs.First.{Finds};
-ghost use Rattle.wit_arena.specs.Resolving.{env_of};
-ghost use Rattle.wit_entries.specs.EntryFaults.{either_fault, types_fault, written_fault};
-ghost use Rattle.wit_entries.specs.ResolvedForms.{IsResolved, AreTypes, IsLeaf, IsList, IsOptionalOf, IsRead, IsResultOf, Denotes, named_kind as the_named_kind};
-ghost use Rattle.wit_entries.specs.Requiring.{IsExtended, Requires};
+ghost use Rattle.wit_syntax.specs.Shape.{shape_of};
+ghost use Rattle.wit_arena.specs.Kind.{kind_of};
+ghost use Rattle.wit_entries.specs.ResolvedForms.{IsLeaf, IsList, Reads, ResolvesTypes, named_kind as the_named_kind};
 
 use crate::entries::Entries;
 use crate::names::{find_name, find_resource};
@@ -51,22 +49,6 @@ fn primitive_type(primitive: tree::Primitive) -> Type
     }
 }
 
-/// The type that this is; a form's kind is interned, where it is in a definition of the stability
-/// `given`.
-fn type_of(types: &mut Entries, given: &Stability, reading: Reading) -> ParseResult<Type>
-    ensures present { IfOk result (Denotes types.old types.new given.now reading) }
-    ensures extended { IsExtended types.old types.new }
-    ensures refused { IfErr result IsAllocationFailure }
-{
-    match reading {
-        Reading::Leaf(ty) => Ok(ty),
-        Reading::Form(kind, span) => {
-            let id = types.intern(kind, given, span)?;
-            Ok(Type::Id(id))
-        }
-    }
-}
-
 /// A written type over its parts, which are resolved first.
 #[cycle(types)]
 pub fn read(
@@ -77,10 +59,7 @@ pub fn read(
     given: &Stability,
     ty: &tree::Type<'_>,
 ) -> ParseResult<Reading>
-    ensures read { IfOk result (IsRead types.old types.new (env_of names.now) given.now (shape_of ty.now)) }
-    ensures handled { OnOk result (Requires (env_of names.now) types.new (handles ty.now) required.old.items required.new.items) }
-    ensures extended { IsExtended types.old types.new }
-    ensures first { Finds (written_fault (env_of names.now) types.new ty.now) result }
+    ensures { Reads names.now given.now types.old types.new required.old.items required.new.items ty.now result }
 {
     if let tree::Type::Primitive(_, primitive) = ty {
         return Ok(Reading::Leaf(primitive_type(*primitive)));
@@ -114,10 +93,7 @@ fn read_form(
 ) -> ParseResult<Reading>
     requires form { IsLeaf (shape_of ty.now) → ⊥ }
     requires unlisted { IsList ty.now → ⊥ }
-    ensures read { IfOk result (IsRead types.old types.new (env_of names.now) given.now (shape_of ty.now)) }
-    ensures handled { OnOk result (Requires (env_of names.now) types.new (handles ty.now) required.old.items required.new.items) }
-    ensures extended { IsExtended types.old types.new }
-    ensures first { Finds (written_fault (env_of names.now) types.new ty.now) result }
+    ensures { Reads names.now given.now types.old types.new required.old.items required.new.items ty.now result }
 {
     match ty {
         tree::Type::FixedLengthList(span, item, size) => {
@@ -169,10 +145,8 @@ fn resolve_result(
     given: &Stability,
     parts: &tree::ResultTypes<'_>,
 ) -> ParseResult<Result_>
-    ensures resolved { IfOk result (IsResultOf types.old types.new (env_of names.now) given.now parts.now) }
-    ensures handled { OnOk result (Requires (env_of names.now) types.new (all_handles (result_types parts.now)) required.old.items required.new.items) }
-    ensures extended { IsExtended types.old types.new }
-    ensures first { Finds (either_fault (env_of names.now) types.new parts.now) result }
+    ensures there { IfOk result (λ r. (is_some r.ok ≡ is_some (ok_type parts.now)) × (is_some r.err ≡ is_some (err_type parts.now))) }
+    ensures resolves { ResolvesTypes names.now given.now types.old types.new required.old.items required.new.items (result_types parts.now) (λ r. (kind_of (Result r)).parts) result }
 {
     match parts {
         tree::ResultTypes::Neither => Ok(Result_ {
@@ -212,10 +186,8 @@ fn resolve_optional(
     given: &Stability,
     ty: &Option<Box<tree::Type<'_>>>,
 ) -> ParseResult<Option<Type>>
-    ensures resolved { IfOk result (IsOptionalOf types.old types.new (env_of names.now) given.now ty.now) }
-    ensures handled { OnOk result (Requires (env_of names.now) types.new (all_handles (boxed_types ty.now)) required.old.items required.new.items) }
-    ensures extended { IsExtended types.old types.new }
-    ensures first { Finds (types_fault (env_of names.now) types.new (boxed_types ty.now)) result }
+    ensures there { IfOk result (λ o. is_some o ≡ is_some ty.now) }
+    ensures resolves { ResolvesTypes names.now given.now types.old types.new required.old.items required.new.items (boxed_types ty.now) option_to_list result }
 {
     match ty {
         Some(ty) => {
@@ -236,10 +208,7 @@ fn resolve_types(
     given: &Stability,
     parts: &[tree::Type<'_>],
 ) -> ParseResult<Row<Type>>
-    ensures resolved { IfOk result (λ r. AreTypes types.old types.new (env_of names.now) given.now parts.now r) }
-    ensures handled { OnOk result (Requires (env_of names.now) types.new (all_handles parts.now) required.old.items required.new.items) }
-    ensures extended { IsExtended types.old types.new }
-    ensures first { Finds (types_fault (env_of names.now) types.new parts.now) result }
+    ensures { ResolvesTypes names.now given.now types.old types.new required.old.items required.new.items parts.now (λ r. r) result }
 {
     let mut resolved = Vec::with_capacity(alloc, parts.len())?;
     for part in parts {
@@ -261,14 +230,16 @@ pub fn resolve_type(
     given: &Stability,
     ty: &tree::Type<'_>,
 ) -> ParseResult<Type>
-    ensures resolved { IfOk result (IsResolved types.old types.new (env_of names.now) given.now (shape_of ty.now)) }
-    ensures handled { OnOk result (Requires (env_of names.now) types.new (handles ty.now) required.old.items required.new.items) }
-    ensures extended { IsExtended types.old types.new }
-    ensures first { Finds (written_fault (env_of names.now) types.new ty.now) result }
+    ensures { ResolvesTypes names.now given.now types.old types.new required.old.items required.new.items (ty.now ∷ []) (λ t. t ∷ []) result }
 {
     let reading = read(alloc, types, names, required, given, ty)?;
-    let ty = type_of(types, given, reading)?;
-    Ok(ty)
+    match reading {
+        Reading::Leaf(ty) => Ok(ty),
+        Reading::Form(kind, span) => {
+            let id = types.intern(kind, given, span)?;
+            Ok(Type::Id(id))
+        }
+    }
 }
 
 /// The kind that this is under a name by itself.

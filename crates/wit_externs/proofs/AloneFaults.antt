@@ -1,11 +1,11 @@
 -- The first fault of functions where nothing else is on the sides of a scope: names again, and tests of names in handles in an arena that grows.
-use Rattle.std.proofs.Common.{◌≡◌, ℕ, suc, true, false, List, [], ◌∷◌, ◌++◌, map, take, Option, Some, None, Result, Ok, Err, inl, inr, refl, sym, ap, ◌∙◌, add-one}
-use Rattle.wit_syntax.proofs.Common.{Fault, Id, IfErr, OnOk, Param, ParseError, Refused, ScopeName, SourceFunction, SourceParam, Span, TypeDef, bytes_eq, false_from_ne_true, folded, folded_key, list_any, name_equal, name_itself, option_map, option_or, param_twice, slice_get, written_param}
+use Rattle.std.proofs.Common.{◌≡◌, ℕ, true, false, List, [], ◌∷◌, ◌++◌, map, take, Option, Some, None, Result, Ok, Err, inl, inr, refl, sym, ap, ◌∙◌, ◌+◌}
+use Rattle.wit_syntax.proofs.Common.{Fault, Id, IfErr, OnOk, Param, ParseError, Refused, ScopeName, SourceFunction, SourceParam, Span, TypeDef, bytes_eq, false_from_ne_true, lower_case, folded_key, list_any, name_equal, name_itself, option_map, option_or, param_twice, slice_get, written_param, result_ok}
 use mathlib.Core.Path.{fun_ext}
 use Rattle.wit_type_tree.specs.declared.types.«Type».{«Type» as Written}
 use Rattle.wit_type_tree.specs.declared.types.«Type».TheVariants as written
 use Rattle.wit_walk.proofs.Common.{Finds, Reports, any_found, find-only, find_none, first_after, function_fault, lost_word, metadata_fault, none_both, or_none_both, param_fault, repeat_of, return_fault, type_fault}
-use Rattle.wit_first.specs.FunctionFaults.{given_fault, gives_fault}
+use Rattle.wit_first.specs.FunctionFaults.{given_fault, result_fault}
 use Rattle.wit_first.proofs.Repeats.{after_kept}
 use Rattle.wit_first.proofs.TypeFaults.{type_kept}
 use Rattle.wit_arena.proofs.Common.{Env}
@@ -14,7 +14,7 @@ use Rattle.wit_entries.specs.EntryFaults.{handle_fault, handled_fault, name_faul
 use Rattle.wit_entries.specs.Requiring.{IsExtended}
 use Rattle.wit_entries.proofs.Faults.{written_extended}
 use Rattle.wit_signatures.specs.ForeignName.{name_key}
-use Rattle.wit_signatures.specs.SignatureFaults.{function_fault as signature_function_fault}
+use Rattle.wit_signatures.specs.SignatureFaults.{signed_fault}
 use Rattle.wit_externs.specs.AloneFaults.{EndsIn, IsSafe, again, again_fault, signed_by, words_in}
 use Rattle.wit_externs.proofs.Steps.{used_next}
 
@@ -58,11 +58,11 @@ module _ (wrong wrong' : Written → Option Fault) (kept : (t : Written) → wro
   return_kept : (t : Option Written) → return_fault wrong xs fn t ≡ None → return_fault wrong' xs fn t ≡ None
   return_kept None h = h
   return_kept (Some t) h =
-      let all = or_none_both (wrong t) (gives_fault xs fn t) h in
+      let all = or_none_both (wrong t) (result_fault fn.func.form fn.role t (result_ok xs t)) h in
       none_both (kept t all.0) all.1
 
   abbrev given_repeat : List Param → Param → Option Fault
-  given_repeat before p = repeat_of (λ (q : SourceParam). folded q.name) (λ (q : SourceParam). param_twice q.name q.span) (fn.given ++ map written_param before) (written_param p)
+  given_repeat before p = repeat_of (λ (q : SourceParam). lower_case q.name) (λ (q : SourceParam). param_twice q.name q.span) (fn.given ++ map written_param before) (written_param p)
 
   param_kept : (before : List Param) (p : Param) → param_fault wrong fn before p ≡ None → param_fault wrong' fn before p ≡ None
   param_kept before p h =
@@ -94,20 +94,17 @@ module _ (env : Env) (es : List TypeDef) (handle : Id → Option Fault) (xs : Li
       by None free none = none
       by (Some place) present none = safe id place present none
 
-  upto : (fns : List SourceFunction) (k : ℕ) (fn : SourceFunction) → slice_get fns k ≡ Some fn → take (suc k) fns ≡ take k fns ++ fn ∷ []
-  upto fns k fn at = ap (λ (n : ℕ). take n fns) (sym (add-one k)) ∙ used_next fns k fn at
-
   -- the fault of a function by an arena, and by a test that is right of it
-  pub function_same : EndsIn env es handle → (fns : List SourceFunction) (k : ℕ) (fn : SourceFunction) → slice_get fns k ≡ Some fn → signature_function_fault env es xs fns k fn ≡ function_fault (signed_by (words_in env) handle (take k fns ++ fn ∷ [])) xs fn
+  pub function_same : EndsIn env es handle → (fns : List SourceFunction) (k : ℕ) (fn : SourceFunction) → slice_get fns k ≡ Some fn → function_fault (signed_fault env es (take (k + 1) fns)) xs fn ≡ function_fault (signed_by (words_in env) handle (take k fns ++ fn ∷ [])) xs fn
   function_same ends fns k fn at =
-      let lost = lost_word (take (suc k) fns) in
+      let lost = lost_word (take (k + 1) fns) in
       let handles : handle_fault lost env es ≡ (λ (id : Id). option_or (name_fault lost env id) (handle id)) = fun_ext (signed_handle lost ends) in
       ap (λ (h : Id → Option Fault). function_fault (type_fault (name_fault lost env) h) xs fn) handles
-      ∙ ap (λ (l : List SourceFunction). function_fault (signed_by (words_in env) handle l) xs fn) (upto fns k fn at)
+      ∙ ap (λ (l : List SourceFunction). function_fault (signed_by (words_in env) handle l) xs fn) (used_next fns k fn at)
 
-  pub function_safe : IsSafe env es handle → (fns : List SourceFunction) (k : ℕ) (fn : SourceFunction) → slice_get fns k ≡ Some fn → signature_function_fault env es xs fns k fn ≡ None → function_fault (signed_by (words_in env) handle (take k fns ++ fn ∷ [])) xs fn ≡ None
+  pub function_safe : IsSafe env es handle → (fns : List SourceFunction) (k : ℕ) (fn : SourceFunction) → slice_get fns k ≡ Some fn → function_fault (signed_fault env es (take (k + 1) fns)) xs fn ≡ None → function_fault (signed_by (words_in env) handle (take k fns ++ fn ∷ [])) xs fn ≡ None
   function_safe safe fns k fn at none =
-      let lost = lost_word (take (suc k) fns) in
+      let lost = lost_word (take (k + 1) fns) in
       let wrong = type_fault (name_fault lost env) (handle_fault lost env es) in
-      ap (λ (l : List SourceFunction). function_fault (signed_by (words_in env) handle l) xs fn) (sym (upto fns k fn at))
-      ∙ function_kept wrong (signed_by (words_in env) handle (take (suc k) fns)) (type_kept (name_fault lost env) (handle_fault lost env es) (name_fault lost env) (λ (id : Id). option_or (name_fault lost env id) (handle id)) (λ id h. h) (signed_safe lost safe)) xs fn none
+      ap (λ (l : List SourceFunction). function_fault (signed_by (words_in env) handle l) xs fn) (sym (used_next fns k fn at))
+      ∙ function_kept wrong (signed_by (words_in env) handle (take (k + 1) fns)) (type_kept (name_fault lost env) (handle_fault lost env es) (name_fault lost env) (λ (id : Id). option_or (name_fault lost env id) (handle id)) (λ id h. h) (signed_safe lost safe)) xs fn none

@@ -48,7 +48,7 @@ place_within scope k fn at =
     omega (arith, within, same)
 
 -- where the functions of a scope are read one after the other, this one is the next of them
-pub scope_next : (scope : FunctionScope) (i : ℕ) (h : BorrowedFunction) → slice_get scope.functions.now i ≡ Some h → slice_get (functions_view scope) i ≡ Some (function_view h)
+scope_next : (scope : FunctionScope) (i : ℕ) (h : BorrowedFunction) → slice_get scope.functions.now i ≡ Some h → slice_get (functions_view scope) i ≡ Some (function_view h)
 scope_next scope i h at = slice_get-map function_view scope.functions.now i ∙ ap (option_map function_view) at
 
 -- and is at that place on the sides
@@ -56,10 +56,17 @@ pub item_next : (fns : List SourceFunction) (i : ℕ) (fn : SourceFunction) → 
 item_next fns i fn at = slice_get-map SideFunction fns i ∙ ap (option_map SideFunction) at
 
 -- as many as are read are made
-pub made_to : (fns : List SourceFunction) (i : ℕ) (fn : SourceFunction) (fs : List Function) → slice_get fns i ≡ Some fn → map name_of_made fs ≡ map name_of_function (take i fns) → length fs ≡ i
+made_to : (fns : List SourceFunction) (i : ℕ) (fn : SourceFunction) (fs : List Function) → slice_get fns i ≡ Some fn → map name_of_made fs ≡ map name_of_function (take i fns) → length fs ≡ i
 made_to fns i fn fs at named =
     let within = slice_get_within fns i fn at in
     made_count (take i fns) fs named ∙ length-take-le i fns (omega (arith, within))
+
+-- so the next one is at the place that comes after those that are made
+pub next_place : (scope : FunctionScope) (i : ℕ) (h : BorrowedFunction) (fs : List Function) (n : ℕ) → slice_get scope.functions.now i ≡ Some h → map name_of_made fs ≡ map name_of_function (take i (functions_view scope)) → n ≡ length fs → (n ≡ i) × (slice_get (functions_view scope) i ≡ Some (function_view h)) × (slice_get (functions_view scope) n ≡ Some (function_view h))
+next_place scope i h fs n at named long =
+    let here = scope_next scope i h at in
+    let same : n ≡ i = long ∙ made_to (functions_view scope) i (function_view h) fs here named in
+    (same, here, ap (slice_get (functions_view scope)) same ∙ here)
 
 -- all of them
 pub done_all : (first now : List TypeDef) (scope : FunctionScope) (i : ℕ) (fs : List Function) (a b : List Required) → length scope.functions.now ≤ i → AreDone first now scope (take i (functions_view scope)) fs a b → AreDone first now scope (functions_view scope) fs a b

@@ -1,13 +1,68 @@
--- The first setter without its getter among functions, by the names of a scope or of a side in which theirs are, one after another.
-use Rattle.std.proofs.Common.{◌≡◌, ◌⊎◌, ◌+◌, ◌<◌, ℕ, zero, suc, true, false, List, [], ◌∷◌, ◌++◌, map, Option, Some, None, Result, Ok, Err, inl, inr, refl, sym, ap, ◌∙◌, subst, arith, Contains}
-use Rattle.wit_syntax.proofs.Common.{Exported, Fault, Id, IfErr, Imported, IsUnpairedSetter, OnOk, ParseError, Refused, SideFunction, SideInline, SideItem, SideLink, SourceFunction, WorldSide, at_contains, cases_Bool, cond-false, cond-true, fault_of, flat_map, getter_of, is_setter, item_function, item_side, items_on, lone_setter as lone_fault, names_on, on_side, option_map_or, option_or, role_side, same_side, slice_get}
-use Rattle.wit_walk.proofs.Common.{Finds, first_in, in_some, setter_fault}
-use Rattle.wit_walk.proofs.SetterFaults.{IsAlone, setter_alone_at, setter_found, setter_wrong}
+-- The first setter without its getter, by the names of a scope or of a side among which are those of functions, in their order.
+use Rattle.std.proofs.Common.{◌≡◌, ◌⊎◌, ◌||◌, ◌&&◌, not, ℕ, suc, Bool, true, false, List, [], ◌∷◌, ◌++◌, map, take, Option, Some, None, Result, Ok, Err, inl, inr, refl, sym, ap, ◌∙◌, subst, arith, Contains}
+use Rattle.wit_syntax.proofs.Common.{Exported, Fault, Id, IfErr, Imported, OnOk, ParseError, Refused, SideFunction, SideInline, SideItem, SideLink, SourceFunction, WorldSide, and_parts, at_contains, at_take, bytes_eq, cases_Bool, cond-false, cond-true, contains_at, false_from_ne_true, fault_of, flat_map, getter_of, if◌then◌else◌, is_label, is_setter, item_function, item_side, items_on, kept_at, list_any, map_at, name_equal, name_itself, names_on, not-true, on_side, option_map_or, option_or, role_side, same_side, slice_get}
+use Rattle.wit_syntax.specs.Fault.{lone_setter}
+use Rattle.wit_first.proofs.First.{any_some, in-at}
+use Rattle.std.proofs.lemmas.Bool.{or_parts}
+use Rattle.wit_functions.proofs.InTurn.{list_any-filter_none}
+use Rattle.wit_walk.specs.Setters.{is_setter as form_sets}
+use Rattle.wit_walk.proofs.Common.{Finds, any_found, first_in, in_some, setter_fault}
+use Rattle.wit_walk.proofs.ScopeFaults.{if_some}
 use Rattle.wit_refusals.specs.NameScopes.{Name, IsLoneSetter, IsFirstLoneSetter}
+use Rattle.wit_rules.specs.declared.borrowed.BorrowedFunction.{BorrowedFunction}
+use Rattle.wit_rules.specs.BorrowedFunctions.{function_view}
 use Rattle.wit_signatures.specs.ForeignName.{name_of_function, name_of_id}
+use Rattle.wit_signatures.proofs.Mangling.{no_label-getter_of, no_setter-label, set_view}
 use Rattle.wit_externs.specs.AloneFaults.{lone_setters}
 use Rattle.wit_externs.specs.Clash.{all_on, names_of_items}
-use Rattle.wit_externs.proofs.Paired.{AreNamed, lone_at, lone_setter, setter_at, setter_no_id}
+
+-- one of these names is this, and the fault of a name: it is a setter's, and none of these is its getter's
+abbrev is_among : List Name → List ℕ → Bool
+is_among all name = list_any (λ (m : Name). bytes_eq m.0 name) all
+
+abbrev lone_name : List Name → Name → Option Fault
+lone_name all n = if is_setter n.0 && not (is_among all (getter_of n.0)) then Some (lone_setter n.0 n.1) else None
+
+lone_at : (names : List Name) (i : ℕ) (l : IsLoneSetter names i) → lone_name names l.setter ≡ Some (lone_setter l.setter.0 l.setter.1)
+lone_at names i l =
+    let n = l.setter in
+    let miss : is_among names (getter_of n.0) ≡ false = false_from_ne_true (is_among names (getter_of n.0)) (λ hit. (
+    let it = any_found (λ (m : Name). bytes_eq m.0 (getter_of n.0)) names hit in
+    l.none it.0 it.1.1 (it.2 ∙ ap (λ (t : List ℕ). Some (t, it.1.1)) (name_equal it.1.0 (getter_of n.0) it.3)))) in
+    ap (λ (b : Bool). if b && not (is_among names (getter_of n.0)) then Some (lone_setter n.0 n.1) else None) l.sets ∙ ap (λ (b : Bool). if true && not b then Some (lone_setter n.0 n.1) else None) miss
+
+lone_of : (names : List Name) (i : ℕ) (n : Name) (f : Fault) → slice_get names i ≡ Some n → lone_name names n ≡ Some f → IsLoneSetter names i
+lone_of names i n f at is =
+    let getters = is_among names (getter_of n.0) in
+    let parts = and_parts (is_setter n.0) (not getters) (if_some (is_setter n.0 && not getters) (lone_setter n.0 n.1) f is).0 in
+    let alone = not-true getters parts.1 in
+    record {
+      setter = n;
+      at = at;
+      sets = parts.0;
+      none = λ k span there. (
+          let wrong : false ≡ true = sym alone ∙ any_some (λ (m : Name). bytes_eq m.0 (getter_of n.0)) names k (getter_of n.0, span) there (name_itself (getter_of n.0)) in
+          let e : ⊥ = cc in
+          e);
+    }
+
+-- where none of some names is one, there is no fault of them
+none_lone : (names part : List Name) → ((i : ℕ) (n : Name) (f : Fault) → slice_get part i ≡ Some n → lone_name names n ≡ Some f → ⊥) → first_in (lone_name names) part ≡ None
+none_lone names part none = by (first_in (lone_name names) part) refl
+  where
+    by : (o : Option Fault) → first_in (lone_name names) part ≡ o → first_in (lone_name names) part ≡ None
+    by None is = is
+    by (Some f) is = absurd (let it = in_some (lone_name names) part f is in none it.0 it.1 f it.2 it.3)
+
+-- what a call finds that looks for one among the names
+names_find : {T : Type 0} (r : Result T ParseError) (names : List Name) → OnOk r ((i : ℕ) → IsLoneSetter names i → ⊥) → IfErr r (Refused (IsFirstLoneSetter names)) → Finds (first_in (lone_name names) names) r
+names_find (Ok x) names paired refused = none_lone names names (λ i n f at is. paired i (lone_of names i n f at is))
+names_find (Err e) names paired refused = elim refused [
+  | inl memory ↦ inl memory
+  | inr l ↦ inr (
+      let none = none_lone names (take l.place names) (λ i n f at is. (let there = at_take names l.place i n at in l.first i there.1 (lone_of names i n f there.0 is))) in
+      in-at (lone_name names) names l.place l.lone.setter (fault_of e) l.lone.at none (lone_at names l.place l.lone ∙ ap Some (sym l.is)))
+]
 
 -- the names are those of these functions, in their order, and labels
 abbrev pub AreMerged : List Name → List SourceFunction → Type 0
@@ -60,85 +115,90 @@ merged_types Exported ids ns gs rest = rest
 pub merged_side : (side : WorldSide) (ids : List Id) (items : List SideItem) (fns : List SourceFunction) → flat_map item_function items ≡ fns → AreMerged (all_on side ids items) (on_side side fns)
 merged_side side ids items fns are = subst (AreMerged (all_on side ids items)) (functions_on side items ∙ ap (on_side side) are) (merged_types side ids (names_of_items (items_on side items)) (flat_map item_function (items_on side items)) (merged_items (items_on side items)))
 
--- where no rule is broken, there is no fault
-pub none_lone : (fns : List SourceFunction) → ((f : Fault) → IsUnpairedSetter fns f → ⊥) → lone_setters fns ≡ None
-none_lone fns legal = by (lone_setters fns) refl
-  where
-    by : (o : Option Fault) → lone_setters fns ≡ o → lone_setters fns ≡ None
-    by None is = is
-    by (Some f) is = absurd (
-        let it = in_some (setter_fault fns) fns f is in
-        legal f (setter_wrong fns it.0 it.1 f it.2 it.3))
+-- a text that is no label is among these names where it is that of a function
+any_merged : (g : List ℕ) → is_label g ≡ false → (ns : List Name) (gs : List SourceFunction) → AreMerged ns gs → is_among ns g ≡ list_any (λ (fn : SourceFunction). bytes_eq fn.name g) gs
+any_merged g other [] gs are = ap (list_any (λ (fn : SourceFunction). bytes_eq fn.name g)) (sym are)
+any_merged g other (n ∷ ns) gs are = elim are [
+  | inl label ↦ (
+      let differs : bytes_eq label.0.name.now g ≡ false = false_from_ne_true (bytes_eq label.0.name.now g) (λ hit. (
+      let wrong : false ≡ true = sym other ∙ subst (λ (t : List ℕ). is_label t ≡ true) (name_equal label.0.name.now g hit) label.0.label in
+      let e : ⊥ = cc in
+      e)) in
+      ap (λ (m : Name). bytes_eq m.0 g || is_among ns g) (sym label.1) ∙ ap (λ (b : Bool). b || is_among ns g) differs ∙ any_merged g other ns gs label.2)
+  | inr own ↦ ap (λ (m : Name). bytes_eq m.0 g || is_among ns g) (sym own.3) ∙ ap (λ (b : Bool). bytes_eq own.0.name g || b) (any_merged g other ns own.1 own.4) ∙ ap (list_any (λ (fn : SourceFunction). bytes_eq fn.name g)) (sym own.2)
+]
 
-module _ (names : List Name) (fns : List SourceFunction) (are : AreNamed names fns) where
-  module _ (f : Fault) (l : IsFirstLoneSetter names f) where
-    -- the setter at the place
-    first_here : (fn : SourceFunction) → Contains fns fn → slice_get names l.place ≡ Some (name_of_function fn) → setter_fault fns fn ≡ Some f
-    first_here fn among here =
-        let lone = l.lone in
-        let both : Some lone.setter ≡ Some (name_of_function fn) = sym lone.at ∙ here in
-        let named : lone.setter ≡ name_of_function fn = cc in
-        let j = at_contains fns fn among in
-        let sets : is_setter fn.name ≡ true = subst (λ (n : Name). is_setter n.0 ≡ true) named lone.sets in
-        let alone : IsAlone fns fn = record {
-          setter = setter_at names fns are j.0 fn j.1 sets;
-          none = λ other among_other same. (
-              let k = at_contains fns other among_other in
-              let it = are.has k.0 other k.1 in
-              lone.none it.0 other.span (it.1 ∙ ap (λ (n : List ℕ). Some (n, other.span)) same ∙ ap (λ (n : Name). Some (getter_of n.0, other.span)) (sym named)));
-        } in
-        setter_found fns fn alone ∙ ap (λ (n : Name). Some (lone_fault n.0 n.1)) (sym named) ∙ ap Some (sym l.is)
+-- these functions are setters by their names where they are by their forms
+pub record AreNamed (gs : List SourceFunction) : Type 0 where
+  pub each : (fn : SourceFunction) → Contains gs fn → is_setter fn.name ≡ form_sets fn.func.form
 
-    -- one before it
-    none_before : (fn : SourceFunction) → Contains fns fn → (p : ℕ) → slice_get names p ≡ Some (name_of_function fn) → p < l.place → (o : Option Fault) → setter_fault fns fn ≡ o → setter_fault fns fn ≡ None
-    none_before fn among p here before None is = is
-    none_before fn among p here before (Some g) is = absurd (
-        let alone = setter_alone_at fns fn g is in
-        let j = at_contains fns fn among in
-        l.first p before (lone_at names fns are j.0 fn j.1 alone.0.setter alone.0.none p here))
+pub borrowed_named : (hs : List BorrowedFunction) → AreNamed (map function_view hs)
+borrowed_named hs = record {
+  each = λ fn among. (
+      let j = at_contains (map function_view hs) fn among in
+      let h = map_at function_view hs j.0 fn j.1 in
+      subst (λ (g : SourceFunction). is_setter g.name ≡ form_sets g.func.form) h.2 (set_view h.0));
+}
 
-    -- the names from a place on
-    here_or_later : (n : Name) (gs : List SourceFunction) (p q : ℕ) → slice_get names p ≡ Some n → ((fn : SourceFunction) → Contains gs fn → Contains fns fn) → p + q ≡ l.place → (fn : SourceFunction) (hs : List SourceFunction) → gs ≡ fn ∷ hs → name_of_function fn ≡ n → ((k : ℕ) → suc p + k ≡ l.place → first_in (setter_fault fns) hs ≡ Some f) → first_in (setter_fault fns) (fn ∷ hs) ≡ Some f
-    here_or_later n gs p zero at within is fn hs are_gs named later =
-        let among = within fn (subst (λ (xs : List SourceFunction). Contains xs fn) (sym are_gs) (0, omega arith, refl)) in
-        let place : p ≡ l.place = omega (arith, is) in
-        let here : slice_get names l.place ≡ Some (name_of_function fn) = ap (slice_get names) (sym place) ∙ at ∙ ap Some (sym named) in
-        ap (λ (o : Option Fault). option_or o (first_in (setter_fault fns) hs)) (first_here fn among here)
-    here_or_later n gs p (suc q) at within is fn hs are_gs named later =
-        let among = within fn (subst (λ (xs : List SourceFunction). Contains xs fn) (sym are_gs) (0, omega arith, refl)) in
-        let before : p < l.place = omega (arith, is) in
-        let none = none_before fn among p (at ∙ ap Some (sym named)) before (setter_fault fns fn) refl in
-        ap (λ (o : Option Fault). option_or o (first_in (setter_fault fns) hs)) none ∙ later q (omega (arith, is))
+pub side_named : (side : WorldSide) (fns : List SourceFunction) → AreNamed fns → AreNamed (on_side side fns)
+side_named side fns named = record {
+  each = λ fn among. (
+      let j = at_contains (on_side side fns) fn among in
+      let k = kept_at (λ (g : SourceFunction). same_side side (role_side g.role)) fns j.0 fn j.1 in
+      named.each fn (contains_at fns k.0 fn k.1));
+}
 
-    label_later : (id : Id) (p q : ℕ) → slice_get names p ≡ Some (name_of_id id) → p + q ≡ l.place → (k : ℕ) × (suc p + k ≡ l.place)
-    label_later id p zero at is = absurd (
-        let place : p ≡ l.place = omega (arith, is) in
-        let here : Some (name_of_id id) ≡ Some l.lone.setter = sym at ∙ ap (slice_get names) place ∙ l.lone.at in
-        let named : name_of_id id ≡ l.lone.setter = cc in
-        setter_no_id id l.lone.setter.0 l.lone.sets (ap (λ (n : Name). n.0) named))
-    label_later id p (suc q) at is = (q, omega (arith, is))
+module _ (all : List Name) (fns : List SourceFunction) (same : (name : List ℕ) → is_setter name ≡ true → is_among all (getter_of name) ≡ list_any (λ (fn : SourceFunction). bytes_eq fn.name (getter_of name)) fns) where
+  -- of the name of a function, and of the function
+  own_fault : (fn : SourceFunction) (b : Bool) → is_setter fn.name ≡ b → is_setter fn.name ≡ form_sets fn.func.form → lone_name all (name_of_function fn) ≡ setter_fault fns fn
+  own_fault fn true is form =
+      let getters = list_any (λ (g : SourceFunction). bytes_eq g.name (getter_of fn.name)) fns in
+      ap (λ (b : Bool). if is_setter fn.name && not b then Some (lone_setter fn.name fn.span) else None) (same fn.name is)
+      ∙ ap (λ (b : Bool). if b && not getters then Some (lone_setter fn.name fn.span) else None) form
+  own_fault fn false is form =
+      let getters = list_any (λ (g : SourceFunction). bytes_eq g.name (getter_of fn.name)) fns in
+      ap (λ (b : Bool). if b && not (is_among all (getter_of fn.name)) then Some (lone_setter fn.name fn.span) else None) is
+      ∙ sym (ap (λ (b : Bool). if b && not getters then Some (lone_setter fn.name fn.span) else None) (sym form ∙ is))
 
-    on_from : (p : ℕ) (ns : List Name) (gs : List SourceFunction) → AreMerged ns gs → ((q : ℕ) → slice_get ns q ≡ slice_get names (p + q)) → ((fn : SourceFunction) → Contains gs fn → Contains fns fn) → (q : ℕ) → p + q ≡ l.place → first_in (setter_fault fns) gs ≡ Some f
-    on_from p [] gs merged same within q is = absurd (
-        let wrong : None ≡ Some l.lone.setter = same q ∙ ap (slice_get names) is ∙ l.lone.at in
-        let e : ⊥ = cc in
-        e)
-    on_from p (n ∷ ns) gs merged same within q is =
-        let at : slice_get names p ≡ Some n = ap (slice_get names) (omega arith) ∙ sym (same 0) in
-        let next : (k : ℕ) → slice_get ns k ≡ slice_get names (suc p + k) = λ k. same (suc k) ∙ ap (slice_get names) (omega arith) in
-        elim merged [
-          | inl label ↦ (
-              let k = label_later label.0 p q (at ∙ ap Some (sym label.1)) is in
-              on_from (suc p) ns gs label.2 next within k.0 k.1)
-          | inr own ↦ (
-              let more : (fn : SourceFunction) → Contains own.1 fn → Contains fns fn = λ fn among. within fn (subst (λ (xs : List SourceFunction). Contains xs fn) (sym own.2) (suc among.0, omega (arith, among.1), among.2)) in
-              ap (first_in (setter_fault fns)) own.2 ∙ here_or_later n gs p q at within is own.0 own.1 own.2 own.3 (λ k later. on_from (suc p) ns own.1 own.4 next more k later))
-        ]
+  -- no label is the name of a setter
+  label_fault : (id : Id) → lone_name all (name_of_id id) ≡ None
+  label_fault id = ap (λ (b : Bool). if b && not (is_among all (getter_of id.name.now)) then Some (lone_setter id.name.now id.span) else None) (no_setter-label id.name.now id.label)
 
-    pub lone_first : AreMerged names fns → first_in (setter_fault fns) fns ≡ Some f
-    lone_first merged = on_from 0 names fns merged (λ q. ap (slice_get names) (omega arith)) (λ fn among. among) l.place (omega arith)
+  all_faults : (ns : List Name) (gs : List SourceFunction) → AreMerged ns gs → AreNamed gs → first_in (lone_name all) ns ≡ first_in (setter_fault fns) gs
+  all_faults [] gs are named = ap (first_in (setter_fault fns)) (sym are)
+  all_faults (n ∷ ns) gs are named = elim are [
+    | inl label ↦ ap (λ (m : Name). option_or (lone_name all m) (first_in (lone_name all) ns)) (sym label.1) ∙ ap (λ (o : Option Fault). option_or o (first_in (lone_name all) ns)) (label_fault label.0) ∙ all_faults ns gs label.2 named
+    | inr own ↦ (
+        let fn = own.0 in
+        let inside : AreNamed (fn ∷ own.1) = subst AreNamed own.2 named in
+        let rest : AreNamed own.1 = record { each = λ g among. inside.each g (suc among.0, omega (arith, among.1), among.2) } in
+        ap (λ (m : Name). option_or (lone_name all m) (first_in (lone_name all) ns)) (sym own.3)
+        ∙ ap (λ (o : Option Fault). option_or o (first_in (lone_name all) ns)) (own_fault fn (is_setter fn.name) refl (inside.each fn (0, omega arith, refl)))
+        ∙ ap (option_or (setter_fault fns fn)) (all_faults ns own.1 own.4 rest)
+        ∙ ap (first_in (setter_fault fns)) (sym own.2))
+  ]
 
-  -- what a call finds that looks for a setter alone among the names
-  pub lone_by : {T : Type 0} (r : Result T ParseError) → AreMerged names fns → OnOk r ((i : ℕ) → IsLoneSetter names i → ⊥) → IfErr r (Refused (IsFirstLoneSetter names)) → Finds (lone_setters fns) r
-  lone_by (Ok x) merged paired refused = none_lone fns (λ f unpaired. (let lone = lone_setter names fns are f unpaired in paired lone.0 lone.1))
-  lone_by (Err e) merged paired refused = elim refused [ inl memory ↦ inl memory | inr first ↦ inr (lone_first (fault_of e) first merged) ]
+-- what is found among the names of functions and labels is found of the functions
+pub lone_found : {T : Type 0} (r : Result T ParseError) (names : List Name) (fns : List SourceFunction) → AreMerged names fns → AreNamed fns → OnOk r ((i : ℕ) → IsLoneSetter names i → ⊥) → IfErr r (Refused (IsFirstLoneSetter names)) → Finds (lone_setters fns) r
+lone_found r names fns are named paired refused =
+    let same = λ (name : List ℕ) (sets : is_setter name ≡ true). any_merged (getter_of name) (no_label-getter_of name sets) names fns are in
+    subst (λ (o : Option Fault). Finds o r) (all_faults names fns same names fns are named) (names_find r names paired refused)
+
+-- where no function is a setter, none is alone
+pub none_set : (fns gs : List SourceFunction) → list_any (λ (fn : SourceFunction). form_sets fn.func.form) gs ≡ false → first_in (setter_fault fns) gs ≡ None
+none_set fns [] none = refl
+none_set fns (fn ∷ gs) none =
+    let parts = or_parts (form_sets fn.func.form) (list_any (λ (g : SourceFunction). form_sets g.func.form) gs) none in
+    ap (λ (b : Bool). option_or (if b && not (list_any (λ (g : SourceFunction). bytes_eq g.name (getter_of fn.name)) fns) then Some (lone_setter fn.name fn.span) else None) (first_in (setter_fault fns) gs)) parts.0 ∙ none_set fns gs parts.1
+
+any_borrowed : (hs : List BorrowedFunction) → list_any (λ (fn : SourceFunction). form_sets fn.func.form) (map function_view hs) ≡ list_any (λ (h : BorrowedFunction). form_sets (function_view h).func.form) hs
+any_borrowed [] = refl
+any_borrowed (h ∷ hs) = ap (λ (b : Bool). form_sets (function_view h).func.form || b) (any_borrowed hs)
+
+pub none_borrowed : (hs : List BorrowedFunction) → list_any (λ (h : BorrowedFunction). form_sets (function_view h).func.form) hs ≡ false → lone_setters (map function_view hs) ≡ None
+none_borrowed hs none = none_set (map function_view hs) (map function_view hs) (any_borrowed hs ∙ none)
+
+pub none_on : (side : WorldSide) (hs : List BorrowedFunction) → list_any (λ (h : BorrowedFunction). form_sets (function_view h).func.form) hs ≡ false → lone_setters (on_side side (map function_view hs)) ≡ None
+none_on side hs none =
+    let fns = map function_view hs in
+    none_set (on_side side fns) (on_side side fns) (list_any-filter_none (λ (fn : SourceFunction). form_sets fn.func.form) (λ (fn : SourceFunction). same_side side (role_side fn.role)) fns (any_borrowed hs ∙ none))

@@ -1,7 +1,4 @@
 mod Named
-mod Paired
-pub mod NoSetters
-mod PairedNames
 pub mod Steps
 pub mod Clashing
 pub mod DoneFunctions

@@ -3,4 +3,3 @@ pub mod Clash
 pub mod Links
 pub mod Next
 pub mod ScopeFunctions
-pub mod SetterFunctions

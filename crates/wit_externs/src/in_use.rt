@@ -3,8 +3,8 @@ ghost use Rattle.std.specs.Prelude.{◌≡◌, ◌++◌, OnOk, map};
 ghost use Rattle.std.specs.List.{list_any};
 ghost use Rattle.wit_tree.specs.declared.tree.WorldSide.{WorldSide};
 ghost use Rattle.wit_syntax.specs.Sides.{names_on};
-ghost use Rattle.wit_externs.specs.SetterFunctions.{sets};
 ghost use Rattle.wit_first.specs.First.{Finds};
+ghost use Rattle.wit_walk.specs.Setters.{is_setter};
 ghost use Rattle.wit_rules.specs.BorrowedFunctions.{function_view};
 ghost use Rattle.wit_sides.specs.SideNames.{defined_on};
 ghost use Rattle.wit_signatures.specs.ForeignName.{name_of_id, name_of_function};
@@ -33,7 +33,7 @@ pub fn define_names(in_use: &mut Sides, names: &[Id<'_>]) -> ParseResult<()>
 
 /// Whether a function is a setter.
 fn sets(function: &BorrowedFunction<'_, '_>) -> bool
-    ensures { result ≡ sets (function_view function.now) }
+    ensures { result ≡ is_setter (function_view function.now).func.form }
 {
     match function.form() {
         FuncForm::Setter => true,
@@ -43,7 +43,7 @@ fn sets(function: &BorrowedFunction<'_, '_>) -> bool
 
 /// Whether a setter is among functions.
 fn have_setter(functions: &[BorrowedFunction<'_, '_>]) -> bool
-    ensures { result ≡ list_any (λ h. sets (function_view h)) functions.now }
+    ensures { result ≡ list_any (λ h. is_setter (function_view h).func.form) functions.now }
 {
     functions.iter().any(|function| sets(function))
 }

@@ -1,8 +1,8 @@
 //! Interfaces that are on the sides of a world by their paths alone.
-ghost use Rattle.std.specs.Prelude.{◌≡◌, ◌++◌, [], Contains, IfErr, IfOk, MatchBool, OnOk, OnErr};
+ghost use Rattle.std.specs.Prelude.{◌≡◌, ◌++◌, [], Contains, IfErr, IfOk, MatchBool, OnOk, OnErr, codes};
 ghost use Rattle.std.specs.Map.{keys_of};
 ghost use Rattle.wit_syntax.specs.Broken.{Refused};
-ghost use Rattle.wit_syntax.specs.Words.{linked_words};
+ghost use Rattle.wit_syntax.specs.Words.{side_word};
 ghost use Rattle.wit_externs.specs.Next.{IsLinked, IsPutAfter, linked_on, only_place};
 
 use std::alloc::{AllocError, Global};
@@ -37,7 +37,7 @@ fn insert(links: &mut Table<usize, ()>, interface: usize) -> Result<bool, AllocE
 
 /// The words for an interface that is on a side again.
 fn repeated(side: WorldSide) -> &'static str
-    ensures { result.now ≡ linked_words side }
+    ensures { result.now ≡ codes "interface cannot be " ++ (side_word side ++ codes "ed more than once") }
 {
     match side {
         WorldSide::Imported => "interface cannot be imported more than once",

@@ -1,9 +1,10 @@
 -- Rules of functions: their parameters by name, and setters among them.
-use Rattle.std.proofs.Common.{◌≡◌, ℕ, ◌<◌, List, [], ◌∷◌, ◌++◌, Option, Some, None, length, arith, refl, sym, ap, ◌∙◌}
-use Rattle.wit_syntax.proofs.Common.{AllDiffer, FuncForm, Param, SourceFunction, SourceParam, Span, fault, folded, length-map, ltb-false, ltb-true, map, map-append, map_map, option_copied, slice_get, slice_get_past, slice_get_read, slice_get_within, written_param}
+use Rattle.std.proofs.Common.{◌≡◌, ℕ, ◌<◌, List, [], ◌∷◌, ◌++◌, Option, Some, None, length, arith, refl, sym, ap, ◌∙◌, subst}
+use Rattle.wit_syntax.proofs.Common.{AllDiffer, FuncForm, Param, SourceFunction, SourceParam, Span, fault, lower_case, length-map, ltb-false, ltb-true, map, map-append, map_map, option_copied, slice_get, slice_get_past, slice_get_read, slice_get_within, written_param, Fault, ParseError, Result}
 use Rattle.std.specs.Slice.{IsItemAt}
 use denote.Ref.{Bor}
 use Rattle.wit_type_tree.specs.declared.types.FuncForm.TheVariants as form
+use Rattle.wit_first.specs.First.{Finds}
 use Rattle.wit_first.specs.FunctionFaults.{given_fault, params_fault}
 
 -- the names of parameters, of which some are written
@@ -13,8 +14,8 @@ names-append given params written is =
     ∙ ap (λ (names : List (List ℕ)). map (λ p. p.name) given ++ names) (ap (map (λ p. p.name)) (sym is) ∙ map_map (λ p. p.name) written_param written)
 
 -- the keys of names are those of the parameters
-pub keys-named : (names : List (Bor (List ℕ))) (params : List SourceParam) → map (λ t. t.now) names ≡ map (λ p. p.name) params → map (λ t. folded t.now) names ≡ map (λ p. folded p.name) params
-keys-named names params is = sym (map_map folded (λ t. t.now) names) ∙ ap (map folded) is ∙ map_map folded (λ p. p.name) params
+pub keys-named : (names : List (Bor (List ℕ))) (params : List SourceParam) → map (λ t. t.now) names ≡ map (λ p. p.name) params → map (λ t. lower_case t.now) names ≡ map (λ p. lower_case p.name) params
+keys-named names params is = sym (map_map lower_case (λ t. t.now) names) ∙ ap (map lower_case) is ∙ map_map lower_case (λ p. p.name) params
 
 -- the key of one item repeats none
 pub few_differ : {X : Type 0} (key : X → List ℕ) (xs : List X) → length xs < 2 → AllDiffer (map key xs)
@@ -27,21 +28,19 @@ few_differ key xs few = record {
 }
 
 -- the first fault of what a setter is given: at the second parameter, or where there is none
-second_param : (params : List Param) (span : Span) (second : Param) → slice_get params 1 ≡ Some second → params_fault form.Setter params span ≡ Some (fault 37 second.name.span)
+pub second_param : (params : List Param) (span : Span) (second : Param) → slice_get params 1 ≡ Some second → params_fault form.Setter params span ≡ Some (fault 37 second.name.span)
 second_param [] span second at = absurd (let f : ⊥ = cc in f)
 second_param (x ∷ []) span second at = absurd (let f : ⊥ = cc in f)
 second_param (x ∷ y ∷ rest) span second at = (let same : y ≡ second = cc in ap (λ (p : Param). Some (fault 37 p.name.span)) same)
 
-no_param : (params : List Param) (span : Span) → (length params ≡ 1 → ⊥) → slice_get params 1 ≡ None → params_fault form.Setter params span ≡ Some (fault 37 span)
+pub no_param : (params : List Param) (span : Span) → (length params ≡ 1 → ⊥) → slice_get params 1 ≡ None → params_fault form.Setter params span ≡ Some (fault 37 span)
 no_param [] span other none = refl
 no_param (x ∷ []) span other none = absurd (other refl)
 no_param (x ∷ y ∷ rest) span other none = absurd (let f : ⊥ = cc in f)
 
-pub setter_second : (fn : SourceFunction) (second : Param) → fn.func.form ≡ form.Setter → slice_get fn.func.params.items 1 ≡ Some second → given_fault fn ≡ Some (fault 37 second.name.span)
-setter_second fn second is at = ap (λ (w : FuncForm). params_fault w fn.func.params.items fn.func.span) is ∙ second_param fn.func.params.items fn.func.span second at
-
-pub setter_alone : (fn : SourceFunction) → fn.func.form ≡ form.Setter → (length fn.func.params.items ≡ 1 → ⊥) → slice_get fn.func.params.items 1 ≡ None → given_fault fn ≡ Some (fault 37 fn.func.span)
-setter_alone fn is other none = ap (λ (w : FuncForm). params_fault w fn.func.params.items fn.func.span) is ∙ no_param fn.func.params.items fn.func.span other none
+-- what is found of the parameters of a form is found of a function of that form
+pub given_found : {T : Type 0} (fn : SourceFunction) (w : FuncForm) (params : List Param) (span : Span) (r : Result T ParseError) → w ≡ fn.func.form → params ≡ fn.func.params.items → span ≡ fn.func.span → Finds (params_fault w params span) r → Finds (given_fault fn) r
+given_found fn w params span r is same at found = subst (λ (o : Option Fault). Finds o r) (ap (λ (v : FuncForm). params_fault v params span) is ∙ ap (λ (l : List Param). params_fault fn.func.form l span) same ∙ ap (params_fault fn.func.form fn.func.params.items) at) found
 
 -- what is read at a place of a list is there
 pub got_at : {X : Type 0} (xs : List X) (i : ℕ) (r : Option (Bor X)) → IsItemAt xs i r → option_copied r ≡ slice_get xs i

@@ -2,7 +2,7 @@
 use Rattle.std.specs.Prelude.{Option, Some, None}
 use Rattle.wit_type_tree.specs.declared.leaves.Id.{Id}
 use Rattle.wit_tree.specs.declared.tree.WorldSide.{WorldSide}
-use Rattle.wit_syntax.specs.Function.{Role, Freestanding, Method, Static, Constructor, OnSide, SourceFunction, free_function, resource_function, side_function}
+use Rattle.wit_syntax.specs.Function.{Role, Method, Static, Constructor, OnSide, SourceFunction, free_function, resource_function, side_function}
 use Rattle.wit_rules.specs.declared.borrowed.BorrowedFunction.{BorrowedFunction}
 use Rattle.wit_rules.specs.declared.borrowed.BorrowedFunction.TheVariants.{Free, Of, Across}
 
@@ -14,32 +14,22 @@ function_view (Across side docs attributes name f) = side_function side docs.now
 
 -- the resource that a function belongs to
 abbrev pub owner_of : Role → Option Id
-owner_of (Freestanding id form) = None
 owner_of (Method of form) = Some of
 owner_of (Static of form) = Some of
 owner_of (Constructor of) = Some of
-owner_of (OnSide side id form) = None
+owner_of role = None
 
 -- the resource that a method is first given
 abbrev pub given_of : Role → Option Id
-given_of (Freestanding id form) = None
 given_of (Method of form) = Some of
-given_of (Static of form) = None
-given_of (Constructor of) = None
-given_of (OnSide side id form) = None
+given_of role = None
 
 -- the side of a world that imports or exports a function
 abbrev pub across_of : Role → Option WorldSide
-across_of (Freestanding id form) = None
-across_of (Method of form) = None
-across_of (Static of form) = None
-across_of (Constructor of) = None
 across_of (OnSide side id form) = Some side
+across_of role = None
 
 -- the resource that a constructor makes
 abbrev pub made_of : Role → Option Id
-made_of (Freestanding id form) = None
-made_of (Method of form) = None
-made_of (Static of form) = None
 made_of (Constructor of) = Some of
-made_of (OnSide side id form) = None
+made_of role = None

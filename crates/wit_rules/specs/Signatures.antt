@@ -1,11 +1,9 @@
--- What the functions of a scope are resolved in, and a name in one of them that is lost.
-use Rattle.std.specs.Prelude.{[], ◌≡◌, ℕ, nat_eq, List, length, map, Option, Some, None, IsSome, slice_get, ⊤}
+-- What the functions of a scope are resolved in, and over which types.
+use Rattle.std.specs.Prelude.{◌≡◌, ℕ, nat_eq, List, length, map, Option, Some, None, IsSome, slice_get, ⊤}
 use Rattle.std.specs.Cmp.Lexicographic.{pointwise}
 use Rattle.std.specs.Map.{lookup}
 use Rattle.std.specs.Option.{option_to_list}
 use denote.Ref.{Bor}
-use Rattle.wit_values.specs.declared.span.Span.{Span}
-use Rattle.wit_type_tree.specs.RefusalText.{Missing}
 use Rattle.wit_type_tree.specs.declared.leaves.Id.{Id}
 use Rattle.wit_type_tree.specs.declared.types.«Type».{«Type» as Written}
 use Rattle.wit_types.specs.declared.types.«Type».{«Type» as Ty}
@@ -13,12 +11,10 @@ use Rattle.wit_types.specs.declared.types.TypeDef.{TypeDef}
 use Rattle.wit_functions.specs.declared.function.Param.{Param}
 use Rattle.wit_syntax.specs.Address.{Address}
 use Rattle.wit_arena.specs.Adding.{AreShapes, SaysParam}
-use Rattle.wit_syntax.specs.Words.{function_words}
-use Rattle.wit_syntax.specs.Fault.{Fault, fault_in, name_word}
 use Rattle.wit_syntax.specs.Shape.{Shape}
 use Rattle.wit_syntax.specs.Source.{ScopeName, meaning}
-use Rattle.wit_syntax.specs.Function.{Role, Freestanding, Method, Static, Constructor, OnSide, SourceParam, SourceFunction}
-use Rattle.wit_syntax.specs.SignatureRules.{ok_of, meant_ok, IsEntered}
+use Rattle.wit_syntax.specs.Function.{SourceParam, SourceFunction}
+use Rattle.wit_syntax.specs.SignatureRules.{ok_of, meant_ok}
 use Rattle.wit_arena.specs.Resolving.{Env, env_of}
 use Rattle.wit_rules.specs.declared.function_scope.FunctionScope.{FunctionScope}
 use Rattle.wit_rules.specs.BorrowedFunctions.{function_view, owner_of}
@@ -52,19 +48,6 @@ HasOwner env (Some id) = IsSome (env id.name.now)
 
 pub record HaveOwners (env : Env) (fns : List SourceFunction) : Type 0 where
   pub each : (k : ℕ) (fn : SourceFunction) → slice_get fns k ≡ Some fn → HasOwner env (owner_of fn.role)
-
--- a function is one by itself, of this written name
-abbrev pub IsFree : Role → List ℕ → Type 0
-IsFree (Freestanding id form) name = id.name.now ≡ name
-IsFree (Method of form) name = ⊥
-IsFree (Static of form) name = ⊥
-IsFree (Constructor of) name = ⊥
-IsFree (OnSide side id form) name = ⊥
-
--- a name that is written at a span is that of a function up to a place, or of none
-pub data IsLostAt (fns : List SourceFunction) (k : ℕ) (span : Span) (name : List ℕ) (f : Fault) : Type 0 where
-  AtFunction : IsEntered fns k name → f ≡ fault_in 28 span (function_words name) → IsLostAt fns k span name f
-  AtNothing : (IsEntered fns k name → ⊥) → f ≡ record { rule = 29; span = span; name = Some name; sort = Missing name_word; hint = None; said = [] } → IsLostAt fns k span name f
 
 -- these are the parameters, over their types, which were added to the arena
 pub record AreParamsOver (old new : List TypeDef) (env : Env) (ws : List SourceParam) (ps : List Param) : Type 0 where

@@ -1,9 +1,9 @@
 //! Functions as they are written, before their types are resolved.
-ghost use Rattle.std.specs.Prelude.{◌≡◌, ◌++◌, length, IfOk, string_bytes};
+ghost use Rattle.std.specs.Prelude.{◌≡◌, ◌++◌, length, IfOk, string_bytes, codes};
 ghost use Rattle.std.specs.Option.{option_map};
-ghost use Rattle.wit_syntax.specs.Function.{accessor, all_params, dotted, resource_function};
+ghost use Rattle.wit_syntax.specs.Function.{accessor, all_params, resource_function};
 ghost use Rattle.wit_syntax.specs.Sides.{role_side};
-ghost use Rattle.wit_rules.specs.BorrowedFunctions.{function_view, owner_of, given_of, made_of, across_of};
+ghost use Rattle.wit_rules.specs.BorrowedFunctions.{function_view, given_of, made_of, across_of};
 
 use std::alloc::{AllocError, Global};
 use wit_tree::Span;
@@ -65,7 +65,7 @@ fn member_name(
     of: Id<'_>,
     name: Id<'_>,
 ) -> Result<String, AllocError>
-    ensures { IfOk result (λ text. string_bytes text ≡ word.now ++ mark.now ++ dotted of.entry name.entry) }
+    ensures { IfOk result (λ text. string_bytes text ≡ word.now ++ mark.now ++ (of.entry.name.now ++ codes "." ++ name.entry.name.now)) }
 {
     let prefix = word.len().saturating_add(mark.len());
     let dotted = of.name.len().saturating_add(name.name.len());
@@ -109,16 +109,6 @@ impl<'t, 'a> BorrowedFunction<'t, 'a> {
             BorrowedFunction::Across(_, _, _, name, f) => free_name(alloc, f.form, name)?,
         };
         Ok(Text::from(name))
-    }
-
-    /// The resource that it belongs to, if it does.
-    pub fn owner(self) -> Option<Id<'a>>
-        ensures { result ≡ owner_of (function_view self.entry).role }
-    {
-        match self {
-            BorrowedFunction::Free(_) | BorrowedFunction::Across(_, _, _, _, _) => None,
-            BorrowedFunction::Of(resource, _) => Some(resource),
-        }
     }
 
     /// The resource that it is first given, lent: that of a method.

@@ -2,11 +2,12 @@
 ghost use Rattle.std.specs.Prelude.{◌≡◌, ◌⊎◌, List, Some, IfOk, codes, map};
 ghost use Rattle.wit_type_tree.specs.RefusalText.{IsAllocationFailure};
 ghost use Rattle.wit_type_tree.specs.declared.types.FuncForm.TheVariants.{Getter, Setter};
-ghost use Rattle.wit_syntax.specs.Bodies.{folded};
+ghost use Rattle.wit_values.specs.declared.span.Span.{Span};
+ghost use Rattle.wit_names.specs.Folded.{lower_case};
 ghost use Rattle.wit_syntax.specs.Fault.{fault_in, fault_of};
 ghost use Rattle.wit_syntax.specs.Words.{defined_twice as twice_words};
 ghost use Rattle.wit_first.specs.First.{Finds, IsFirstRepeat};
-ghost use Rattle.wit_first.specs.FunctionFaults.{given_fault, gives_fault, is_written_as, made_fault, no_result_fault, setter_fault};
+ghost use Rattle.wit_first.specs.FunctionFaults.{getter_fault, given_fault, is_written_as, made_fault, result_fault, setter_fault, params_fault};
 ghost use Rattle.wit_syntax.specs.Source.{ScopeName};
 ghost use Rattle.wit_syntax.specs.Function.{all_params};
 ghost use Rattle.wit_syntax.specs.SignatureRules.{ok_span as the_ok_span, result_ok as the_result_ok};
@@ -20,7 +21,7 @@ use wit_maps::TextTable;
 use wit_refusals::refusal::{refuse, refuse_in};
 use wit_refusals::repeat_words::defined_twice;
 use wit_refusals::repeats::first_folded_repeat;
-use wit_tree::tree::{FuncForm, Id, Type};
+use wit_tree::tree::{FuncForm, Id, Param, Type};
 use wit_tree::{ParseError, ParseResult, Span};
 
 /// What is said of a setter whose result is no `result`, or gives something where all is well.
@@ -37,11 +38,10 @@ const SETTER_PARAMS: &str = "setters must have exactly one parameter";
 const CONSTRUCTOR_OK: &str = "the `ok` type must be the resource being constructed";
 
 /// Refuses a getter with a parameter (E36).
-fn check_getter(alloc: Global, function: BorrowedFunction<'_, '_>) -> ParseResult<()>
-    requires { (function_view function).func.form ≡ Getter }
-    ensures { Finds (given_fault (function_view function.entry)) result }
+fn check_getter(alloc: Global, params: &[Param<'_>]) -> ParseResult<()>
+    ensures { (word : Span) → Finds (params_fault Getter params.now word) result }
 {
-    match function.params().first() {
+    match params.first() {
         Some(first) => {
             let span = first.name.span;
             Err(refuse(alloc, 36, span, "getters cannot have parameters"))
@@ -50,18 +50,17 @@ fn check_getter(alloc: Global, function: BorrowedFunction<'_, '_>) -> ParseResul
     }
 }
 
-/// Refuses a setter that has not just one parameter (E37).
-fn check_setter(alloc: Global, function: BorrowedFunction<'_, '_>) -> ParseResult<()>
-    requires { (function_view function).func.form ≡ Setter }
-    ensures { Finds (given_fault (function_view function.entry)) result }
+/// Refuses a setter that has not just one parameter (E37), at the word that begins its signature where
+/// it has none.
+fn check_setter(alloc: Global, params: &[Param<'_>], word: Span) -> ParseResult<()>
+    ensures { Finds (params_fault Setter params.now word) result }
 {
-    let params = function.params();
     if params.len() == 1 {
         return Ok(());
     }
     match params.get(1) {
         Some(second) => Err(refuse(alloc, 37, second.name.span, SETTER_PARAMS)),
-        None => Err(refuse(alloc, 37, function.word(), SETTER_PARAMS)),
+        None => Err(refuse(alloc, 37, word, SETTER_PARAMS)),
     }
 }
 
@@ -70,8 +69,8 @@ pub fn check_given(alloc: Global, function: BorrowedFunction<'_, '_>) -> ParseRe
     ensures { Finds (given_fault (function_view function.entry)) result }
 {
     match function.form() {
-        FuncForm::Getter => check_getter(alloc, function),
-        FuncForm::Setter => check_setter(alloc, function),
+        FuncForm::Getter => check_getter(alloc, function.params()),
+        FuncForm::Setter => check_setter(alloc, function.params(), function.word()),
         FuncForm::Plain | FuncForm::Async => Ok(()),
     }
 }
@@ -99,7 +98,7 @@ pub fn repeated_param(
     alloc: Global,
     function: BorrowedFunction<'_, '_>,
 ) -> Result<Option<usize>, AllocError>
-    ensures { IfOk result (IsFirstRepeat (λ p. folded p.name) (all_params (function_view function.entry))) }
+    ensures { IfOk result (IsFirstRepeat (λ p. lower_case p.name) (all_params (function_view function.entry))) }
 {
     if function.param_count() < 2 {
         return Ok(None);
@@ -120,7 +119,7 @@ pub fn refuse_param(alloc: Global, name: Id<'_>) -> ParseError
 
 /// Refuses a getter without a result (E39).
 pub fn check_returns(alloc: Global, function: BorrowedFunction<'_, '_>) -> ParseResult<()>
-    ensures { Finds (no_result_fault (function_view function.entry)) result }
+    ensures { Finds (getter_fault (function_view function.entry).func.form (function_view function.entry).func.span) result }
 {
     match function.form() {
         FuncForm::Getter => {
@@ -195,7 +194,7 @@ pub fn check_result<'t, 'a>(
     function: BorrowedFunction<'t, 'a>,
     ty: &'t Type<'a>,
 ) -> ParseResult<()>
-    ensures { (xs : List ScopeName) → AreResults results.now xs → Finds (gives_fault xs (function_view function.entry) ty.now) result }
+    ensures { (xs : List ScopeName) → AreResults results.now xs → Finds (result_fault (function_view function.entry).func.form (function_view function.entry).role ty.now (the_result_ok xs ty.now)) result }
 {
     if let FuncForm::Setter = function.form() {
         return check_setter_result(alloc, results, ty);

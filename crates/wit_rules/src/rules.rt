@@ -1,8 +1,11 @@
 //! The rules of types, fields, flags and cases.
-ghost use Rattle.std.specs.Prelude.{◌≡◌, IfOk, codes, map};
+ghost use Rattle.std.specs.Prelude.{◌≡◌, IfOk, codes, map, slice_get};
+ghost use Rattle.wit_type_tree.specs.declared.types.Flag.{Flag as TheFlag};
 ghost use Rattle.wit_first.specs.First.{Finds};
-ghost use Rattle.wit_first.specs.KeyFaults.{can_be_key, is_key, key_fault};
-ghost use Rattle.wit_first.specs.ListFaults.{empty_fault, flag_fault, flags_fault, members_fault};
+ghost use Rattle.wit_first.specs.KeyFaults.{is_key, key_fault};
+ghost use Rattle.wit_first.specs.ListFaults.{empty_fault, flags_fault, members_fault};
+ghost use Rattle.wit_syntax.specs.Fault.{fault};
+ghost use Rattle.std.specs.Option.{option_map};
 
 use std::alloc::{AllocError, Global};
 use wit_refusals::check_unique_names;
@@ -17,22 +20,15 @@ const MOST_FLAGS: usize = 32;
 const INVALID_KEY: &str =
     "invalid map key type: map keys must be bool, u8, u16, u32, u64, s8, s16, s32, s64, char, or string";
 
-/// Whether the keys of a map can be of a primitive type.
-fn can_be_key(primitive: Primitive) -> bool
-    ensures { result ≡ can_be_key primitive }
-{
-    !matches!(
-        primitive,
-        Primitive::F32 | Primitive::F64 | Primitive::ErrorContext
-    )
-}
-
 /// Whether the keys of a map can be of a type, as it is written.
 fn is_key(ty: &Type<'_>) -> bool
     ensures { result ≡ is_key ty.now }
 {
     match ty {
-        Type::Primitive(_, primitive) => can_be_key(*primitive),
+        Type::Primitive(_, primitive) => !matches!(
+            primitive,
+            Primitive::F32 | Primitive::F64 | Primitive::ErrorContext
+        ),
         _ => false,
     }
 }
@@ -98,7 +94,7 @@ pub fn check_record(alloc: Global, span: Span, fields: &[Field<'_>]) -> ParseRes
 
 /// Refuses the thirty-third flag (E21).
 fn check_count(alloc: Global, flags: &[Flag<'_>]) -> ParseResult<()>
-    ensures { Finds (flag_fault flags.now) result }
+    ensures { Finds (option_map (λ (flag : TheFlag). fault 21 flag.name.span) (slice_get flags.now 32)) result }
 {
     match flags.get(MOST_FLAGS) {
         Some(flag) => Err(refuse(alloc, 21, flag.name.span, "cannot have more than 32 flags")),

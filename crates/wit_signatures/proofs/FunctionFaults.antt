@@ -1,20 +1,22 @@
 -- The parameters of a function without a fault, one more and in an arena that grows.
-use Rattle.std.proofs.Common.{◌≡◌, ◌≤◌, ◌+◌, ℕ, List, [], ◌++◌, length, take, Option, Some, None, inl, inr, ap, ◌∙◌, subst, arith}
-use Rattle.wit_syntax.proofs.Common.{Fault, Param, ScopeName, SourceFunction, SourceParam, TypeDef, at_back, cases_lt, folded, map, option_map, param_twice, slice_get, slice_get-map, take-append-add, take-map, written_param}
-use Rattle.wit_first.specs.First.{repeat_of, IsFirstRepeat}
+use Rattle.std.proofs.Common.{◌≡◌, ◌≤◌, ◌+◌, ℕ, List, [], ◌++◌, length, take, true, false, nat_eq, Option, Some, None, inl, inr, ap, ◌∙◌, subst, arith, sym}
+use Rattle.wit_syntax.proofs.Common.{Fault, Param, ScopeName, SourceFunction, SourceParam, TypeDef, at_back, cases_lt, lower_case, map, option_eq, option_map, param_twice, slice_get, slice_get-map, take-append-add, take-map, written_param, ParseError, option_or}
+use Rattle.wit_first.specs.First.{repeat_of, IsFirstRepeat, Reports, first_after}
+use Rattle.wit_first.specs.AttributeFaults.{metadata_fault}
+use Rattle.wit_first.specs.FunctionFaults.{given_fault}
 use Rattle.wit_first.proofs.Bridge.{or_none_both}
-use Rattle.wit_first.proofs.First.{none_both}
+use Rattle.wit_first.proofs.First.{none_both, reports_back, reports_prefix}
 use Rattle.wit_first.proofs.Repeats.{after_kept, repeat_after, repeat_found, unrepeated}
+use Rattle.wit_walk.specs.Functions.{function_fault, lost_word, param_fault, return_fault}
 use Rattle.wit_arena.proofs.Common.{Env}
 use Rattle.wit_entries.specs.Requiring.{IsExtended}
 use Rattle.wit_entries.proofs.Faults.{named_extended}
-use Rattle.wit_rules.specs.declared.borrowed.BorrowedFunction.{BorrowedFunction}
-use Rattle.wit_rules.specs.BorrowedFunctions.{function_view}
-use Rattle.wit_signatures.specs.SignatureFaults.{lost_at, signed_fault, param_fault, params_fault}
+use Rattle.wit_type_tree.specs.declared.types.«Type».{«Type» as Written}
+use Rattle.wit_signatures.specs.SignatureFaults.{signed_fault, params_fault}
 
 -- a parameter by its name, and the fault of a later one
 abbrev key : SourceParam → List ℕ
-key q = folded q.name
+key q = lower_case q.name
 
 abbrev as_stated : SourceParam → Fault
 as_stated q = param_twice q.name q.span
@@ -41,15 +43,41 @@ param_unrepeated given ps found i p few first past other at =
       | inr far ↦ (let same : k ≡ length given + i = omega arith in absurd (other (is ∙ ap (λ (n : ℕ). Some n) same)))
     ])))
 
+-- the next one, where the first repeated one is another
+pub param_next : (given : List SourceParam) (ps : List Param) (found : Option ℕ) (i count : ℕ) (p : Param) → length given ≤ 1 → IsFirstRepeat key (given ++ map written_param ps) found → ((k : ℕ) → found ≡ Some k → length given ≤ k → length given + i ≤ k) → count ≡ length given + i → (found ≡ Some count → ⊥) → slice_get ps i ≡ Some p → repeat_of key as_stated (given ++ map written_param (take i ps)) (written_param p) ≡ None
+param_next given ps found i count p few first past same other at = param_unrepeated given ps found i p few first past (λ is. other (is ∙ ap (λ (n : ℕ). Some n) (sym same))) at
+
+-- a place that differs from the one that is found is another
+pub apart_found : (found : Option ℕ) (n : ℕ) → option_eq nat_eq found (Some n) ≡ false → found ≡ Some n → ⊥
+apart_found found n apart is =
+    let one : option_eq nat_eq found (Some n) ≡ nat_eq n n = ap (λ (o : Option ℕ). option_eq nat_eq o (Some n)) is in
+    let two : nat_eq n n ≡ true = grind arith in
+    let f : ⊥ = cc in
+    f
+
+-- of the parameters of a function as they are lent
+pub repeat_lent : (fn : SourceFunction) (ps : List Param) (found : Option ℕ) → ps ≡ fn.func.params.items → IsFirstRepeat key (fn.given ++ map written_param fn.func.params.items) found → IsFirstRepeat key (fn.given ++ map written_param ps) found
+repeat_lent fn ps found same first = subst (λ (l : List Param). IsFirstRepeat key (fn.given ++ map written_param l) found) (sym same) first
+
 -- parameters without a fault, in a grown arena
-pub params_extended : (env : Env) (old new : List TypeDef) (fns : List SourceFunction) (k : ℕ) (given : List SourceParam) (ps : List Param) → IsExtended old new → params_fault (signed_fault env old fns k) given ps ≡ None → params_fault (signed_fault env new fns k) given ps ≡ None
-params_extended env old new fns k given ps g none = after_kept (param_fault (signed_fault env old fns k) given) (param_fault (signed_fault env new fns k) given) (λ before p own. (
-    let both = or_none_both (repeat_of key as_stated (given ++ map written_param before) (written_param p)) (signed_fault env old fns k p.ty) own in
-    none_both both.0 (named_extended (lost_at fns k) env old new p.ty g both.1))) [] ps none
+pub params_extended : (env : Env) (old new : List TypeDef) (fns : List SourceFunction) (fn : SourceFunction) (ps : List Param) → IsExtended old new → first_after (param_fault (signed_fault env old fns) fn) [] ps ≡ None → first_after (param_fault (signed_fault env new fns) fn) [] ps ≡ None
+params_extended env old new fns fn ps g none = after_kept (param_fault (signed_fault env old fns) fn) (param_fault (signed_fault env new fns) fn) (λ before p own. (
+    let both = or_none_both (repeat_of key as_stated (fn.given ++ map written_param before) (written_param p)) (signed_fault env old fns p.ty) own in
+    none_both both.0 (named_extended (lost_word fns) env old new p.ty g both.1))) [] ps none
 
-module _ (env : Env) (es : List TypeDef) (xs : List ScopeName) (fns : List SourceFunction) (k : ℕ) (h : BorrowedFunction) where
-  abbrev fn : SourceFunction
-  fn = function_view h
+-- the first fault of a function: of what it is given, of its parameters, of what it gives, or none
+module _ (wrong : Written → Option Fault) (xs : List ScopeName) (fn : SourceFunction) (meta : metadata_fault fn.attributes ≡ None) where
+  abbrev returns : Option Fault
+  returns = return_fault wrong xs fn fn.func.result
 
-  abbrev ps : List Param
-  ps = fn.func.params.items
+  pub given_first : {e : ParseError} → Reports (given_fault fn) e → Reports (function_fault wrong xs fn) e
+  given_first report = reports_back meta (reports_prefix (option_or (params_fault wrong fn) returns) report)
+
+  pub params_first : {e : ParseError} → given_fault fn ≡ None → Reports (params_fault wrong fn) e → Reports (function_fault wrong xs fn) e
+  params_first given report = reports_back meta (reports_back given (reports_prefix returns report))
+
+  pub returns_first : {e : ParseError} → given_fault fn ≡ None → params_fault wrong fn ≡ None → Reports returns e → Reports (function_fault wrong xs fn) e
+  returns_first given params report = reports_back meta (reports_back given (reports_back params report))
+
+  pub none_first : given_fault fn ≡ None → params_fault wrong fn ≡ None → returns ≡ None → function_fault wrong xs fn ≡ None
+  none_first given params none = none_both meta (none_both given (none_both params none))

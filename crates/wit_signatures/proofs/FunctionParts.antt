@@ -1,6 +1,6 @@
 -- Parameters and results over their types, one after the other.
 use Rattle.std.proofs.Common.{◌≡◌, ◌≤◌, ℕ, zero, suc, List, [], ◌∷◌, ◌++◌, length, map, Option, Some, None, inl, inr, refl, sym, ap, ◌∙◌, subst, arith, append_assoc, length-append}
-use Rattle.wit_syntax.proofs.Common.{Id, Param as WrittenParam, ResourceFunc, Shape, SourceParam, Span, TypeDef, Unknown, Word, at_split, map-append, resource_function, self_param, shape_of, slice_get, slice_get_within, written_param}
+use Rattle.wit_syntax.proofs.Common.{Address, Id, Param as WrittenParam, ResourceFunc, Shape, SourceParam, Span, TypeDef, Unknown, Word, at_split, map-append, resource_function, self_param, slice_get, slice_get_within, written_param}
 use Rattle.wit_type_tree.specs.declared.types.ResourceFunc.TheVariants as resource
 use Rattle.wit_type_tree.specs.declared.types.«Type».{«Type» as Written}
 use Rattle.wit_types.specs.declared.types.«Type».{«Type» as Ty}
@@ -12,7 +12,7 @@ use Rattle.wit_arena.specs.Adding.{AreShapes, SaysParam}
 use Rattle.wit_rules.specs.declared.borrowed.BorrowedFunction.{BorrowedFunction}
 use Rattle.wit_rules.specs.declared.borrowed.BorrowedFunction.TheVariants as borrowed
 use Rattle.wit_rules.specs.BorrowedFunctions.{function_view, given_of}
-use Rattle.wit_entries.specs.ResolvedForms.{IsResolved}
+use Rattle.wit_entries.specs.ResolvedForms.{AreTypes, IsResolved}
 use Rattle.wit_rules.specs.Signatures.{AreParamsOver, IsResultOver}
 use Rattle.wit_entries.proofs.Reading.{alone, resolved_word, whole_present}
 use Rattle.wit_signatures.proofs.SignatureTypes.{result_shape}
@@ -20,8 +20,8 @@ use Rattle.wit_signatures.proofs.SignatureTypes.{result_shape}
 params_none : (es : List TypeDef) (env : Env) → AreParamsOver es es env [] []
 params_none es env = record { count = refl; each = λ k w p at. absurd (let f : ⊥ = cc in f); types = λ s. shapes_none es s env }
 
-params_one : (old new : List TypeDef) (env : Env) (w : SourceParam) (p : Param) → SaysParam w p → IsResolved old new env Unknown w.shape p.ty → AreParamsOver old new env (w ∷ []) (p ∷ [])
-params_one old new env w p says is = record { count = refl; each = only; types = λ s. shapes_one old new s env w.shape p.ty (is s) }
+params_one : (old new : List TypeDef) (env : Env) (w : SourceParam) (p : Param) → SaysParam w p → ((s : Address) → AreShapes old new s env (w.shape ∷ []) (p.ty ∷ [])) → AreParamsOver old new env (w ∷ []) (p ∷ [])
+params_one old new env w p says is = record { count = refl; each = only; types = is }
   where
     only : (k : ℕ) (v : SourceParam) (q : Param) → slice_get (w ∷ []) k ≡ Some v → slice_get (p ∷ []) k ≡ Some q → SaysParam v q
     only zero v q at there =
@@ -54,24 +54,23 @@ params_append old mid new env ws vs ps qs p q = record {
 }
 
 -- one more of the written ones
-pub params_more : (first mid new : List TypeDef) (env : Env) (ws : List SourceParam) (done all : List WrittenParam) (item : WrittenParam) (ps qs : List Param) (p : Param) (ty : Ty) → all ≡ done ++ item ∷ [] → qs ≡ ps ++ p ∷ [] → p.name ≡ item.name.name.now → p.span ≡ item.name.span → p.ty ≡ ty → IsResolved mid new env Unknown (shape_of item.ty) ty → AreParamsOver first mid env (ws ++ map written_param done) ps → AreParamsOver first new env (ws ++ map written_param all) qs
-params_more first mid new env ws done all item ps qs p ty in_use pushed name span same is h =
+pub params_more : (first mid new : List TypeDef) (env : Env) (ws : List SourceParam) (done all : List WrittenParam) (item : WrittenParam) (ps qs : List Param) (p : Param) (ty : Ty) → all ≡ done ++ item ∷ [] → qs ≡ ps ++ p ∷ [] → (p.name ≡ item.name.name.now) × (p.span ≡ item.name.span) × (p.ty ≡ ty) → AreTypes mid new env Unknown (item.ty ∷ []) (ty ∷ []) → AreParamsOver first mid env (ws ++ map written_param done) ps → AreParamsOver first new env (ws ++ map written_param all) qs
+params_more first mid new env ws done all item ps qs p ty in_use pushed says is h =
     let w = written_param item in
-    let one = params_one mid new env w p (name, span) (subst (IsResolved mid new env Unknown (shape_of item.ty)) (sym same) is) in
+    let one = params_one mid new env w p (says.0, says.1) (λ s. subst (λ (x : Ty). AreShapes mid new s env (w.shape ∷ []) (x ∷ [])) (sym says.2) (is s)) in
     let both = params_append first mid new env (ws ++ map written_param done) (w ∷ []) ps (p ∷ []) h one in
     let written : (ws ++ map written_param done) ++ w ∷ [] ≡ ws ++ map written_param all = append_assoc ws (map written_param done) (w ∷ []) ∙ ap (λ (l : List SourceParam). ws ++ l) (sym (map-append written_param done (item ∷ []))) ∙ ap (λ (l : List WrittenParam). ws ++ map written_param l) (sym in_use) in
     subst (AreParamsOver first new env (ws ++ map written_param all)) (sym pushed) (subst (λ (l : List SourceParam). AreParamsOver first new env l (ps ++ p ∷ [])) written both)
 
 -- the type of a method's first parameter, once it is interned
-pub self_present : (old new : List TypeDef) (env : Env) (r : Id) (word : Span) (place i : ℕ) → env r.name.now ≡ Some place → IsInterned old new (kind.Handle (handle.Borrow place)) Unknown word i → IsResolved old new env Unknown (self_param r word).shape (type.Id i)
-self_present old new env r word place i found interned = whole_present old old new env Unknown (self_param r word).shape (kind.Handle (handle.Borrow place)) word i (refl, refl, tt, alone Unknown (Word r) (resolved_word old env Unknown r place found)) interned
-
-result_one : (old new : List TypeDef) (env : Env) (x : Shape) (t : Ty) → IsResolved old new env Unknown x t → IsResultOver old new env (Some x) (Some t)
-result_one old new env x t is = record { types = λ s. shapes_one old new s env x t (is s) }
+pub self_over : (old new : List TypeDef) (env : Env) (r : Id) (word : Span) (place i : ℕ) (p : Param) → env r.name.now ≡ Some place → IsInterned old new (kind.Handle (handle.Borrow place)) Unknown word i → SaysParam (self_param r word) p → p.ty ≡ type.Id i → AreParamsOver old new env (self_param r word ∷ []) (p ∷ [])
+self_over old new env r word place i p found interned says same =
+    let is = whole_present old old new env Unknown (self_param r word).shape (kind.Handle (handle.Borrow place)) word i (refl, refl, tt, alone Unknown (Word r) (resolved_word old env Unknown r place found)) interned in
+    params_one old new env (self_param r word) p says (λ s. shapes_one old new s env (self_param r word).shape p.ty (subst (IsResolved old new env Unknown (self_param r word).shape) (sym same) is s))
 
 -- a written result means a type
-pub result_view : (old new : List TypeDef) (env : Env) (h : BorrowedFunction) (t : Written) (ty : Ty) → (function_view h).func.result ≡ Some t → IsResolved old new env Unknown (shape_of t) ty → IsResultOver old new env (function_view h).result (Some ty)
-result_view old new env h t ty written is = subst (λ (x : Option Shape). IsResultOver old new env x (Some ty)) (sym (result_shape h t written)) (result_one old new env (shape_of t) ty is)
+pub result_view : (old new : List TypeDef) (env : Env) (h : BorrowedFunction) (t : Written) (ty : Ty) → (function_view h).func.result ≡ Some t → AreTypes old new env Unknown (t ∷ []) (ty ∷ []) → IsResultOver old new env (function_view h).result (Some ty)
+result_view old new env h t ty written is = subst (λ (x : Option Shape). IsResultOver old new env x (Some ty)) (sym (result_shape h t written)) (record { types = is })
 
 -- a method is given its resource, and no other function is given anything
 given_resource : (h : BorrowedFunction) (r : Id) → given_of (function_view h).role ≡ Some r → (function_view h).given ≡ self_param r (function_view h).func.span ∷ []
@@ -94,11 +93,11 @@ given_nothing (borrowed.Of of f) is = by f.now is
     by (resource.Static m) is = refl
     by (resource.Constructor docs attributes span params result) is = refl
 
-pub given_one : (old new : List TypeDef) (env : Env) (h : BorrowedFunction) (r : Id) (word : Span) (p : Param) (before ps : List Param) → given_of (function_view h).role ≡ Some r → word ≡ (function_view h).func.span → before ≡ [] → ps ≡ before ++ p ∷ [] → SaysParam (self_param r word) p → IsResolved old new env Unknown (self_param r word).shape p.ty → AreParamsOver old new env (function_view h).given ps
-given_one old new env h r word p before ps given there empty pushed says is =
+pub given_one : (old new : List TypeDef) (env : Env) (h : BorrowedFunction) (r : Id) (word : Span) (p : Param) (before ps : List Param) → given_of (function_view h).role ≡ Some r → word ≡ (function_view h).func.span → before ≡ [] → ps ≡ before ++ p ∷ [] → AreParamsOver old new env (self_param r word ∷ []) (p ∷ []) → AreParamsOver old new env (function_view h).given ps
+given_one old new env h r word p before ps given there empty pushed one =
     let only : ps ≡ p ∷ [] = pushed ∙ ap (λ (l : List Param). l ++ p ∷ []) empty in
     let written : self_param r word ∷ [] ≡ (function_view h).given = ap (λ (at : Span). self_param r at ∷ []) there ∙ sym (given_resource h r given) in
-    subst (AreParamsOver old new env (function_view h).given) (sym only) (subst (λ (l : List SourceParam). AreParamsOver old new env l (p ∷ [])) written (params_one old new env (self_param r word) p says is))
+    subst (AreParamsOver old new env (function_view h).given) (sym only) (subst (λ (l : List SourceParam). AreParamsOver old new env l (p ∷ [])) written one)
 
 pub given_none : (es : List TypeDef) (env : Env) (h : BorrowedFunction) (ps : List Param) → given_of (function_view h).role ≡ None → ps ≡ [] → AreParamsOver es es env (function_view h).given ps
 given_none es env h ps given empty = subst (AreParamsOver es es env (function_view h).given) (sym empty) (subst (λ (l : List SourceParam). AreParamsOver es es env l []) (sym (given_nothing h given)) (params_none es env))

@@ -1,5 +1,4 @@
 mod SignatureTypes
-mod Lost
 mod FunctionParts
 mod Signed
 pub mod FunctionFaults

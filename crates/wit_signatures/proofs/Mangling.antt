@@ -1,10 +1,11 @@
 -- The names of functions: each is mangled, and it is a setter's exactly where the function is one.
-use Rattle.std.proofs.Common.{◌≡◌, ℕ, ◌==◌, ◌++◌, ◌||◌, Bool, List, [], ◌∷◌, Some, None, true, false, refl, sym, ap, ◌∙◌, subst, append_assoc}
-use Rattle.wit_syntax.proofs.Common.{FuncForm, Id, IsTrue, Option, ResourceFunc, accessor, and_parts, codes, dotted, fragments, getter_of, is_ascii_alphabetic, is_dotted, is_fragment, is_label, is_mangled, is_setter, list_all, ne_eqb, passes, resource_function, rest_after, starts_with_letter, with_prefix}
+use Rattle.std.proofs.Common.{◌≡◌, ℕ, ◌==◌, ◌++◌, ◌||◌, List, [], ◌∷◌, Some, None, true, false, refl, sym, subst, append_assoc}
+use Rattle.wit_syntax.proofs.Common.{FuncForm, Id, IsTrue, Option, ResourceFunc, accessor, and_parts, codes, fragments, getter_of, is_ascii_alphabetic, is_dotted, is_fragment, is_label, is_mangled, is_setter, list_all, ne_eqb, passes, resource_function, rest_after, starts_with_letter, option_map_or}
 use Rattle.wit_type_tree.specs.declared.types.FuncForm.TheVariants.{Plain, Async, Getter, Setter}
 use Rattle.wit_type_tree.specs.declared.types.ResourceFunc.TheVariants as resource
 use Rattle.wit_names.proofs.Labels.{is_mangled-label}
 use Rattle.wit_names.proofs.MadeNames.{is_dotted-labels, is_mangled-get, is_mangled-set, is_mangled-constructor, is_mangled-method, is_mangled-method_get, is_mangled-method_set, is_mangled-static, is_mangled-static_get, is_mangled-static_set, is_setter-set, is_setter-method, is_setter-static}
+use Rattle.wit_walk.specs.Setters.{is_setter as form_sets}
 use Rattle.wit_rules.specs.declared.borrowed.BorrowedFunction.{BorrowedFunction}
 use Rattle.wit_rules.specs.declared.borrowed.BorrowedFunction.TheVariants.{Free, Of, Across}
 use Rattle.wit_rules.specs.BorrowedFunctions.{function_view}
@@ -28,15 +29,15 @@ mangled_static Async text h = is_mangled-static text h
 mangled_static Getter text h = is_mangled-static_get text h
 mangled_static Setter text h = is_mangled-static_set text h
 
-dotted_bytes : (r f : Id) → dotted r f ≡ r.name.now ++ (46 ∷ f.name.now)
+dotted_bytes : (r f : Id) → (r.name.now ++ codes "." ++ f.name.now) ≡ r.name.now ++ (46 ∷ f.name.now)
 dotted_bytes r f = append_assoc r.name.now (codes ".") f.name.now
 
-is_dotted-ids : (r f : Id) → is_dotted (dotted r f) ≡ true
+is_dotted-ids : (r f : Id) → is_dotted (r.name.now ++ codes "." ++ f.name.now) ≡ true
 is_dotted-ids r f = rw (dotted_bytes r f) (is_dotted-labels r.name.now f.name.now r.label f.label)
 
 mangled_resource : (r : Id) (f : ResourceFunc) → is_mangled (resource_function r f).name ≡ true
-mangled_resource r (resource.Method f) = mangled_method f.func.form (dotted r f.name) (is_dotted-ids r f.name)
-mangled_resource r (resource.Static f) = mangled_static f.func.form (dotted r f.name) (is_dotted-ids r f.name)
+mangled_resource r (resource.Method f) = mangled_method f.func.form (r.name.now ++ codes "." ++ f.name.name.now) (is_dotted-ids r f.name)
+mangled_resource r (resource.Static f) = mangled_static f.func.form (r.name.now ++ codes "." ++ f.name.name.now) (is_dotted-ids r f.name)
 mangled_resource r (resource.Constructor docs attributes span params result) = is_mangled-constructor r.name.now r.label
 
 -- the name of a function is mangled
@@ -77,7 +78,7 @@ pub no_setter-label : (text : List ℕ) → is_label text ≡ true → is_setter
 no_setter-label text h = no_setter-letter text (letter-label text h)
 
 -- the name of a setter's getter is no label
-no_label-with_prefix : (name : List ℕ) (set method static : Option (List ℕ)) → (passes is_label set || passes is_dotted method || passes is_dotted static) ≡ true → is_label (with_prefix (codes "[method][get]") method (with_prefix (codes "[static][get]") static (with_prefix (codes "[get]") set name))) ≡ false
+no_label-with_prefix : (name : List ℕ) (set method static : Option (List ℕ)) → (passes is_label set || passes is_dotted method || passes is_dotted static) ≡ true → is_label (option_map_or (λ (rest : List ℕ). codes "[method][get]" ++ rest) method (option_map_or (λ (rest : List ℕ). codes "[static][get]" ++ rest) static (option_map_or (λ (rest : List ℕ). codes "[get]" ++ rest) set name))) ≡ false
 no_label-with_prefix name set (Some rest) static h = refl
 no_label-with_prefix name set None (Some rest) h = refl
 no_label-with_prefix name (Some rest) None None h = refl
@@ -86,53 +87,35 @@ no_label-with_prefix name None None None h = (let wrong : false ≡ true = h in 
 pub no_label-getter_of : (name : List ℕ) → is_setter name ≡ true → is_label (getter_of name) ≡ false
 no_label-getter_of name h = no_label-with_prefix name (rest_after (codes "[set]") name) (rest_after (codes "[method][set]") name) (rest_after (codes "[static][set]") name) h
 
--- whether a form is that of setters
-abbrev is_set : FuncForm → Bool
-is_set Plain = false
-is_set Async = false
-is_set Getter = false
-is_set Setter = true
-
-set_free : (form : FuncForm) (text : List ℕ) → is_label text ≡ true → is_setter (accessor form ++ text) ≡ is_set form
+-- a name is a setter's where its form is that of one
+set_free : (form : FuncForm) (text : List ℕ) → is_label text ≡ true → is_setter (accessor form ++ text) ≡ form_sets form
 set_free Plain text h = no_setter-label text h
 set_free Async text h = no_setter-label text h
 set_free Getter text h = refl
 set_free Setter text h = is_setter-set text h
 
-set_method : (form : FuncForm) (text : List ℕ) → starts_with_letter text ≡ true → is_dotted text ≡ true → is_setter (codes "[method]" ++ (accessor form ++ text)) ≡ is_set form
+set_method : (form : FuncForm) (text : List ℕ) → starts_with_letter text ≡ true → is_dotted text ≡ true → is_setter (codes "[method]" ++ (accessor form ++ text)) ≡ form_sets form
 set_method Plain text letter h = no_setter-method text letter
 set_method Async text letter h = no_setter-method text letter
 set_method Getter text letter h = refl
 set_method Setter text letter h = is_setter-method text h
 
-set_static : (form : FuncForm) (text : List ℕ) → starts_with_letter text ≡ true → is_dotted text ≡ true → is_setter (codes "[static]" ++ (accessor form ++ text)) ≡ is_set form
+set_static : (form : FuncForm) (text : List ℕ) → starts_with_letter text ≡ true → is_dotted text ≡ true → is_setter (codes "[static]" ++ (accessor form ++ text)) ≡ form_sets form
 set_static Plain text letter h = no_setter-static text letter
 set_static Async text letter h = no_setter-static text letter
 set_static Getter text letter h = refl
 set_static Setter text letter h = is_setter-static text h
 
-letter-dotted : (r f : Id) → starts_with_letter (dotted r f) ≡ true
+letter-dotted : (r f : Id) → starts_with_letter (r.name.now ++ codes "." ++ f.name.now) ≡ true
 letter-dotted r f = rw (dotted_bytes r f) (letter-append r.name.now (46 ∷ f.name.now) (letter-label r.name.now r.label))
 
-set_resource : (r : Id) (f : ResourceFunc) → is_setter (resource_function r f).name ≡ is_set (resource_function r f).func.form
-set_resource r (resource.Method f) = set_method f.func.form (dotted r f.name) (letter-dotted r f.name) (is_dotted-ids r f.name)
-set_resource r (resource.Static f) = set_static f.func.form (dotted r f.name) (letter-dotted r f.name) (is_dotted-ids r f.name)
+set_resource : (r : Id) (f : ResourceFunc) → is_setter (resource_function r f).name ≡ form_sets (resource_function r f).func.form
+set_resource r (resource.Method f) = set_method f.func.form (r.name.now ++ codes "." ++ f.name.name.now) (letter-dotted r f.name) (is_dotted-ids r f.name)
+set_resource r (resource.Static f) = set_static f.func.form (r.name.now ++ codes "." ++ f.name.name.now) (letter-dotted r f.name) (is_dotted-ids r f.name)
 set_resource r (resource.Constructor docs attributes span params result) = refl
 
-set_view : (h : BorrowedFunction) → is_setter (function_view h).name ≡ is_set (function_view h).func.form
+-- so a function is a setter exactly where its name is that of one
+pub set_view : (h : BorrowedFunction) → is_setter (function_view h).name ≡ form_sets (function_view h).func.form
 set_view (Free f) = set_free f.now.func.form f.now.name.name.now f.now.name.label
 set_view (Of r f) = set_resource r f.now
 set_view (Across side docs attributes name f) = set_free f.now.form name.name.now name.label
-
-set_form : (form : FuncForm) → is_set form ≡ true → form ≡ Setter
-set_form Plain h = (let wrong : false ≡ true = h in cc)
-set_form Async h = (let wrong : false ≡ true = h in cc)
-set_form Getter h = (let wrong : false ≡ true = h in cc)
-set_form Setter h = refl
-
--- a function is a setter exactly where its name is that of one
-pub setter_view : (h : BorrowedFunction) → IsTrue (is_setter (function_view h).name) → (function_view h).func.form ≡ Setter
-setter_view h sets = set_form (function_view h).func.form (sym (set_view h) ∙ sets)
-
-pub sets_view : (h : BorrowedFunction) → (function_view h).func.form ≡ Setter → IsTrue (is_setter (function_view h).name)
-sets_view h setter = set_view h ∙ ap is_set setter

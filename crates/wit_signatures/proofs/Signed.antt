@@ -1,18 +1,21 @@
 -- Types in signatures: which fault a name there is that means nothing, and that all others are those of types.
-use Rattle.std.proofs.Common.{◌≡◌, ◌⊎◌, ℕ, suc, Bool, true, false, List, [], ◌∷◌, take, Option, Some, None, inl, inr, refl, sym, ap, ◌∙◌, subst, arith}
-use Rattle.wit_syntax.proofs.Common.{Constructor, Fault, Freestanding, Global, Id, IsEntered, ItemNotFound, Method, OnSide, OutOfMemory, ParseError, ParseErrorKind, Refused, Role, SourceFunction, Span, Static, String, Syntax, TypeCycle, TypeDef, as_stated, at_take, bytes_eq, false≢true, fault_of, function_as_type, if◌then◌else◌, missing_at, missing_type_at, name_equal, name_itself, name_word, no_resource, none-some, option_or, part_types, row_types, same_Some}
+use Rattle.std.proofs.Common.{◌≡◌, ◌⊎◌, ◌||◌, ◌++◌, ℕ, Bool, true, false, List, [], ◌∷◌, map, Option, Some, None, inl, inr, refl, sym, ap, ◌∙◌, subst, arith, string_bytes}
+use Rattle.wit_syntax.proofs.Common.{Fault, Global, Id, ItemNotFound, OutOfMemory, ParseError, ParseErrorKind, SourceFunction, Span, String, Syntax, TypeCycle, TypeDef, as_stated, fault_of, codes, function_as_type, if◌then◌else◌, list_any, missing_at, missing_type_at, name_word, no_resource, none-some, option_map, option_or, part_types, row_types, same_Some}
+use Rattle.wit_type_tree.specs.RefusalText.{IsItemNotFound}
 use Rattle.wit_type_tree.specs.declared.types.«Type».{«Type» as Written}
 use Rattle.wit_type_tree.specs.declared.types.«Type».TheVariants as written
 use Rattle.wit_first.specs.First.{first_in, Reports}
 use Rattle.wit_first.specs.TypeFaults.{type_fault, prefix_fault, back_fault}
-use Rattle.wit_first.proofs.Bridge.{any_found, empty_agrees, key_agrees}
-use Rattle.wit_first.proofs.First.{any_used, reports_same}
+use Rattle.wit_first.proofs.Bridge.{empty_agrees, key_agrees}
+use Rattle.wit_first.proofs.First.{reports_same}
 use Rattle.wit_first.proofs.TypeFaults.{AllTypes, by_parts, fault_parts}
 use Rattle.wit_arena.proofs.Common.{EntryEnd, Env, IsOther, IsResource, IsUnknown}
 use Rattle.wit_entries.specs.EntryFaults.{end_in, unless_found, name_fault, end_fault, handled_fault, handle_fault, named_fault, written_fault}
-use Rattle.wit_rules.specs.Signatures.{IsFree, IsLostAt, AtFunction, AtNothing}
-use Rattle.wit_signatures.specs.SignatureFaults.{is_free, is_among, lost_at}
-use Rattle.wit_signatures.proofs.Lost.{entered_at}
+use Rattle.wit_syntax.specs.Fault.{Missing, Saying, fault_in}
+use Rattle.wit_syntax.specs.Hint.{hint_of}
+use Rattle.wit_walk.specs.Functions.{is_free, lost_word}
+use Rattle.wit_rules.specs.declared.borrowed.BorrowedFunction.{BorrowedFunction}
+use Rattle.wit_rules.specs.BorrowedFunctions.{function_view}
 
 -- a fault is that of a name, and another one, of the same name, takes its place; or else it stays, and has another number
 abbrev pub IsTurned : (Id → Fault) → Option Fault → Option Fault → Type 0
@@ -116,45 +119,39 @@ module _ (lost : Id → Fault) (env : Env) (es : List TypeDef) where
     ]
   ]
 
--- a function by itself of a name, as a test says it
-free_true : (name : List ℕ) (role : Role) → is_free name role ≡ true → IsFree role name
-free_true name (Freestanding id form) h = name_equal id.name.now name h
-free_true name (Method of form) h = false≢true h
-free_true name (Static of form) h = false≢true h
-free_true name (Constructor of) h = false≢true h
-free_true name (OnSide side id form) h = false≢true h
-
-among_entered : (fns : List SourceFunction) (k : ℕ) (name : List ℕ) → is_among name (take (suc k) fns) ≡ true → IsEntered fns k name
-among_entered fns k name h =
-    let found = any_found (λ (fn : SourceFunction). is_free name fn.role) (take (suc k) fns) h in
-    let there = at_take fns (suc k) found.0 found.1 found.2 in
-    let before = there.1 in
-    entered_at fns found.0 k found.1 name (omega arith) there.0 (free_true name found.1.role found.3)
-
-entered_among : (fns : List SourceFunction) (k : ℕ) (name : List ℕ) → IsEntered fns k name → is_among name (take (suc k) fns) ≡ true
-entered_among fns k name e =
-    let before = e.1 in
-    any_used (λ (fn : SourceFunction). is_free name fn.role) fns (suc k) e.0 e.2 (omega arith) e.3 (ap (is_free name) e.6 ∙ ap (λ (n : List ℕ). bytes_eq n name) e.7 ∙ name_itself name)
+-- a name of a function, in written ones and in those that are borrowed
+any_borrowed : (name : List ℕ) (hs : List BorrowedFunction) → list_any (λ (fn : SourceFunction). is_free name fn.role) (map function_view hs) ≡ list_any (λ (h : BorrowedFunction). is_free name (function_view h).role) hs
+any_borrowed name [] = refl
+any_borrowed name (h ∷ hs) = ap (λ (b : Bool). is_free name (function_view h).role || b) (any_borrowed name hs)
 
 -- which of both faults it is, where a name is lost
 abbrev chosen : Id → Bool → Fault
 chosen id b = if b then function_as_type id else missing_at 29 name_word id
 
-pub lost_is : (fns : List SourceFunction) (k : ℕ) (id : Id) (f : Fault) → IsLostAt fns k id.span id.name.now f → f ≡ lost_at fns k id
-lost_is fns k id f l = by (is_among id.name.now (take (suc k) fns)) refl l
-  where
-    by : (b : Bool) → is_among id.name.now (take (suc k) fns) ≡ b → IsLostAt fns k id.span id.name.now f → f ≡ lost_at fns k id
-    by true is (AtFunction entered h) = h ∙ sym (ap (chosen id) is)
-    by true is (AtNothing other h) = absurd (other (among_entered fns k id.name.now is))
-    by false is (AtFunction entered h) = absurd (false≢true (sym is ∙ entered_among fns k id.name.now entered))
-    by false is (AtNothing other h) = h ∙ sym (ap (chosen id) is)
+lost_is : (hs : List BorrowedFunction) (name : List ℕ) (b : Bool) (id : Id) → list_any (λ (h : BorrowedFunction). is_free name (function_view h).role) hs ≡ b → id.name.now ≡ name → lost_word (map function_view hs) id ≡ chosen id b
+lost_is hs name b id is named = ap (chosen id) (ap (λ (n : List ℕ). list_any (λ (fn : SourceFunction). is_free n fn.role) (map function_view hs)) named ∙ any_borrowed name hs ∙ is)
 
--- a refusal of a lost name reports its fault
-pub lost_reports : (fns : List SourceFunction) (k : ℕ) (id : Id) (r : ParseError) → Refused (IsLostAt fns k id.span id.name.now) r → Reports (Some (lost_at fns k id)) r
-lost_reports fns k id r refused = elim refused [
-  | inl want ↦ inl want
-  | inr lost ↦ inr (ap Some (sym (lost_is fns k id (fault_of r) lost)))
-]
+-- a name that is none of a function, and a refusal that says so by its kind
+abbrev lost_as : Span → List ℕ → List ℕ → Option (List ℕ) → Fault
+lost_as span name sort hint = record { rule = 29; span = span; says = Missing name sort hint }
+
+abbrev nowhere : Span → List ℕ → Fault
+nowhere span name = lost_as span name name_word None
+
+kind_nowhere : (span : Span) (name : List ℕ) (k : ParseErrorKind) → IsItemNotFound span name name_word k → hint_of k ≡ None → as_stated 29 k ≡ nowhere span name
+kind_nowhere span name (Syntax at message) is none = absurd is
+kind_nowhere span name (ItemNotFound at text sort hint) is none = ap (λ (s : Span). lost_as s (string_bytes text) (string_bytes sort) (option_map string_bytes hint)) is.0 ∙ ap (λ (n : List ℕ). lost_as span n (string_bytes sort) (option_map string_bytes hint)) is.1 ∙ ap (λ (n : List ℕ). lost_as span name n (option_map string_bytes hint)) is.2 ∙ ap (lost_as span name name_word) none
+kind_nowhere span name (TypeCycle at text sort) is none = absurd is
+kind_nowhere span name OutOfMemory is none = absurd is
+
+-- a refusal of the name of a function, and of another one
+pub lost_function : (hs : List BorrowedFunction) (span : Span) (name : List ℕ) (r : ParseError) → list_any (λ (h : BorrowedFunction). is_free name (function_view h).role) hs ≡ true → fault_of r ≡ fault_in 28 span (codes "cannot use function `" ++ (name ++ codes "` as a type")) → (id : Id) → id.span ≡ span → id.name.now ≡ name → Reports (Some (lost_word (map function_view hs) id)) r
+lost_function hs span name r any says id at named = inr (ap Some (lost_is hs name true id any named ∙ ap (λ (s : Span). fault_in 28 s (codes "cannot use function `" ++ (id.name.now ++ codes "` as a type"))) at ∙ ap (λ (n : List ℕ). fault_in 28 span (codes "cannot use function `" ++ (n ++ codes "` as a type"))) named ∙ sym says))
+
+pub lost_nowhere : (hs : List BorrowedFunction) (span : Span) (name : List ℕ) (k : ParseErrorKind) (r : ParseError) → list_any (λ (h : BorrowedFunction). is_free name (function_view h).role) hs ≡ false → IsItemNotFound span name name_word k × (hint_of k ≡ None) → r.kind ≡ k → r.rule ≡ 29 → (id : Id) → id.span ≡ span → id.name.now ≡ name → Reports (Some (lost_word (map function_view hs) id)) r
+lost_nowhere hs span name k r any says kind rule id at named =
+    let is : fault_of r ≡ nowhere span name = ap (as_stated r.rule) kind ∙ ap (λ (n : ℕ). as_stated n k) rule ∙ kind_nowhere span name k says.0 says.1 in
+    inr (ap Some (lost_is hs name false id any named ∙ ap (λ (s : Span). nowhere s id.name.now) at ∙ ap (nowhere span) named ∙ sym is))
 
 -- what is stated under a number has that, and what is stated of a missing type is of a kind of its own
 pub numbered : (number : ℕ) (k : ParseErrorKind) → (as_stated number k).rule ≡ number
@@ -164,7 +161,12 @@ numbered number (TypeCycle span name sort) = refl
 numbered number OutOfMemory = refl
 
 pub other_kind : (number : ℕ) (k : ParseErrorKind) (id : Id) → ((span : Span) (name sort : String Global) (hint : Option (String Global)) → k ≡ ItemNotFound span name sort hint → ⊥) → as_stated number k ≡ missing_type_at id → ⊥
-other_kind number (Syntax span message) id other is = (let same = ap (λ (f : Fault). f.sort) is in let g : ⊥ = cc in g)
+other_kind number (Syntax span message) id other is = (let same = ap (λ (f : Fault). f.says) is in let g : ⊥ = cc in g)
 other_kind number (ItemNotFound span name sort hint) id other is = other span name sort hint refl
-other_kind number (TypeCycle span name sort) id other is = (let same = ap (λ (f : Fault). f.sort) is in let g : ⊥ = cc in g)
-other_kind number OutOfMemory id other is = (let same = ap (λ (f : Fault). f.sort) is in let g : ⊥ = cc in g)
+other_kind number (TypeCycle span name sort) id other is = (let same = ap (λ (f : Fault). f.says) is in let g : ⊥ = cc in g)
+other_kind number OutOfMemory id other is = (let same = ap (λ (f : Fault). f.says) is in let g : ⊥ = cc in g)
+
+-- the name that is said to mean nothing
+abbrev pub missing_name : Saying → List ℕ
+missing_name (Missing name sort hint) = name
+missing_name other = []

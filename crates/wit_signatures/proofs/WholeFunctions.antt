@@ -3,7 +3,6 @@ use Rattle.std.proofs.Common.{◌≡◌, ◌<◌, ℕ, List, [], ◌∷◌, leng
 use Rattle.wit_syntax.proofs.Common.{Address, AreMetadata, SourceFunction, SourceParam, TypeDef, all_params, docs_of, get_or, metadata, option_map, option_to_list, same_Some, slice_get, slice_get-get_or, slice_get-map}
 use Rattle.wit_arena.proofs.Common.{AddsFunctions, Function, Names, Param, env_of, function_one, shapes_append}
 use Rattle.wit_arena.specs.Adding.{IsKindIn}
-use Rattle.wit_signatures.specs.Over.{IsSignatureOver}
 use Rattle.wit_rules.specs.declared.borrowed.BorrowedFunction.{BorrowedFunction}
 use Rattle.wit_rules.specs.BorrowedFunctions.{function_view}
 use Rattle.wit_rules.specs.Signatures.{AreParamsOver, IsResultOver}
@@ -22,6 +21,6 @@ function_adds old mid new s names fn f params result name kind span noted =
     (shapes_append old mid new s (env_of names) (map (λ (p : SourceParam). p.shape) (all_params fn)) (option_to_list fn.result) (map (λ (p : Param). p.ty) f.params) (option_to_list f.result) (params.types s) (result.types s))
 
 -- the same of one that is borrowed
-pub borrowed_adds : (old new : List TypeDef) (s : Address) (names : Names) (here fn : SourceFunction) (f : Function) → here ≡ fn → IsSignatureOver old new (env_of names) here f.params f.result → f.name ≡ here.name → IsKindIn (env_of names) here.role f.kind → f.span ≡ here.span → AreMetadata (metadata (docs_of here.docs) here.attributes) f.docs f.stability f.external_id → AddsFunctions old new s names (fn ∷ []) (f ∷ [])
-borrowed_adds old new s names here fn f same over name kind span noted =
-    subst (λ (g : SourceFunction). AddsFunctions old new s names (g ∷ []) (f ∷ [])) same (function_adds old over.mid new s names here f over.params over.result name kind span noted)
+pub borrowed_adds : (old mid new : List TypeDef) (s : Address) (names : Names) (here fn : SourceFunction) (f : Function) → here ≡ fn → AreParamsOver old mid (env_of names) (all_params here) f.params → IsResultOver mid new (env_of names) here.result f.result → f.name ≡ here.name → IsKindIn (env_of names) here.role f.kind → f.span ≡ here.span → AreMetadata (metadata (docs_of here.docs) here.attributes) f.docs f.stability f.external_id → AddsFunctions old new s names (fn ∷ []) (f ∷ [])
+borrowed_adds old mid new s names here fn f same params result name kind span noted =
+    subst (λ (g : SourceFunction). AddsFunctions old new s names (g ∷ []) (f ∷ [])) same (function_adds old mid new s names here f params result name kind span noted)

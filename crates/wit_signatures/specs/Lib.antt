@@ -1,4 +1,3 @@
 pub mod ForeignName
-pub mod Over
 pub mod SignatureFaults
 pub mod FunctionsOfScope

@@ -1,21 +1,16 @@
 //! Functions over their resolved types.
-ghost use Rattle.std.specs.Prelude.{◌≡◌, ◌<◌, List, IfOk, IfErr, IsTrue, OnOk, None, Some, length, map};
-ghost use Rattle.wit_type_tree.specs.RefusalText.{IsAllocationFailure};
+ghost use Rattle.std.specs.Prelude.{◌≡◌, ◌<◌, ◌∷◌, [], List, IfOk, None, Some, length};
 ghost use Rattle.wit_types.specs.declared.types.TypeDef.{TypeDef as Entry};
-ghost use Rattle.wit_types.specs.declared.stability.Stability.TheVariants.{Unknown};
-ghost use Rattle.wit_names.specs.Mangled.{is_mangled};
-ghost use Rattle.wit_syntax.specs.Function.{all_params as the_params, self_param as the_self, written_types};
-ghost use Rattle.wit_arena.specs.SourceFunctions.{kinds_of};
+ghost use Rattle.wit_syntax.specs.Function.{self_param as the_self};
 ghost use Rattle.wit_first.specs.First.{Finds};
-ghost use Rattle.wit_first.specs.FunctionFaults.{no_result_fault};
+ghost use Rattle.wit_first.specs.FunctionFaults.{getter_fault};
+ghost use Rattle.wit_arena.specs.SourceFunctions.{kinds_of};
 ghost use Rattle.wit_arena.specs.Resolving.{env_of};
-ghost use Rattle.wit_arena.specs.Adding.{IsKindIn, SaysParam};
-ghost use Rattle.wit_signatures.specs.Over.{IsSignatureOver};
-ghost use Rattle.wit_entries.specs.ResolvedForms.{IsResolved};
+ghost use Rattle.wit_arena.specs.Adding.{IsKindIn};
 ghost use Rattle.wit_entries.specs.Requiring.{IsExtended};
 ghost use Rattle.wit_rules.specs.BorrowedFunctions.{function_view, owner_of};
 ghost use Rattle.wit_rules.specs.Signatures.{functions_view, HasOwner, HaveOwners, AreParamsOver, IsResultOver};
-ghost use Rattle.wit_signatures.specs.FunctionsOfScope.{AddsAt, AddsParams, FindsFunction, FindsParams, FindsReturn, FindsSignature, IsNamedAt, RequiresIn, RequiresOf, fault_at, given_params_fault, param_types, result_type};
+ghost use Rattle.wit_signatures.specs.FunctionsOfScope.{AddsAt, AddsResult, FindsFunction, FindsReturn, ResolvesParams};
 
 use crate::signatures::resolve_in_signature;
 use std::alloc::{AllocError, Global};
@@ -29,7 +24,7 @@ use wit_rules::function_rules::{
     check_given, check_result, check_returns, refuse_param, repeated_param,
 };
 use wit_rules::function_scope::FunctionScope;
-use wit_tree::tree::{self, FuncForm, Id, ResourceFunc};
+use wit_tree::tree::{FuncForm, Id, ResourceFunc};
 use wit_tree::{ParseResult, Span};
 use wit_types::{Handle, Stability, Type, TypeDefKind, TypeId};
 use wit_values::{Row, Text};
@@ -103,9 +98,7 @@ fn kind_of(names: &TextTable<TypeId>, function: BorrowedFunction<'_, '_>) -> Fun
 
 /// A parameter of this type.
 fn param(alloc: Global, name: Id<'_>, ty: Type) -> Result<Param, AllocError>
-    ensures name { IfOk result (λ p. p.name ≡ name.entry.name.now) }
-    ensures span { IfOk result (λ p. p.span ≡ name.entry.span) }
-    ensures ty { IfOk result (λ p. p.ty ≡ ty) }
+    ensures { IfOk result (λ p. (p.name ≡ name.entry.name.now) × (p.span ≡ name.entry.span) × (p.ty ≡ ty)) }
 {
     Ok(Param {
         name: Text::from_str(alloc, name.name)?,
@@ -121,12 +114,10 @@ fn self_param(
     names: &TextTable<TypeId>,
     resource: Id<'_>,
     word: Span,
-) -> ParseResult<Param>
+) -> Result<Param, AllocError>
     requires { HasOwner (env_of names.now) (Some resource) }
-    ensures says { IfOk result (λ p. SaysParam (the_self resource.entry word) p) }
-    ensures resolved { IfOk result (λ p. IsResolved types.old types.new (env_of names.now) Unknown (the_self resource.entry word).shape p.ty) }
+    ensures param { IfOk result (λ p. AreParamsOver types.old types.new (env_of names.now) (the_self resource.entry word ∷ []) (p ∷ [])) }
     ensures extended { IsExtended types.old types.new }
-    ensures refused { IfErr result IsAllocationFailure }
 {
     let borrow = TypeDefKind::Handle(Handle::Borrow(place_of(names, resource)));
     let id = types.intern(borrow, &Stability::Unknown, word)?;
@@ -143,52 +134,16 @@ fn given_params(
     names: &TextTable<TypeId>,
     function: BorrowedFunction<'_, '_>,
     types: &mut Entries,
-) -> ParseResult<Vec<Param>>
+) -> Result<Vec<Param>, AllocError>
     requires { HasOwner (env_of names.now) (owner_of (function_view function).role) }
     ensures params { IfOk result (λ ps. AreParamsOver types.old types.new (env_of names.now) (function_view function.entry).given ps.items) }
     ensures extended { IsExtended types.old types.new }
-    ensures refused { IfErr result IsAllocationFailure }
 {
     let mut params = Vec::with_capacity(alloc, function.param_count())?;
     if let Some(resource) = function.given() {
         params.push(self_param(alloc, types, names, resource, function.word())?)?;
     }
     Ok(params)
-}
-
-/// The written parameters of the function at a place of a scope.
-#[derive(Clone, Copy)]
-struct WrittenParams<'s, 't, 'a> {
-    scope: FunctionScope<'s, 't, 'a>,
-    place: usize,
-    params: &'t [tree::Param<'a>],
-    /// The place, among all parameters of the function, of the first that an earlier one is.
-    repeated: Option<usize>,
-}
-
-/// Adds the written parameters of a function after those that it is given. A repeated one is refused
-/// (E38).
-fn resolve_params(
-    alloc: Global,
-    types: &mut Entries,
-    required: &mut Vec<Required>,
-    params: &mut Vec<Param>,
-    of: WrittenParams<'_, '_, '_>,
-) -> ParseResult<()>
-    requires place { of.place < length of.scope.functions.now }
-    ensures params { OnOk result (AddsParams of.entry.scope types.old types.new of.entry.params.now params.old.items params.new.items) }
-    ensures handled { OnOk result (RequiresIn of.entry.scope types.new (map (λ p. p.ty) of.entry.params.now) required.old.items required.new.items) }
-    ensures extended { IsExtended types.old types.new }
-    ensures first { FindsParams of.entry.scope types.new of.entry.place of.entry.params.now (length params.old.items) of.entry.repeated result }
-{
-    for written in of.params {
-        if of.repeated == Some(params.len()) {
-            return Err(refuse_param(alloc, written.name));
-        }
-        let ty = resolve_in_signature(alloc, of.scope, types, required, of.place, &written.ty)?;
-        params.push(param(alloc, written.name, ty)?)?;
-    }
-    Ok(())
 }
 
 /// The parameters of the function at a place: those that it is given, and then the written ones. One
@@ -200,25 +155,21 @@ fn all_params<'t, 'a>(
     required: &mut Vec<Required>,
     place: usize,
     function: BorrowedFunction<'t, 'a>,
-) -> ParseResult<Vec<Param>>
-    requires place { place < length scope.functions.now }
-    requires owner { HasOwner (env_of scope.names.now) (owner_of (function_view function).role) }
-    ensures params { IfOk result (λ ps. AreParamsOver types.old types.new (env_of scope.entry.names.now) (the_params (function_view function.entry)) ps.items) }
-    ensures handled { OnOk result (RequiresIn scope.entry types.new (param_types (function_view function.entry)) required.old.items required.new.items) }
-    ensures extended { IsExtended types.old types.new }
-    ensures first { Finds (given_params_fault (fault_at scope.entry types.new place) (function_view function.entry)) result }
+) -> ParseResult<Row<Param>>
+    requires { HasOwner (env_of scope.names.now) (owner_of (function_view function).role) }
+    ensures { ResolvesParams scope.entry place types.old types.new required.old.items required.new.items (function_view function.entry) result }
 {
     let repeated = repeated_param(alloc, function)?;
     let mut params = given_params(alloc, scope.names, function, types)?;
-    let written = function.params();
-    let of = WrittenParams {
-        scope,
-        place,
-        params: written,
-        repeated,
-    };
-    resolve_params(alloc, types, required, &mut params, of)?;
-    Ok(params)
+    let all = function.params();
+    for written in all {
+        if repeated == Some(params.len()) {
+            return Err(refuse_param(alloc, written.name));
+        }
+        let ty = resolve_in_signature(alloc, scope, types, required, place, &written.ty)?;
+        params.push(param(alloc, written.name, ty)?)?;
+    }
+    Ok(Row::from(params))
 }
 
 /// The type of the result of a function without a written one: the resource that a constructor makes.
@@ -231,7 +182,7 @@ fn made_result(
     requires owner { HasOwner (env_of names.now) (owner_of (function_view function).role) }
     requires none { (function_view function).func.result ≡ None }
     ensures result { IfOk result (λ r. (es : List Entry) → IsResultOver es es (env_of names.now) (function_view function.entry).result r) }
-    ensures first { Finds (no_result_fault (function_view function.entry)) result }
+    ensures first { Finds (getter_fault (function_view function.entry).func.form (function_view function.entry).func.span) result }
 {
     check_returns(alloc, function)?;
     match function.made() {
@@ -249,12 +200,9 @@ fn resolve_result<'t, 'a>(
     place: usize,
     function: BorrowedFunction<'t, 'a>,
 ) -> ParseResult<Option<Type>>
-    requires place { place < length scope.functions.now }
-    requires owner { HasOwner (env_of scope.names.now) (owner_of (function_view function).role) }
-    ensures result { IfOk result (IsResultOver types.old types.new (env_of scope.entry.names.now) (function_view function.entry).result) }
-    ensures handled { OnOk result (RequiresIn scope.entry types.new (result_type (function_view function.entry)) required.old.items required.new.items) }
-    ensures extended { IsExtended types.old types.new }
-    ensures first { FindsReturn scope.entry types.new place (function_view function.entry) result }
+    requires { HasOwner (env_of scope.names.now) (owner_of (function_view function).role) }
+    ensures adds { IfOk result (AddsResult scope.entry types.old types.new required.old.items required.new.items (function_view function.entry)) }
+    ensures finds { FindsReturn scope.entry place types.old types.new (function_view function.entry) result }
 {
     match function.result() {
         Some(written) => {
@@ -262,41 +210,11 @@ fn resolve_result<'t, 'a>(
             check_result(alloc, scope.results, function, written)?;
             Ok(Some(ty))
         }
-        None => made_result(alloc, scope.names, function),
+        None => {
+            let made = made_result(alloc, scope.names, function)?;
+            Ok(made)
+        }
     }
-}
-
-/// What a function takes and gives.
-#[derive(Drop)]
-struct Signature {
-    params: Row<Param>,
-    result: Option<Type>,
-}
-
-/// What the function at a place takes and gives, over its types: those of its parameters and then
-/// that of its result.
-fn resolve_signature<'t, 'a>(
-    alloc: Global,
-    scope: FunctionScope<'_, 't, 'a>,
-    types: &mut Entries,
-    required: &mut Vec<Required>,
-    place: usize,
-    function: BorrowedFunction<'t, 'a>,
-) -> ParseResult<Signature>
-    requires place { place < length scope.functions.now }
-    requires owner { HasOwner (env_of scope.names.now) (owner_of (function_view function).role) }
-    ensures over { IfOk result (λ s. IsSignatureOver types.old types.new (env_of scope.entry.names.now) (function_view function.entry) s.params s.result) }
-    ensures handled { OnOk result (RequiresIn scope.entry types.new (written_types (function_view function.entry)) required.old.items required.new.items) }
-    ensures extended { IsExtended types.old types.new }
-    ensures first { FindsSignature scope.entry types.new place (function_view function.entry) result }
-{
-    check_given(alloc, function)?;
-    let params = all_params(alloc, scope, types, required, place, function)?;
-    let result = resolve_result(alloc, scope, types, required, place, function)?;
-    Ok(Signature {
-        params: Row::from(params),
-        result,
-    })
 }
 
 /// The function at a place of a scope, with its metadata, over its types, which are added to the arena:
@@ -314,21 +232,19 @@ pub fn resolve_function(
 ) -> ParseResult<Function>
     requires place { place < length scope.functions.now }
     requires owners { HaveOwners (env_of scope.names.now) (functions_view scope) }
-    ensures adds { IfOk result (AddsAt scope.entry place types.old types.new) }
-    ensures named { IfOk result (IsNamedAt scope.entry place) }
-    ensures mangled { IfOk result (λ f. IsTrue (is_mangled f.name)) }
-    ensures handled { OnOk result (RequiresOf scope.entry place types.new required.old.items required.new.items) }
-    ensures extended { IsExtended types.old types.new }
-    ensures first { FindsFunction scope.entry types.new place result }
+    ensures adds { IfOk result (AddsAt scope.entry place types.old types.new required.old.items required.new.items) }
+    ensures finds { FindsFunction scope.entry place types.old types.new result }
 {
     let function = scope.functions[place];
     let metadata = metadata_of(alloc, function.docs(), function.attributes())?;
-    let signature = resolve_signature(alloc, scope, types, required, place, function)?;
+    check_given(alloc, function)?;
+    let params = all_params(alloc, scope, types, required, place, function)?;
+    let result = resolve_result(alloc, scope, types, required, place, function)?;
     Ok(Function {
         name: function.name(alloc)?,
         kind: kind_of(scope.names, function),
-        params: signature.params,
-        result: signature.result,
+        params,
+        result,
         docs: metadata.docs,
         stability: metadata.stability,
         span: function.span(),

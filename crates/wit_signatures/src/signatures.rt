@@ -1,20 +1,15 @@
 //! Types in signatures.
-ghost use Rattle.std.specs.Prelude.{◌≡◌, ◌<◌, ◌↔◌, None, IfOk, IsTrue, OnOk, length, map, string_bytes};
+ghost use Rattle.std.specs.Prelude.{◌≡◌, ◌+◌, ◌++◌, codes, None, Some, IfOk, map, string_bytes, take};
+ghost use Rattle.std.specs.List.{list_any};
 ghost use Rattle.wit_type_tree.specs.RefusalText.{IsItemNotFound};
-ghost use Rattle.wit_types.specs.declared.stability.Stability.TheVariants.{Unknown};
-ghost use Rattle.wit_syntax.specs.Shape.{shape_of, handles};
 ghost use Rattle.wit_syntax.specs.Hint.{hint_of};
 ghost use Rattle.wit_syntax.specs.Fault.{name_word};
-ghost use Rattle.wit_syntax.specs.Words.{function_words};
-ghost use Rattle.wit_syntax.specs.Broken.{Refused};
-ghost use Rattle.wit_syntax.specs.SignatureRules.{IsEntered};
-ghost use Rattle.wit_first.specs.First.{Finds};
-ghost use Rattle.wit_arena.specs.Resolving.{env_of};
-ghost use Rattle.wit_entries.specs.ResolvedForms.{IsResolved};
-ghost use Rattle.wit_entries.specs.Requiring.{IsExtended, Requires};
+ghost use Rattle.wit_type_tree.specs.declared.leaves.Id.{Id};
+ghost use Rattle.wit_first.specs.First.{Reports};
+ghost use Rattle.wit_walk.specs.Functions.{is_free, lost_word};
 ghost use Rattle.wit_rules.specs.BorrowedFunctions.{function_view};
-ghost use Rattle.wit_rules.specs.Signatures.{functions_view, IsFree, IsLostAt};
-ghost use Rattle.wit_signatures.specs.SignatureFaults.{ReportsSigned, signed_fault};
+ghost use Rattle.wit_signatures.specs.SignatureFaults.{ReportsSigned};
+ghost use Rattle.wit_signatures.specs.FunctionsOfScope.{ResolvesSigned};
 
 use std::alloc::{AllocError, Global};
 use wit_entries::entries::Entries;
@@ -31,7 +26,7 @@ const MISSING_TYPE: u8 = 15;
 
 /// Whether a function is one by itself, of this name.
 fn is_named(function: BorrowedFunction<'_, '_>, name: &str) -> bool
-    ensures { IsTrue result ↔ IsFree (function_view function.entry).role name.now }
+    ensures { result ≡ is_free name.now (function_view function.entry).role }
 {
     match function {
         BorrowedFunction::Free(function) => function.name.name == name,
@@ -39,30 +34,36 @@ fn is_named(function: BorrowedFunction<'_, '_>, name: &str) -> bool
     }
 }
 
-/// Whether the function at a place, or one before it, is one by itself of this name.
-fn is_entered(functions: &[BorrowedFunction<'_, '_>], place: usize, name: &str) -> bool
-    requires { place < length functions.now }
-    ensures { IsTrue result ↔ IsEntered (map function_view functions.now) place name.now }
+/// Whether one of these functions is one by itself of this name.
+fn have_name(functions: &[BorrowedFunction<'_, '_>], name: &str) -> bool
+    ensures { result ≡ list_any (λ h. is_free name.now (function_view h).role) functions.now }
 {
-    for index in 0..=place {
-        if is_named(functions[index], name) {
-            return true;
-        }
+    functions.iter().any(|function| is_named(*function, name))
+}
+
+/// The functions up to the one at a place.
+fn up_to<'s, 't, 'a>(
+    functions: &'s [BorrowedFunction<'t, 'a>],
+    place: usize,
+) -> &'s [BorrowedFunction<'t, 'a>]
+    ensures { result.now ≡ take (place + 1) functions.now }
+{
+    if place < functions.len() {
+        return &functions[..place + 1];
     }
-    false
+    functions
 }
 
 /// The words for a function that is used as a type.
 fn function_as_type(alloc: Global, name: &str) -> Result<String, AllocError>
-    ensures { IfOk result (λ words. string_bytes words ≡ function_words name.now) }
+    ensures { IfOk result (λ words. string_bytes words ≡ codes "cannot use function `" ++ (name.now ++ codes "` as a type")) }
 {
     format!(in alloc; "cannot use function `{name}` as a type")
 }
 
 /// What is said of a name that means nothing.
 fn name_not_found(alloc: Global, span: Span, name: &str) -> Result<ParseErrorKind, AllocError>
-    ensures kind { IfOk result (IsItemNotFound span name.now name_word) }
-    ensures hint { IfOk result (λ kind. hint_of kind ≡ None) }
+    ensures { IfOk result (λ kind. IsItemNotFound span name.now name_word kind × (hint_of kind ≡ None)) }
 {
     Ok(ParseErrorKind::ItemNotFound {
         span,
@@ -72,21 +73,19 @@ fn name_not_found(alloc: Global, span: Span, name: &str) -> Result<ParseErrorKin
     })
 }
 
-/// The refusal of a name in the signature of the function at a place: that of a function (E28), or of
+/// The refusal of a name in the signature of the last of these functions: that of one of them (E28), or of
 /// nothing (E29).
 #[cold]
 #[inline(never)]
 fn refuse_name(
     alloc: Global,
     functions: &[BorrowedFunction<'_, '_>],
-    place: usize,
     span: Span,
     name: &str,
 ) -> ParseError
-    requires { place < length functions.now }
-    ensures { Refused (IsLostAt (map function_view functions.now) place span name.now) result }
+    ensures { (id : Id) → id.span ≡ span → id.name.now ≡ name.now → Reports (Some (lost_word (map function_view functions.now) id)) result }
 {
-    if is_entered(functions, place, name) {
+    if have_name(functions, name) {
         return refuse_in(28, span, function_as_type(alloc, name));
     }
     match name_not_found(alloc, span, name) {
@@ -95,25 +94,23 @@ fn refuse_name(
     }
 }
 
-/// What a refusal of a type is in the signature of the function at a place: of a missing name it is
+/// What a refusal of a type is in the signature of the last of these functions: of a missing name it is
 /// another one there.
 #[cold]
 #[inline(never)]
 fn in_signature(
     alloc: Global,
     functions: &[BorrowedFunction<'_, '_>],
-    place: usize,
     error: ParseError,
 ) -> ParseError
-    requires { place < length functions.now }
-    ensures { ReportsSigned (map function_view functions.now) place error result }
+    ensures { ReportsSigned (map function_view functions.now) error result }
 {
     if error.rule() != MISSING_TYPE {
         return error;
     }
     match error.kind() {
         ParseErrorKind::ItemNotFound { span, name, .. } => {
-            refuse_name(alloc, functions, place, *span, name.as_str())
+            refuse_name(alloc, functions, *span, name.as_str())
         }
         _ => error,
     }
@@ -131,14 +128,10 @@ pub(crate) fn resolve_in_signature(
     place: usize,
     ty: &tree::Type<'_>,
 ) -> ParseResult<Type>
-    requires { place < length scope.functions.now }
-    ensures resolved { IfOk result (IsResolved types.old types.new (env_of scope.entry.names.now) Unknown (shape_of ty.now)) }
-    ensures handled { OnOk result (Requires (env_of scope.entry.names.now) types.new (handles ty.now) required.old.items required.new.items) }
-    ensures extended { IsExtended types.old types.new }
-    ensures first { Finds (signed_fault (env_of scope.entry.names.now) types.new (functions_view scope.entry) place ty.now) result }
+    ensures { ResolvesSigned scope.entry place types.old types.new required.old.items required.new.items ty.now result }
 {
     match resolve_type(alloc, types, scope.names, required, &Stability::Unknown, ty) {
         Ok(ty) => Ok(ty),
-        Err(error) => Err(in_signature(alloc, scope.functions, place, error)),
+        Err(error) => Err(in_signature(alloc, up_to(scope.functions, place), error)),
     }
 }

@@ -1,7 +1,7 @@
 use Rattle.std.proofs.Common.{◌≡◌, map, take}
 use Rattle.wit_type_tree.specs.declared.types.Flag.{Flag as WrittenFlag}
-use Rattle.wit_arena.proofs.Common.{flag_member}
 use Rattle.wit_syntax.proofs.Common.{member}
+use Rattle.wit_definitions.specs.Bodies.{flag_member}
 use Rattle.wit_definitions.proofs.bodies.flags.Given as goal
 
 abbrev pub invariant-loop-written : goal.invariant-loop-written

@@ -1,6 +1,8 @@
-use Rattle.wit_arena.proofs.Common.{env_of}
-use Rattle.wit_entries.proofs.Requiring.{requires_one}
+use Rattle.wit_entries.proofs.Resolves.{types_none}
 use Rattle.wit_definitions.proofs.bodies.resolve_case.Goals as goal
 
-pub returns-in_ok-case-in-Some-clause-handled : goal.returns-in_ok-case-in-Some-clause-handled
-returns-in_ok-case-in-Some-clause-handled c = rw c.in-Some.is (requires_one (env_of c.args.names.now) _ c.in-Some.ty _ _ c.in_ok-ty-in-Some.ensures.handled)
+pub returns-in_ok-case-in-Some-clause-resolves : goal.returns-in_ok-case-in-Some-clause-resolves
+returns-in_ok-case-in-Some-clause-resolves c = rw (c.in-Some.is, c.in_ok-case-in-Some.ensures.1) c.in_ok-ty-in-Some.ensures
+
+pub returns-in_ok-case-in-None-clause-resolves : goal.returns-in_ok-case-in-None-clause-resolves
+returns-in_ok-case-in-None-clause-resolves c = rw (c.in-None.is, c.in_ok-case-in-None.ensures.1) (types_none c.args.names.now c.args.given.now c.args.types.now c.args.required.now.items)

@@ -1,15 +1,12 @@
-use Rattle.std.proofs.Common.{◌≡◌, None, take}
-use Rattle.wit_syntax.proofs.Common.{all_handles, case_types}
-use Rattle.wit_arena.proofs.Common.{env_of}
-use Rattle.wit_entries.specs.EntryFaults.{types_fault}
-use Rattle.wit_entries.specs.Requiring.{IsExtended, Requires}
-use Rattle.wit_definitions.specs.Bodies.{AreCasesOf}
+use Rattle.std.proofs.Common.{◌≡◌, map, take}
+use Rattle.wit_syntax.proofs.Common.{Case as WrittenCase, case_types, filter_map, is_some, member}
+use Rattle.wit_types.specs.declared.types.Case.{Case}
+use Rattle.wit_definitions.specs.Bodies.{case_member}
+use Rattle.wit_entries.proofs.Resolves.{ResolvedTypes}
 use Rattle.wit_definitions.proofs.bodies.resolve_cases.Given as goal
 
 abbrev pub invariant-loop-written : goal.invariant-loop-written
 invariant-loop-written l = record {
-  made : AreCasesOf l.fn.types l.types (env_of l.names) l.given (take l.written-index l.cases) l.resolved.items;
-  none : types_fault (env_of l.names) l.types (case_types (take l.written-index l.cases)) ≡ None;
-  handled : Requires (env_of l.names) l.types (all_handles (case_types (take l.written-index l.cases))) l.fn.required.items l.required.items;
-  extended : IsExtended l.fn.types l.types;
+  members : map case_member l.resolved.items ≡ map (λ (x : WrittenCase). (member x.docs x.name, is_some x.ty)) (take l.written-index l.cases);
+  types : ResolvedTypes l.names l.given l.fn.types l.types l.fn.required.items l.required.items (case_types (take l.written-index l.cases)) (filter_map (λ (c : Case). c.ty) l.resolved.items);
 }

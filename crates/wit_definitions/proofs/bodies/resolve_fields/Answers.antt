@@ -1,18 +1,22 @@
-use Rattle.std.proofs.Common.{◌≡◌, [], ◌∷◌, ◌++◌, ◌+◌, Some, None, take, sym, ap, ◌∙◌}
-use Rattle.wit_syntax.proofs.Common.{Field, err_from_is_err_and, field_types, map, map-append, member, option_map, slice_get, slice_get-get_or, slice_get-map, take-map, take_all, take_more}
+use Rattle.std.proofs.Common.{◌≡◌, [], ◌∷◌, ◌++◌, ◌+◌, Some, None, take, sym, ap, ◌∙◌, map, refl}
+use Rattle.wit_syntax.proofs.Common.{Field, err_from_is_err_and, field_types, map-append, member, option_map, slice_get, slice_get-get_or, slice_get-map, take-map, take_all, take_more}
 use Rattle.wit_type_tree.specs.declared.types.Field.{Field as WrittenField}
-use Rattle.wit_arena.proofs.Common.{env_of, field_member}
-use Rattle.wit_first.proofs.First.{in-more, reports-in}
+use Rattle.wit_arena.proofs.Common.{env_of}
+use Rattle.wit_first.proofs.First.{reports-in, or_none, reports_same}
+use Rattle.wit_first.proofs.Pushed.{pushed_next}
 use Rattle.wit_entries.specs.EntryFaults.{types_fault, written_fault}
 use Rattle.wit_entries.proofs.Faults.{types_extended}
-use Rattle.wit_entries.proofs.Reading.{types_one, types_then}
-use Rattle.wit_entries.proofs.Requiring.{extended_then, requires_types, requires_one}
+use Rattle.wit_entries.proofs.Requiring.{extended_then}
+use Rattle.wit_entries.proofs.Resolves.{memory_stopped, types_more, types_none}
+use Rattle.wit_definitions.specs.Bodies.{field_member}
 use Rattle.wit_definitions.proofs.bodies.resolve_fields.Goals as goal
+
+pub loop-written-init : goal.loop-written-init
+loop-written-init c = rw c.in_ok-resolved.ensures.items (record { members = refl; types = types_none c.args.names.now c.args.given.now c.args.types.now c.args.required.now.items })
 
 pub loop-written-preserved : goal.loop-written-preserved
 loop-written-preserved c =
-    let env = env_of c.args.names.now in
-    let new = c.resolve_type.new.types in
+    let type_of = λ (x : Field). x.ty in
     let fs = c.args.fields.now in
     let i = c.loop-written.written-index in
     let f = c.written-item.result in
@@ -20,34 +24,24 @@ loop-written-preserved c =
     let out = c.loop-written.resolved.items in
     let in_use : take (i + 1) fs ≡ take i fs ++ f ∷ [] = take_more fs i f c.loop-written-test.true ∙ ap (λ x. take i fs ++ x ∷ []) (sym c.written-item.is) in
     let written : field_types (take (i + 1) fs) ≡ field_types (take i fs) ++ f.ty ∷ [] = ap field_types in_use ∙ map-append (λ (x : WrittenField). x.ty) (take i fs) (f ∷ []) in
-    let types : map (λ (x : Field). x.ty) c.push.new.self.items ≡ map (λ (x : Field). x.ty) out ++ c.in_ok-ty.ty ∷ [] = ap (map (λ (x : Field). x.ty)) c.in_ok-push.ensures.items ∙ map-append (λ (x : Field). x.ty) out (own ∷ []) ∙ ap (λ t. map (λ (x : Field). x.ty) out ++ t ∷ []) c.in_ok-field.ensures.ty in
+    let types : map type_of c.push.new.self.items ≡ map type_of out ++ c.in_ok-ty.ty ∷ [] = ap (map type_of) c.in_ok-push.ensures.items ∙ map-append type_of out (own ∷ []) ∙ ap (λ t. map type_of out ++ t ∷ []) c.in_ok-field.ensures.1 in
     record {
-      made = record {
-        types = rw (written, types) (types_then c.args.given.now (field_types (take i fs)) (f.ty ∷ []) c.loop-written.invariant.made.types (types_one c.args.given.now f.ty c.in_ok-ty.ensures.resolved));
-        members = ap (map field_member) c.in_ok-push.ensures.items ∙ map-append field_member out (own ∷ []) ∙ ap (λ ms. ms ++ field_member own ∷ []) c.loop-written.invariant.made.members ∙ ap (λ m. map (λ (x : WrittenField). member x.docs x.name) (take i fs) ++ m ∷ []) c.in_ok-field.ensures.member ∙ sym (map-append (λ (x : WrittenField). member x.docs x.name) (take i fs) (f ∷ [])) ∙ ap (map (λ (x : WrittenField). member x.docs x.name)) (sym in_use);
-      };
-      none = ap (types_fault env new) written ∙ in-more (written_fault env new) (field_types (take i fs)) f.ty (types_extended env _ new (field_types (take i fs)) c.in_ok-ty.ensures.extended c.loop-written.invariant.none) ∙ c.in_ok-ty.ensures.first;
-      handled = rw written (requires_types (env_of c.args.names.now) _ _ (field_types (take i fs)) (f.ty ∷ []) _ _ _ c.in_ok-ty.ensures.extended c.loop-written.invariant.handled (requires_one (env_of c.args.names.now) _ f.ty _ _ c.in_ok-ty.ensures.handled));
-      extended = extended_then _ _ _ c.loop-written.invariant.extended c.in_ok-ty.ensures.extended;
+      members = pushed_next field_member (λ (x : WrittenField). member x.docs x.name) out _ fs i f _ c.loop-written-test.true c.written-item.is c.loop-written.invariant.members c.in_ok-push.ensures.items c.in_ok-field.ensures.0;
+      types = rw (written, types) (types_more c.args.names.now c.args.given.now (field_types (take i fs)) (f.ty ∷ []) (map type_of out) (c.in_ok-ty.ty ∷ []) c.loop-written.invariant.types c.in_ok-ty.ensures);
     }
 
-pub returns-clause-made : goal.returns-clause-made
-returns-clause-made c =
+pub returns-clause-members : goal.returns-clause-members
+returns-clause-members c =
     let all = take_all c.loop-written.written-index c.args.fields.now c.loop-written-test.false in
-    rw (← all, c.from.ensures) c.loop-written.invariant.made
+    rw (← all, c.from.ensures) c.loop-written.invariant.members
 
-pub returns-clause-handled : goal.returns-clause-handled
-returns-clause-handled c =
+pub returns-clause-resolves : goal.returns-clause-resolves
+returns-clause-resolves c =
     let all = take_all c.loop-written.written-index c.args.fields.now c.loop-written-test.false in
-    rw (← all) c.loop-written.invariant.handled
+    rw (← all, c.from.ensures) c.loop-written.invariant.types
 
-pub returns-clause-first : goal.returns-clause-first
-returns-clause-first c =
-    let all = take_all c.loop-written.written-index c.args.fields.now c.loop-written-test.false in
-    rw (← all) c.loop-written.invariant.none
-
-pub returns-in_err-ty-clause-first : goal.returns-in_err-ty-clause-first
-returns-in_err-ty-clause-first c =
+pub returns-in_err-ty-clause-resolves : goal.returns-in_err-ty-clause-resolves
+returns-in_err-ty-clause-resolves c =
     let p = err_from_is_err_and c.from_residual-in_err-ty.result c.from_residual-in_err-ty.ensures.1 in
     let env = env_of c.args.names.now in
     let new = c.resolve_type.new.types in
@@ -55,5 +49,18 @@ returns-in_err-ty-clause-first c =
     let i = c.loop-written.written-index in
     let f = c.written-item.result in
     let at : slice_get (field_types fs) i ≡ Some f.ty = slice_get-map (λ (x : WrittenField). x.ty) fs i ∙ ap (option_map (λ (x : WrittenField). x.ty)) (slice_get-get_or fs i f c.loop-written-test.true ∙ ap Some (sym c.written-item.is)) in
-    let none : types_fault env new (take i (field_types fs)) ≡ None = ap (types_fault env new) (take-map (λ (x : WrittenField). x.ty) i fs) ∙ types_extended env _ new (field_types (take i fs)) c.in_err-ty.ensures.extended c.loop-written.invariant.none in
-    rw (p.1, p.2) (reports-in (written_fault env new) (field_types fs) i f.ty _ at none c.in_err-ty.ensures.first)
+    let none : types_fault env new (take i (field_types fs)) ≡ None = ap (types_fault env new) (take-map (λ (x : WrittenField). x.ty) i fs) ∙ types_extended env _ new (field_types (take i fs)) c.in_err-ty.ensures.extended c.loop-written.invariant.types.first in
+    rw (p.1, p.2) (record {
+      extended = extended_then _ _ _ c.loop-written.invariant.types.extended c.in_err-ty.ensures.extended;
+      first = reports-in (written_fault env new) (field_types fs) i f.ty _ at none (reports_same (or_none (written_fault env new f.ty)) c.in_err-ty.ensures.first);
+    })
+
+pub returns-in_err-field-clause-resolves : goal.returns-in_err-field-clause-resolves
+returns-in_err-field-clause-resolves c =
+    let p = err_from_is_err_and c.from_residual-in_err-field.result c.from_residual-in_err-field.ensures.1 in
+    rw p.1 (memory_stopped c.loop-written.invariant.types.extended c.in_ok-ty.ensures.extended p.2)
+
+pub returns-in_err-push-clause-resolves : goal.returns-in_err-push-clause-resolves
+returns-in_err-push-clause-resolves c =
+    let p = err_from_is_err_and c.from_residual-in_err-push.result c.from_residual-in_err-push.ensures.1 in
+    rw p.1 (memory_stopped c.loop-written.invariant.types.extended c.in_ok-ty.ensures.extended p.2)

@@ -1,15 +1,12 @@
-use Rattle.std.proofs.Common.{◌≡◌, None, take}
-use Rattle.wit_syntax.proofs.Common.{all_handles, field_types}
-use Rattle.wit_arena.proofs.Common.{env_of}
-use Rattle.wit_entries.specs.EntryFaults.{types_fault}
-use Rattle.wit_entries.specs.Requiring.{IsExtended, Requires}
-use Rattle.wit_definitions.specs.Bodies.{AreFieldsOf}
+use Rattle.std.proofs.Common.{◌≡◌, map, take}
+use Rattle.wit_syntax.proofs.Common.{Field, field_types, member}
+use Rattle.wit_type_tree.specs.declared.types.Field.{Field as WrittenField}
+use Rattle.wit_definitions.specs.Bodies.{field_member}
+use Rattle.wit_entries.proofs.Resolves.{ResolvedTypes}
 use Rattle.wit_definitions.proofs.bodies.resolve_fields.Given as goal
 
 abbrev pub invariant-loop-written : goal.invariant-loop-written
 invariant-loop-written l = record {
-  made : AreFieldsOf l.fn.types l.types (env_of l.names) l.given (take l.written-index l.fields) l.resolved.items;
-  none : types_fault (env_of l.names) l.types (field_types (take l.written-index l.fields)) ≡ None;
-  handled : Requires (env_of l.names) l.types (all_handles (field_types (take l.written-index l.fields))) l.fn.required.items l.required.items;
-  extended : IsExtended l.fn.types l.types;
+  members : map field_member l.resolved.items ≡ map (λ (x : WrittenField). member x.docs x.name) (take l.written-index l.fields);
+  types : ResolvedTypes l.names l.given l.fn.types l.types l.fn.required.items l.required.items (field_types (take l.written-index l.fields)) (map (λ (f : Field). f.ty) l.resolved.items);
 }

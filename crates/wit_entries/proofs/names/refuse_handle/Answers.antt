@@ -1,5 +1,5 @@
-use Rattle.wit_syntax.proofs.Common.{handle_words}
+use Rattle.std.proofs.Common.{◌++◌, codes}
 use Rattle.wit_entries.proofs.names.refuse_handle.Goals as goal
 
 pub returns : goal.returns
-returns c = c.refuse_in.ensures (handle_words c.args.id.name.now) c.handle_words.ensures
+returns c = c.refuse_in.ensures (codes "type `" ++ (c.args.id.name.now ++ codes "` used in a handle must be a resource")) c.handle_words.ensures

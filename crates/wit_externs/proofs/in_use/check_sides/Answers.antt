@@ -2,27 +2,24 @@ use Rattle.std.proofs.Common.{◌≡◌, ℕ, List, Result, Ok, Err, map, subst,
 use Rattle.wit_syntax.proofs.Common.{Exported, Id, IfErr, Imported, OnOk, ParseError, Refused, SideItem, WorldSide, err_from_is_err_and, flat_map, item_function, on_side}
 use Rattle.wit_walk.proofs.Common.{Finds, finds_back, none_both, reports_prefix}
 use Rattle.wit_rules.specs.declared.borrowed.BorrowedFunction.{BorrowedFunction}
-use Rattle.wit_externs.specs.AloneFaults.{lone_setters}
-use Rattle.wit_externs.proofs.FirstSetters.{AreMerged, lone_by, merged_side, none_lone}
 use Rattle.wit_refusals.specs.NameScopes.{Name, IsFirstLoneSetter, IsLoneSetter}
 use Rattle.wit_rules.specs.BorrowedFunctions.{function_view}
+use Rattle.wit_externs.specs.AloneFaults.{lone_setters}
 use Rattle.wit_externs.specs.Clash.{all_on}
-use Rattle.wit_externs.proofs.NoSetters.{none_there}
-use Rattle.wit_externs.proofs.PairedNames.{side_named}
-use Rattle.wit_externs.proofs.Paired.{AreNamed}
+use Rattle.wit_externs.proofs.FirstSetters.{AreMerged, borrowed_named, lone_found, merged_side, none_on, side_named}
 use Rattle.wit_externs.proofs.in_use.check_sides.Goals as goal
 
 pub returns-then-not-have_setter : goal.returns-then-not-have_setter
 returns-then-not-have_setter c =
     let hs = c.args.functions.now in
-    let none = none_there hs (sym c.have_setter.ensures ∙ c.if-not-have_setter.true) in
-    record { first = none_both (none_lone (on_side Imported (map function_view hs)) (none Imported)) (none_lone (on_side Exported (map function_view hs)) (none Exported)) }
+    let none = sym c.have_setter.ensures ∙ c.if-not-have_setter.true in
+    record { first = none_both (none_on Imported hs none) (none_on Exported hs none) }
 
 -- what is found on a side
 side_finds : {T : Type 0} (side : WorldSide) (ids : List Id) (items : List SideItem) (hs : List BorrowedFunction) (names : List Name) (r : Result T ParseError) → flat_map item_function items ≡ map function_view hs → names ≡ all_on side ids items → OnOk r ((i : ℕ) → IsLoneSetter names i → ⊥) → IfErr r (Refused (IsFirstLoneSetter names)) → Finds (lone_setters (on_side side (map function_view hs))) r
 side_finds side ids items hs names r are same paired refused =
     let fns = map function_view hs in
-    lone_by names (on_side side fns) (subst (λ (l : List Name). AreNamed l (on_side side fns)) (sym same) (side_named side ids items hs are)) r (subst (λ (l : List Name). AreMerged l (on_side side fns)) (sym same) (merged_side side ids items fns are)) paired refused
+    lone_found r names (on_side side fns) (subst (λ (l : List Name). AreMerged l (on_side side fns)) (sym same) (merged_side side ids items fns are)) (side_named side fns (borrowed_named hs)) paired refused
 
 pub returns-in_err-check_setters : goal.returns-in_err-check_setters
 returns-in_err-check_setters c =

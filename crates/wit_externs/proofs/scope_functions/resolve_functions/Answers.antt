@@ -1,5 +1,5 @@
-use Rattle.std.proofs.Common.{◌≡◌, ◌∷◌, ◌++◌, ◌+◌, [], List, ℕ, Option, Some, inl, inr, refl, sym, ap, ◌∙◌, map, take, arith}
-use Rattle.wit_syntax.proofs.Common.{Fault, SideFunction, SideItem, SourceFunction, WorldSide, err_from_is_err_and, items_on, length-map, option_or, role_side, slice_get, slice_get_read, take-map, take_all}
+use Rattle.std.proofs.Common.{◌≡◌, ◌∷◌, ◌++◌, ◌+◌, [], List, ℕ, Option, inl, inr, refl, sym, ap, ◌∙◌, map, take, arith}
+use Rattle.wit_syntax.proofs.Common.{Fault, SideFunction, SideItem, SourceFunction, WorldSide, err_from_is_err_and, items_on, length-map, option_or, role_side, slice_get_read, take-map, take_all}
 use Rattle.wit_refusals.specs.NameScopes.{Name}
 use Rattle.wit_arena.proofs.Common.{env_of}
 use Rattle.wit_sides.specs.SideNames.{defined_on}
@@ -12,7 +12,7 @@ use Rattle.wit_externs.specs.AloneFaults.{again_fault, alone_fault, alone_faults
 use Rattle.wit_externs.specs.Clash.{names_of_items}
 use Rattle.wit_externs.proofs.AloneFaults.{function_safe, function_same, safe_arena, safe_of}
 use Rattle.wit_externs.proofs.Clashing.{sides_more}
-use Rattle.wit_externs.proofs.DoneFunctions.{scope_next, item_next, made_to, place_within, done_more, done_all, same_name}
+use Rattle.wit_externs.proofs.DoneFunctions.{next_place, item_next, place_within, done_more, done_all, same_name}
 use Rattle.wit_externs.proofs.Steps.{used_next}
 use Rattle.wit_externs.proofs.scope_functions.resolve_functions.Goals as goal
 
@@ -21,16 +21,11 @@ resolve_function-requires-clause-place c =
     let i = c.loop-borrowed.borrowed-index in
     let h = c.borrowed-item.result in
     let fn = function_view h in
-    let fns = functions_view c.args.scope in
-    let at : slice_get c.args.scope.functions.now i ≡ Some h = slice_get_read c.args.scope.functions.now _ i h refl c.loop-borrowed-test.true c.borrowed-item.is in
-    let here : slice_get fns i ≡ Some fn = scope_next c.args.scope i h at in
-    let made = made_to fns i fn c.loop-borrowed.functions.items here c.loop-borrowed.invariant.done.named in
-    let count : c.len.result ≡ i = omega (arith, c.len.ensures, c.loop-borrowed.functions.ok, made) in
-    let there : slice_get fns c.len.result ≡ Some fn = ap (slice_get fns) count ∙ here in
-    place_within c.args.scope c.len.result fn there
+    let next = next_place c.args.scope i h c.loop-borrowed.functions.items c.len.result (slice_get_read c.args.scope.functions.now _ i h refl c.loop-borrowed-test.true c.borrowed-item.is) c.loop-borrowed.invariant.done.named (omega (arith, c.len.ensures, c.loop-borrowed.functions.ok)) in
+    place_within c.args.scope c.len.result fn next.2
 
 pub returns-in_err-function-clause-extended : goal.returns-in_err-function-clause-extended
-returns-in_err-function-clause-extended c = extended_then c.args.types.now c.loop-borrowed.types c.resolve_function.new.types c.loop-borrowed.invariant.done.extended c.in_err-function.ensures.extended
+returns-in_err-function-clause-extended c = extended_then c.args.types.now c.loop-borrowed.types c.resolve_function.new.types c.loop-borrowed.invariant.done.extended c.in_err-function.ensures.finds.extended
 
 pub returns-in_err-function-clause-first : goal.returns-in_err-function-clause-first
 returns-in_err-function-clause-first c =
@@ -39,38 +34,32 @@ returns-in_err-function-clause-first c =
     let h = c.borrowed-item.result in
     let fn = function_view h in
     let fns = functions_view c.args.scope in
-    let at : slice_get c.args.scope.functions.now i ≡ Some h = slice_get_read c.args.scope.functions.now _ i h refl c.loop-borrowed-test.true c.borrowed-item.is in
-    let here : slice_get fns i ≡ Some fn = scope_next c.args.scope i h at in
-    let made = made_to fns i fn c.loop-borrowed.functions.items here c.loop-borrowed.invariant.done.named in
-    let count : c.len.result ≡ i = omega (arith, c.len.ensures, c.loop-borrowed.functions.ok, made) in
-    let there : slice_get fns c.len.result ≡ Some fn = ap (slice_get fns) count ∙ here in
+    let next = next_place c.args.scope i h c.loop-borrowed.functions.items c.len.result (slice_get_read c.args.scope.functions.now _ i h refl c.loop-borrowed-test.true c.borrowed-item.is) c.loop-borrowed.invariant.done.named (omega (arith, c.len.ensures, c.loop-borrowed.functions.ok)) in
     let env = env_of c.args.scope.names.now in
     let new = c.resolve_function.new.types in
     let old : WorldSide → List Name = λ s. defined_on s c.args.in_use.now in
-    rw (p.1, p.2) (λ xs scope. elim (c.in_err-function.ensures.first xs scope fn there) [
+    rw (p.1, p.2) (λ xs scope. elim (c.in_err-function.ensures.finds.first xs scope fn next.2) [
       | inl memory ↦ inl memory
       | inr wrong ↦ inr (λ handle ends. (
-          let none = c.loop-borrowed.invariant.first xs scope handle (safe_arena env c.loop-borrowed.types new handle c.in_err-function.ensures.extended (safe_of env new handle ends)) in
-          let own = function_same env new handle xs ends fns c.len.result fn there ∙ ap (λ (n : ℕ). function_fault (signed_by (words_in env) handle (take n fns ++ fn ∷ [])) xs fn) count in
+          let none = c.loop-borrowed.invariant.first xs scope handle (safe_arena env c.loop-borrowed.types new handle c.in_err-function.ensures.finds.extended (safe_of env new handle ends)) in
+          let own = function_same env new handle xs ends fns c.len.result fn next.2 ∙ ap (λ (n : ℕ). function_fault (signed_by (words_in env) handle (take n fns ++ fn ∷ [])) xs fn) next.0 in
           let again = again_fault (old (role_side fn.role) ++ names_of_items (items_on (role_side fn.role) (map SideFunction (take i fns)))) (name_of_function fn) in
-          after-at (alone_fault (words_in env) handle xs old) fns i fn _ here none (ap (λ (o : Option Fault). option_or o again) (sym own ∙ wrong))))
+          after-at (alone_fault (words_in env) handle xs old) fns i fn _ next.1 none (ap (λ (o : Option Fault). option_or o again) (sym own ∙ wrong))))
     ])
+
+pub define_alone-requires-clause-mangled : goal.define_alone-requires-clause-mangled
+define_alone-requires-clause-mangled c = c.in_ok-function.ensures.adds.mangled
 
 pub define_alone-requires-clause-borrowed : goal.define_alone-requires-clause-borrowed
 define_alone-requires-clause-borrowed c =
     let i = c.loop-borrowed.borrowed-index in
     let h = c.borrowed-item.result in
     let fn = function_view h in
-    let fns = functions_view c.args.scope in
-    let at : slice_get c.args.scope.functions.now i ≡ Some h = slice_get_read c.args.scope.functions.now _ i h refl c.loop-borrowed-test.true c.borrowed-item.is in
-    let here : slice_get fns i ≡ Some fn = scope_next c.args.scope i h at in
-    let made = made_to fns i fn c.loop-borrowed.functions.items here c.loop-borrowed.invariant.done.named in
-    let count : c.len.result ≡ i = omega (arith, c.len.ensures, c.loop-borrowed.functions.ok, made) in
-    let there : slice_get fns c.len.result ≡ Some fn = ap (slice_get fns) count ∙ here in
-    same_name c.in_ok-function.function fn (c.in_ok-function.ensures.named fn there)
+    let next = next_place c.args.scope i h c.loop-borrowed.functions.items c.len.result (slice_get_read c.args.scope.functions.now _ i h refl c.loop-borrowed-test.true c.borrowed-item.is) c.loop-borrowed.invariant.done.named (omega (arith, c.len.ensures, c.loop-borrowed.functions.ok)) in
+    same_name c.in_ok-function.function fn (c.in_ok-function.ensures.adds.named fn next.2)
 
 pub returns-in_err-define_alone-clause-extended : goal.returns-in_err-define_alone-clause-extended
-returns-in_err-define_alone-clause-extended c = extended_then c.args.types.now c.loop-borrowed.types c.resolve_function.new.types c.loop-borrowed.invariant.done.extended c.in_ok-function.ensures.extended
+returns-in_err-define_alone-clause-extended c = extended_then c.args.types.now c.loop-borrowed.types c.resolve_function.new.types c.loop-borrowed.invariant.done.extended c.in_ok-function.ensures.finds.extended
 
 -- the names on the side of a function, once those before it are defined
 names_before : (old mid : WorldSide → List Name) (fns : List SourceFunction) (i : ℕ) → ((s : WorldSide) → mid s ≡ old s ++ names_of_items (items_on s (take i (map SideFunction fns)))) → (s : WorldSide) → mid s ≡ old s ++ names_of_items (items_on s (map SideFunction (take i fns)))
@@ -83,11 +72,7 @@ returns-in_err-define_alone-clause-first c =
     let h = c.borrowed-item.result in
     let fn = function_view h in
     let fns = functions_view c.args.scope in
-    let at : slice_get c.args.scope.functions.now i ≡ Some h = slice_get_read c.args.scope.functions.now _ i h refl c.loop-borrowed-test.true c.borrowed-item.is in
-    let here : slice_get fns i ≡ Some fn = scope_next c.args.scope i h at in
-    let made = made_to fns i fn c.loop-borrowed.functions.items here c.loop-borrowed.invariant.done.named in
-    let count : c.len.result ≡ i = omega (arith, c.len.ensures, c.loop-borrowed.functions.ok, made) in
-    let there : slice_get fns c.len.result ≡ Some fn = ap (slice_get fns) count ∙ here in
+    let next = next_place c.args.scope i h c.loop-borrowed.functions.items c.len.result (slice_get_read c.args.scope.functions.now _ i h refl c.loop-borrowed-test.true c.borrowed-item.is) c.loop-borrowed.invariant.done.named (omega (arith, c.len.ensures, c.loop-borrowed.functions.ok)) in
     let env = env_of c.args.scope.names.now in
     let new = c.resolve_function.new.types in
     let old : WorldSide → List Name = λ s. defined_on s c.args.in_use.now in
@@ -98,14 +83,14 @@ returns-in_err-define_alone-clause-first c =
       | inl memory ↦ inl memory
       | inr wrong ↦ inr (λ handle ends. (
           let safe = safe_of env new handle ends in
-          let none = c.loop-borrowed.invariant.first xs scope handle (safe_arena env c.loop-borrowed.types new handle c.in_ok-function.ensures.extended safe) in
-          let own = ap (λ (n : ℕ). function_fault (signed_by (words_in env) handle (take n fns ++ fn ∷ [])) xs fn) (sym count) ∙ function_safe env new handle xs safe fns c.len.result fn there (c.in_ok-function.ensures.first xs scope fn there) in
+          let none = c.loop-borrowed.invariant.first xs scope handle (safe_arena env c.loop-borrowed.types new handle c.in_ok-function.ensures.finds.extended safe) in
+          let own = ap (λ (n : ℕ). function_fault (signed_by (words_in env) handle (take n fns ++ fn ∷ [])) xs fn) (sym next.0) ∙ function_safe env new handle xs safe fns c.len.result fn next.2 (c.in_ok-function.ensures.finds.first xs scope fn next.2) in
           let again = again_fault (old side ++ names_of_items (items_on side (map SideFunction (take i fns)))) (name_of_function fn) in
-          after-at (alone_fault (words_in env) handle xs old) fns i fn _ here none (ap (λ (o : Option Fault). option_or o again) own ∙ sym named ∙ wrong)))
+          after-at (alone_fault (words_in env) handle xs old) fns i fn _ next.1 none (ap (λ (o : Option Fault). option_or o again) own ∙ sym named ∙ wrong)))
     ])
 
 pub returns-in_err-reserve-clause-extended : goal.returns-in_err-reserve-clause-extended
-returns-in_err-reserve-clause-extended c = extended_then c.args.types.now c.loop-borrowed.types c.resolve_function.new.types c.loop-borrowed.invariant.done.extended c.in_ok-function.ensures.extended
+returns-in_err-reserve-clause-extended c = extended_then c.args.types.now c.loop-borrowed.types c.resolve_function.new.types c.loop-borrowed.invariant.done.extended c.in_ok-function.ensures.finds.extended
 
 pub returns-in_err-reserve-clause-first : goal.returns-in_err-reserve-clause-first
 returns-in_err-reserve-clause-first c =
@@ -118,18 +103,14 @@ loop-borrowed-preserved c =
     let h = c.borrowed-item.result in
     let fn = function_view h in
     let fns = functions_view c.args.scope in
-    let at : slice_get c.args.scope.functions.now i ≡ Some h = slice_get_read c.args.scope.functions.now _ i h refl c.loop-borrowed-test.true c.borrowed-item.is in
-    let here : slice_get fns i ≡ Some fn = scope_next c.args.scope i h at in
-    let made = made_to fns i fn c.loop-borrowed.functions.items here c.loop-borrowed.invariant.done.named in
-    let count : c.len.result ≡ i = omega (arith, c.len.ensures, c.loop-borrowed.functions.ok, made) in
-    let there : slice_get fns c.len.result ≡ Some fn = ap (slice_get fns) count ∙ here in
-    let item = item_next fns i fn here in
+    let next = next_place c.args.scope i h c.loop-borrowed.functions.items c.len.result (slice_get_read c.args.scope.functions.now _ i h refl c.loop-borrowed-test.true c.borrowed-item.is) c.loop-borrowed.invariant.done.named (omega (arith, c.len.ensures, c.loop-borrowed.functions.ok)) in
+    let item = item_next fns i fn next.1 in
     let xs = map SideFunction fns in
     let was = c.loop-borrowed.invariant in
     let says = c.in_ok-function.ensures in
     let made_one = c.in_ok-function.function in
     record {
-      done = done_more c.args.types.now c.loop-borrowed.types c.resolve_function.new.types c.args.scope (take i fns) (take (i + 1) fns) fn c.loop-borrowed.functions.items c.push_reserved.new.self.items made_one c.args.required.now.items c.loop-borrowed.required.items c.resolve_function.new.required.items (used_next fns i fn here) (rw c.reserve.ensures.items at c.push_reserved.ensures.items) (says.adds fn there) (says.named fn there) says.mangled (says.handled fn there) says.extended was.done;
+      done = done_more c.args.types.now c.loop-borrowed.types c.resolve_function.new.types c.args.scope (take i fns) (take (i + 1) fns) fn c.loop-borrowed.functions.items c.push_reserved.new.self.items made_one c.args.required.now.items c.loop-borrowed.required.items c.resolve_function.new.required.items (used_next fns i fn next.1) (rw c.reserve.ensures.items at c.push_reserved.ensures.items) (says.adds.adds fn next.2) (says.adds.named fn next.2) says.adds.mangled (says.adds.handled fn next.2) says.finds.extended was.done;
       defined = λ s. sides_more s (defined_on s c.args.in_use.now) (defined_on s c.loop-borrowed.in_use) (defined_on s c.define_alone.new.in_use) xs i (SideFunction fn) item (was.defined s) (c.in_ok-define_alone.ensures.defined s);
       differ = λ s before. c.in_ok-define_alone.ensures.differ s (was.differ s before);
       first = λ zs scope_is handle safe. (
@@ -137,10 +118,10 @@ loop-borrowed-preserved c =
           let new = c.resolve_function.new.types in
           let old : WorldSide → List Name = λ s. defined_on s c.args.in_use.now in
           let side = role_side fn.role in
-          let none = was.first zs scope_is handle (safe_arena env c.loop-borrowed.types new handle says.extended safe) in
-          let own = ap (λ (n : ℕ). function_fault (signed_by (words_in env) handle (take n fns ++ fn ∷ [])) zs fn) (sym count) ∙ function_safe env new handle zs safe fns c.len.result fn there (says.first zs scope_is fn there) in
+          let none = was.first zs scope_is handle (safe_arena env c.loop-borrowed.types new handle says.finds.extended safe) in
+          let own = ap (λ (n : ℕ). function_fault (signed_by (words_in env) handle (take n fns ++ fn ∷ [])) zs fn) (sym next.0) ∙ function_safe env new handle zs safe fns c.len.result fn next.2 (says.finds.first zs scope_is fn next.2) in
           let named = ap (λ (l : List Name). again_fault l (name_of_function fn)) (names_before old (λ s. defined_on s c.loop-borrowed.in_use) fns i was.defined side) in
-          ap (alone_faults (words_in env) handle zs old) (used_next fns i fn here) ∙ after-more (alone_fault (words_in env) handle zs old) (take i fns) fn none ∙ none_both own (sym named ∙ c.in_ok-define_alone.ensures.first));
+          ap (alone_faults (words_in env) handle zs old) (used_next fns i fn next.1) ∙ after-more (alone_fault (words_in env) handle zs old) (take i fns) fn none ∙ none_both own (sym named ∙ c.in_ok-define_alone.ensures.first));
     }
 
 pub returns-clause-adds : goal.returns-clause-adds

@@ -1,10 +1,13 @@
-use Rattle.std.proofs.Common.{inl, inr}
-use Rattle.wit_syntax.proofs.Common.{function_words}
-use Rattle.wit_rules.specs.Signatures.{AtFunction}
+use Rattle.std.proofs.Common.{◌++◌, inl, inr, sym, ◌∙◌}
+use Rattle.wit_syntax.proofs.Common.{codes}
+use Rattle.wit_signatures.proofs.Signed.{lost_function, lost_nowhere}
 use Rattle.wit_signatures.proofs.signatures.refuse_name.Goals as goal
 
-pub returns-then-is_entered : goal.returns-then-is_entered
-returns-then-is_entered c = elim (c.refuse_in.ensures (function_words c.args.name.now) c.function_as_type.ensures) [
+pub returns-then-have_name : goal.returns-then-have_name
+returns-then-have_name c = λ id at named. elim (c.refuse_in.ensures (codes "cannot use function `" ++ (c.args.name.now ++ codes "` as a type")) c.function_as_type.ensures) [
   | inl memory ↦ inl memory
-  | inr says ↦ inr (AtFunction (c.is_entered.ensures.0 c.if-is_entered.true) says)
+  | inr says ↦ lost_function c.args.functions.now c.args.span c.args.name.now c.refuse_in.result (sym c.have_name.ensures ∙ c.if-have_name.true) says id at named
 ]
+
+pub returns-in-Ok : goal.returns-in-Ok
+returns-in-Ok c = lost_nowhere c.args.functions.now c.args.span c.args.name.now c.in-Ok.kind c.of.result (sym c.have_name.ensures ∙ c.if-have_name.false) c.in-Ok.ensures c.of.ensures.kind c.of.ensures.rule

@@ -1,6 +1,7 @@
 use Rattle.std.proofs.Common.{◌≡◌, ◌++◌, ◌∷◌, [], rules, subst}
 use Rattle.wit_arena.proofs.Common.{unnamed}
-use Rattle.wit_entries.proofs.Known.{IsMissing, known_kept, known_set, known_unnamed}
+use Rattle.wit_entries.specs.Known.{IsMissing}
+use Rattle.wit_entries.proofs.Known.{known_kept, known_set, known_unnamed}
 use Rattle.wit_entries.proofs.entries.Entries.add_unnamed.Goals as goal
 
 pub invariant_of-self : goal.invariant_of-self
