@@ -1,11 +1,12 @@
 -- The names that items use from other packages are those among their names, and among those of what is written in them.
-use Rattle.std.proofs.Common.{◌≡◌, ℕ, zero, suc, List, [], ◌∷◌, ◌++◌, Some, inl, inr, refl, sym, ap, ◌∙◌, subst}
-use Rattle.wit_syntax.proofs.Common.{Address, All, Attribute, DefinitionPart, Exported, Extern, ExternPart, ForeignUse, FunctionPart, Imported, IncludePart, InterfaceItem, Item, PackageFile, Part, ScopeName, TopName, Use, UseName, UsePart, Used, WorldSide, all_items, at_side, cases_Bool, filter, filter-append, flat_map, flat_map-append, foreign_uses, inline_uses, interface_part, is_foreign, item_foreign_uses, item_uses, map, part_foreign_uses, part_names, parts, path_scope, same_side, scope_names, slice_get, use_foreign_uses, use_of_foreign}
+use Rattle.std.proofs.Common.{◌≡◌, suc, List, [], ◌∷◌, ◌++◌, inl, inr, refl, sym, ap, ◌∙◌}
+use Rattle.wit_syntax.proofs.Common.{Address, All, Attribute, DefinitionPart, Exported, Extern, ExternPart, ForeignUse, FunctionPart, Imported, IncludePart, InterfaceItem, Item, PackageFile, Part, ScopeName, TopName, Use, UseName, UsePart, Used, WorldSide, all_items, at_side, cases_Bool, filter, filter-append, flat_map, flat_map-append, foreign_uses, get_or, inline_uses, interface_part, is_foreign, item_foreign_uses, item_uses, map, part_foreign_uses, part_names, parts, path_scope, same_side, scope_names, slice_get-get_or, use_foreign_uses, use_of_foreign}
 use Rattle.wit_tree.specs.declared.tree.InterfaceItem.TheVariants as interface_item
-use Rattle.wit_scopes.specs.PlacedNames.{AreNamesPlaced}
 use Rattle.wit_items.specs.declared.items.Item.{Item as BorrowedItem}
-use Rattle.wit_items.specs.PlacedItems.{AreItemsPlaced}
-use Rattle.wit_items.specs.BorrowedItems.{names_view}
+use Rattle.wit_items.specs.ForeignAddresses.{prefix_of}
+use Rattle.wit_items.specs.Gathered.{AreItemsOf, IsItemOf}
+use Rattle.wit_items.specs.PlacedItems.{IsItemPlaced}
+use Rattle.wit_items.specs.BorrowedItems.{item_view}
 use Rattle.wit_items.specs.NamesInside.{written_items, side_uses}
 use Rattle.wit_items.specs.InlineNames.{inside_view, names_written}
 use Rattle.wit_items.proofs.WrittenNames.{items_names, uses_written, names_written_in}
@@ -83,37 +84,23 @@ item-foreign_uses w =
     let sides = ap (λ (l : List ForeignUse). l ++ exported) (written_foreign_uses w Imported) ∙ ap (λ (l : List ForeignUse). foreign (on Imported) ++ l) (written_foreign_uses w Exported) ∙ sym (foreign-append (on Imported) (on Exported)) in
     ap (λ (l : List ForeignUse). l ++ (flat_map names_foreign_uses (names_written Imported w) ++ exported)) (parts-foreign_uses w.top (parts w)) ∙ ap (λ (l : List ForeignUse). foreign own ++ l) sides ∙ sym (foreign-append own (on Imported ++ on Exported))
 
--- those of items that are borrowed with the right names
-items-foreign_uses : (xs : List BorrowedItem) (ws : List Item) → map names_view xs ≡ map scope_names ws → ((side : WorldSide) → map (inside_view side) xs ≡ map (names_written side) ws) → flat_map borrowed_foreign_uses xs ≡ flat_map item_foreign_uses ws
-items-foreign_uses [] [] names inside = refl
-items-foreign_uses [] (w ∷ ws) names inside = absurd (let f : ⊥ = cc in f)
-items-foreign_uses (x ∷ xs) [] names inside = absurd (let f : ⊥ = cc in f)
-items-foreign_uses (x ∷ xs) (w ∷ ws) names inside =
-    let own : names_view x ≡ scope_names w = cc in
-    let rest : map names_view xs ≡ map scope_names ws = cc in
-    let imported = heads (inside_view Imported x) (names_written Imported w) (map (inside_view Imported) xs) (map (names_written Imported) ws) (inside Imported) in
-    let exported = heads (inside_view Exported x) (names_written Exported w) (map (inside_view Exported) xs) (map (names_written Exported) ws) (inside Exported) in
-    let sides = ap (λ (l : List (List ScopeName)). flat_map names_foreign_uses l ++ flat_map names_foreign_uses (inside_view Exported x)) imported ∙ ap (λ (l : List (List ScopeName)). flat_map names_foreign_uses (names_written Imported w) ++ flat_map names_foreign_uses l) exported in
-    let one : borrowed_foreign_uses x ≡ item_foreign_uses w = ap (λ (l : List ScopeName). names_foreign_uses l ++ (flat_map names_foreign_uses (inside_view Imported x) ++ flat_map names_foreign_uses (inside_view Exported x))) own ∙ ap (λ (l : List ForeignUse). names_foreign_uses (scope_names w) ++ l) sides ∙ item-foreign_uses w in
-    ap (λ (l : List ForeignUse). l ++ flat_map borrowed_foreign_uses xs) one ∙ ap (λ (l : List ForeignUse). item_foreign_uses w ++ l) (items-foreign_uses xs ws rest (λ side. tails (inside_view side x) (names_written side w) (map (inside_view side) xs) (map (names_written side) ws) (inside side)))
-  where
-    heads : {X : Type 0} (a b : X) (prefix back : List X) → a ∷ prefix ≡ b ∷ back → a ≡ b
-    heads a b prefix back same = cc
+-- those of one that is borrowed with the right names
+borrowed-foreign_uses : (files : List PackageFile) (x : BorrowedItem) → IsItemOf files x → borrowed_foreign_uses x ≡ item_foreign_uses (item_view x)
+borrowed-foreign_uses files x is =
+    let w = item_view x in
+    let exported = flat_map names_foreign_uses (inside_view Exported x) in
+    let sides = ap (λ (l : List (List ScopeName)). flat_map names_foreign_uses l ++ exported) (is.written Imported) ∙ ap (λ (l : List (List ScopeName)). flat_map names_foreign_uses (names_written Imported w) ++ flat_map names_foreign_uses l) (is.written Exported) in
+    ap (λ (l : List ScopeName). names_foreign_uses l ++ (flat_map names_foreign_uses (inside_view Imported x) ++ exported)) is.named ∙ ap (λ (l : List ForeignUse). names_foreign_uses (scope_names w) ++ l) sides ∙ item-foreign_uses w
 
-    tails : {X : Type 0} (a b : X) (prefix back : List X) → a ∷ prefix ≡ b ∷ back → prefix ≡ back
-    tails a b prefix back same = cc
+items-foreign_uses : (files : List PackageFile) (xs : List BorrowedItem) → AreItemsOf files xs → flat_map borrowed_foreign_uses xs ≡ flat_map item_foreign_uses (map item_view xs)
+items-foreign_uses files [] are = refl
+items-foreign_uses files (x ∷ xs) are =
+    let rest : AreItemsOf files xs = record { each = λ k i at. are.each (suc k) i at } in
+    ap (λ (l : List ForeignUse). l ++ flat_map borrowed_foreign_uses xs) (borrowed-foreign_uses files x (are.each 0 x refl)) ∙ ap (λ (l : List ForeignUse). item_foreign_uses (item_view x) ++ l) (items-foreign_uses files xs rest)
 
-pub all-foreign_uses : (files : List PackageFile) (xs : List BorrowedItem) → map names_view xs ≡ map scope_names (all_items files) → ((side : WorldSide) → map (inside_view side) xs ≡ map (names_written side) (all_items files)) → flat_map borrowed_foreign_uses xs ≡ foreign_uses files
-all-foreign_uses files xs names inside = items-foreign_uses xs (all_items files) names inside
+pub all-foreign_uses : (files : List PackageFile) (xs : List BorrowedItem) → AreItemsOf files xs → map item_view xs ≡ all_items files → flat_map borrowed_foreign_uses xs ≡ foreign_uses files
+all-foreign_uses files xs are all = items-foreign_uses files xs are ∙ ap (flat_map item_foreign_uses) all
 
--- items of which each is placed, one by one
-pub one_placed : (prefix : List Address) (xs : List BorrowedItem) (i : ℕ) (x : BorrowedItem) → slice_get xs i ≡ Some x → AreItemsPlaced prefix xs → AreItemsPlaced prefix (x ∷ [])
-one_placed prefix xs i x at placed = record {
-  each = λ k y here. subst (λ (z : BorrowedItem). AreNamesPlaced prefix z.names.items) (only k y here) (placed.each i x at);
-  imported = λ k y here. subst (λ (z : BorrowedItem). All (λ ns. AreNamesPlaced prefix ns.items) z.imported.items) (only k y here) (placed.imported i x at);
-  exported = λ k y here. subst (λ (z : BorrowedItem). All (λ ns. AreNamesPlaced prefix ns.items) z.exported.items) (only k y here) (placed.exported i x at);
-}
-  where
-    only : (k : ℕ) (y : BorrowedItem) → slice_get (x ∷ []) k ≡ Some y → x ≡ y
-    only zero y here = cc
-    only (suc k) y here = absurd (let f : ⊥ = cc in f)
+-- their names are placed
+pub items_placed : (files : List PackageFile) (xs : List BorrowedItem) → AreItemsOf files xs → All (IsItemPlaced (prefix_of files)) xs
+items_placed files xs are = λ k d within. (are.each k (get_or xs k d) (slice_get-get_or xs k d within)).placed

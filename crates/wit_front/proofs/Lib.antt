@@ -1,3 +1,3 @@
-mod Prefixes
-mod ForeignUses
+pub mod Prefixes
+pub mod ForeignUses
 mod ForeignName

@@ -1,11 +1,9 @@
 -- What comes before the arenas, while it is made.
-use Rattle.std.specs.Prelude.{◌≡◌, ℕ, suc, List, [], ◌∷◌, ◌++◌, not, None, All, Some, Vec, map, slice_get, if◌then◌else◌}
+use Rattle.std.specs.Prelude.{◌≡◌, ℕ, suc, List, [], ◌∷◌, ◌++◌, not, None, Vec, map, if◌then◌else◌}
 use Rattle.std.specs.declared.alloc.Global.{Global}
 use Rattle.std.specs.List.{filter, flat_map}
 use Rattle.wit_values.specs.declared.span.Span.{Span}
-use Rattle.wit_type_tree.specs.declared.leaves.Attribute.{Attribute}
 use Rattle.wit_tree.specs.declared.tree.PackageFile.{PackageFile}
-use Rattle.wit_tree.specs.declared.tree.UseName.{UseName}
 use Rattle.wit_types.specs.declared.stability.Stability.TheVariants.{Unknown}
 use Rattle.wit_types.specs.declared.types.TypeDef.{TypeDef}
 use Rattle.wit_types.specs.declared.types.TypeDefKind.TheVariants as kind
@@ -14,21 +12,19 @@ use Rattle.wit_model.specs.declared.ast_item.AstItem.TheVariants as entry
 use Rattle.wit_model.specs.declared.interface.Interface.{Interface}
 use Rattle.wit_model.specs.declared.world.World.{World}
 use Rattle.wit_syntax.specs.Address.{Address, same_address, is_foreign}
-use Rattle.wit_syntax.specs.Source.{ScopeName, Used, Defined, ForeignName, ForeignUse, all_items, scope_names, use_of_foreign, same_foreign_use, first_foreign_uses}
+use Rattle.wit_syntax.specs.Source.{ScopeName, Used, ForeignUse, all_items, use_of_foreign, same_foreign_use, first_foreign_uses}
 use Rattle.wit_syntax.specs.Metadata.{metadata, no_docs}
 use Rattle.wit_syntax.specs.Repeats.{AllDiffer, firsts}
 use Rattle.wit_syntax.specs.Foreign.{ForeignVisit, visited, foreign_items}
 use Rattle.wit_arena.specs.Whole.{foreign_entry, owner_at}
 use Rattle.wit_arena.specs.Resolving.{Names, named}
 use Rattle.wit_arena.specs.ResolvedArenas.{AddsForeign}
-use Rattle.wit_tree.specs.declared.tree.WorldSide.{WorldSide}
 use Rattle.wit_tree.specs.declared.tree.WorldSide.TheVariants.{Imported, Exported}
 use Rattle.wit_items.specs.declared.items.Item.{Item as BorrowedItem}
 use Rattle.wit_scopes.specs.BorrowedNames.{Borrowed, name_view}
-use Rattle.wit_scopes.specs.PlacedNames.{AreNamesPlaced}
-use Rattle.wit_items.specs.BorrowedItems.{names_view}
-use Rattle.wit_items.specs.PlacedItems.{AreItemsPlaced}
-use Rattle.wit_items.specs.InlineNames.{inside_view, names_written}
+use Rattle.wit_items.specs.BorrowedItems.{item_view, names_view}
+use Rattle.wit_items.specs.Gathered.{AreItemsOf}
+use Rattle.wit_items.specs.InlineNames.{inside_view}
 use Rattle.wit_front.specs.declared.foreign.ForeignArenas.{ForeignArenas}
 
 -- an interface of another package with these types
@@ -91,8 +87,7 @@ AreApart vs = AllDiffer (addresses_among vs)
 -- the names among these that come from other packages
 abbrev pub name_foreign_uses : ScopeName → List ForeignUse
 name_foreign_uses (Used from attributes n) = filter (λ t. is_foreign t.from) (use_of_foreign from attributes n ∷ [])
-name_foreign_uses (Defined d) = []
-name_foreign_uses (ForeignName attributes id) = []
+name_foreign_uses _ = []
 
 abbrev pub names_foreign_uses : List ScopeName → List ForeignUse
 names_foreign_uses xs = flat_map name_foreign_uses xs
@@ -109,10 +104,7 @@ pub record HasUsed (types : List TypeDef) (a : ForeignArenas) (Placed : List Add
   pub in_use : AreAdded vs ts types a
   pub placed : Placed (addresses_among vs)
 
--- the names of what is written in items are placed, and what they use of other packages
-abbrev pub ArePlacedInside : List Address → List (Vec Borrowed Global) → Type 0
-ArePlacedInside prefix inside = All (λ ns. AreNamesPlaced prefix ns.items) inside
-
+-- what names of what is written in items use of other packages
 abbrev pub inside_uses : List (Vec Borrowed Global) → List ForeignUse
 inside_uses inside = flat_map names_foreign_uses (map (λ ns. map name_view ns.items) inside)
 
@@ -120,21 +112,12 @@ inside_uses inside = flat_map names_foreign_uses (map (λ ns. map name_view ns.i
 abbrev pub AddsUsed : (old : List TypeDef) (before : ForeignArenas) (new : List TypeDef) (after : ForeignArenas) → (List Address → Type 0) → List ForeignUse → Type 0
 AddsUsed old before new after Placed uses = (vs : List ForeignVisit) (ts : List ForeignUse) → AreApart vs → Placed (addresses_among vs) → AreAdded vs ts old before → AreAdded vs (ts ++ uses) new after
 
--- a type is used from the interface at a place, by a `use` with these attributes
-abbrev pub AddsUsedAt : (old : List TypeDef) (before : ForeignArenas) (new : List TypeDef) (after : ForeignArenas) → ℕ → List Attribute → UseName → Type 0
-AddsUsedAt old before new after place attributes n = (s : Address) → AddsUsed old before new after (λ p. slice_get p place ≡ Some s) (use_of_foreign s attributes n ∷ [])
-
 -- what files name of other packages comes before the arenas
 pub record IsPrefix (files : List PackageFile) (types : List TypeDef) (a : ForeignArenas) : Type 0 where
   pub adds : AddsForeign files types a.interfaces a.worlds
   pub entries : a.entries.items ≡ map (foreign_entry files) (foreign_items files)
   pub spans : a.spans.items ≡ map (λ t. t.id.span) (first_foreign_uses files)
 
--- what files use of other packages is added to the items of these, where the names of their own, which these are, are placed
+-- what the items of files, which are these, use of other packages is added to what files name of those
 abbrev pub AddsPrefix : (old : List TypeDef) (before : ForeignArenas) (new : List TypeDef) (after : ForeignArenas) → List BorrowedItem → Type 0
-AddsPrefix old before new after items = (files : List PackageFile) → AreAdded (foreign_items files) [] old before → AreItemsPlaced (addresses_among (foreign_items files)) items
-    → map names_view items ≡ map scope_names (all_items files) → ((side : WorldSide) → map (inside_view side) items ≡ map (names_written side) (all_items files)) → IsPrefix files new after
-
--- where these are the items of files, these are the entries of those
-abbrev pub AreEntriesOf : List ForeignVisit → List AstItem → Type 0
-AreEntriesOf vs entries = (files : List PackageFile) → vs ≡ foreign_items files → entries ≡ map (foreign_entry files) (foreign_items files)
+AddsPrefix old before new after items = (files : List PackageFile) → AreAdded (foreign_items files) [] old before → AreItemsOf files items → map item_view items ≡ all_items files → IsPrefix files new after

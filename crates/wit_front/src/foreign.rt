@@ -1,14 +1,15 @@
 //! What other packages' items put before the arenas.
-ghost use Rattle.std.specs.Prelude.{◌≡◌, ◌++◌, ◌∷◌, ◌<◌, List, [], true, false, length, map, nat_eq, IfOk, IfErr, OnOk};
+ghost use Rattle.std.specs.Prelude.{◌≡◌, ◌++◌, ◌∷◌, ◌<◌, All, List, Some, [], true, false, length, map, nat_eq, slice_get, IfOk, OnOk};
 ghost use Rattle.std.specs.Cmp.Lexicographic.{pointwise};
 ghost use Rattle.indexmap.specs.IndexMap.{insert_entry};
-ghost use Rattle.wit_type_tree.specs.RefusalText.{IsAllocationFailure};
+ghost use Rattle.wit_syntax.specs.Address.{Address};
 ghost use Rattle.wit_syntax.specs.Foreign.{ForeignVisit as TheVisit};
+ghost use Rattle.wit_syntax.specs.Source.{use_of_foreign};
 ghost use Rattle.wit_files.specs.ForeignPaths.{foreign_view};
 ghost use Rattle.wit_scopes.specs.BorrowedNames.{name_view};
 ghost use Rattle.wit_scopes.specs.PlacedNames.{IsNamePlaced, AreNamesPlaced};
-ghost use Rattle.wit_items.specs.PlacedItems.{AreItemsPlaced};
-ghost use Rattle.wit_front.specs.ForeignPrefix.{AddsPrefix, AreEntriesOf, AddsUsed, AddsUsedAt, ArePlacedInside, inside_uses, interface_with, with_types, bare_world, AreAdded, HasUsed, name_foreign_uses, names_foreign_uses, borrowed_foreign_uses};
+ghost use Rattle.wit_items.specs.PlacedItems.{ArePlacedInside, IsItemPlaced};
+ghost use Rattle.wit_front.specs.ForeignPrefix.{AddsPrefix, AddsUsed, inside_uses, interface_with, with_types, bare_world, AreAdded, HasUsed, name_foreign_uses, names_foreign_uses, borrowed_foreign_uses};
 
 use std::alloc::{AllocError, Global};
 use wit_entries::entries::Entries;
@@ -18,8 +19,8 @@ use wit_maps::{Table, TextTable};
 use wit_model::{AstItem, Interface, World};
 use wit_notes::stated_metadata;
 use wit_scopes::scope_name::{ScopeName, Source};
+use wit_tree::Span;
 use wit_tree::tree::{Attribute, UseName};
-use wit_tree::{ParseResult, Span};
 use wit_types::{
     Arena, Docs, InterfaceId, InterfacePlace, Stability, TypeDefKind, TypeId, TypeOwner, WorldPlace,
 };
@@ -141,8 +142,7 @@ impl ForeignArenas {
         items: &[ForeignVisit<'_, '_>],
         declared: usize,
     ) -> Result<Self, AllocError>
-        ensures bare { IfOk result (AreAdded (map foreign_view items.now) [] []) }
-        ensures entries { IfOk result (λ arenas. AreEntriesOf (map foreign_view items.now) arenas.entries.items) }
+        ensures { IfOk result (AreAdded (map foreign_view items.now) [] []) }
     {
         let room = items.len().saturating_add(declared);
         let mut arenas = ForeignArenas::with_room(alloc, room)?;
@@ -163,10 +163,9 @@ impl ForeignArenas {
         place: usize,
         attributes: &[Attribute<'_>],
         name: &UseName<'_>,
-    ) -> ParseResult<()>
+    ) -> Result<(), AllocError>
         requires within { place < length self.old.interfaces }
-        ensures in_use { OnOk result (AddsUsedAt types.old self.old types.new self.new place attributes.now name.now) }
-        ensures refused { IfErr result IsAllocationFailure }
+        ensures { OnOk result ((s : Address) → AddsUsed types.old self.old types.new self.new (λ p. slice_get p place ≡ Some s) (use_of_foreign s attributes.now name.now ∷ [])) }
     {
         let used = name.name;
         let id = self.interfaces.id_at(place);
@@ -189,17 +188,19 @@ impl ForeignArenas {
         alloc: Global,
         types: &mut Entries,
         name: &ScopeName<'_, '_>,
-    ) -> ParseResult<()>
+    ) -> Result<(), AllocError>
         requires { HasUsed types.old self.old (λ prefix. IsNamePlaced prefix name.now) }
-        ensures in_use { OnOk result (AddsUsed types.old self.old types.new self.new (λ p. IsNamePlaced p name.now) (name_foreign_uses (name_view name.now))) }
-        ensures refused { IfErr result IsAllocationFailure }
+        ensures { OnOk result (AddsUsed types.old self.old types.new self.new (λ p. IsNamePlaced p name.now) (name_foreign_uses (name_view name.now))) }
     {
-        if let ScopeName::Used(used) = name {
-            if let Source::Foreign { place, .. } = used.from {
-                self.add_used_type(alloc, types, place, used.attributes, used.name)?;
-            }
+        match name {
+            ScopeName::Used(used) => match used.from {
+                Source::Declared(_) => Ok(()),
+                Source::Foreign { place, .. } => {
+                    self.add_used_type(alloc, types, place, used.attributes, used.name)
+                }
+            },
+            ScopeName::Defined(_) => Ok(()),
         }
-        Ok(())
     }
 
     /// Adds the types that a scope uses from interfaces of other packages.
@@ -210,10 +211,9 @@ impl ForeignArenas {
         alloc: Global,
         types: &mut Entries,
         names: &[ScopeName<'_, '_>],
-    ) -> ParseResult<()>
+    ) -> Result<(), AllocError>
         requires { HasUsed types.old self.old (λ prefix. AreNamesPlaced prefix names.now) }
-        ensures in_use { OnOk result (AddsUsed types.old self.old types.new self.new (λ p. AreNamesPlaced p names.now) (names_foreign_uses (map name_view names.now))) }
-        ensures refused { IfErr result IsAllocationFailure }
+        ensures { OnOk result (AddsUsed types.old self.old types.new self.new (λ p. AreNamesPlaced p names.now) (names_foreign_uses (map name_view names.now))) }
     {
         for name in names {
             self.add_used_by_name(alloc, types, name)?;
@@ -229,10 +229,9 @@ impl ForeignArenas {
         alloc: Global,
         types: &mut Entries,
         inside: &[Vec<ScopeName<'_, '_>>],
-    ) -> ParseResult<()>
+    ) -> Result<(), AllocError>
         requires { HasUsed types.old self.old (λ prefix. ArePlacedInside prefix inside.now) }
-        ensures in_use { OnOk result (AddsUsed types.old self.old types.new self.new (λ p. ArePlacedInside p inside.now) (inside_uses inside.now)) }
-        ensures refused { IfErr result IsAllocationFailure }
+        ensures { OnOk result (AddsUsed types.old self.old types.new self.new (λ p. ArePlacedInside p inside.now) (inside_uses inside.now)) }
     {
         for names in inside {
             self.add_used_by_names(alloc, types, names)?;
@@ -249,10 +248,9 @@ impl ForeignArenas {
         alloc: Global,
         types: &mut Entries,
         item: &Item<'_, '_>,
-    ) -> ParseResult<()>
-        requires { HasUsed types.old self.old (λ prefix. AreItemsPlaced prefix (item.now ∷ [])) }
-        ensures in_use { OnOk result (AddsUsed types.old self.old types.new self.new (λ p. AreItemsPlaced p (item.now ∷ [])) (borrowed_foreign_uses item.now)) }
-        ensures refused { IfErr result IsAllocationFailure }
+    ) -> Result<(), AllocError>
+        requires { HasUsed types.old self.old (λ prefix. IsItemPlaced prefix item.now) }
+        ensures { OnOk result (AddsUsed types.old self.old types.new self.new (λ p. IsItemPlaced p item.now) (borrowed_foreign_uses item.now)) }
     {
         self.add_used_by_names(alloc, types, &item.names)?;
         self.add_used_inside(alloc, types, &item.imported)?;
@@ -267,10 +265,9 @@ impl ForeignArenas {
         alloc: Global,
         types: &mut Entries,
         items: &[Item<'_, '_>],
-    ) -> ParseResult<()>
-        requires { HasUsed types.old self.old (λ prefix. AreItemsPlaced prefix items.now) }
-        ensures in_use { OnOk result (AddsPrefix types.old self.old types.new self.new items.now) }
-        ensures refused { IfErr result IsAllocationFailure }
+    ) -> Result<(), AllocError>
+        requires { HasUsed types.old self.old (λ prefix. All (IsItemPlaced prefix) items.now) }
+        ensures { OnOk result (AddsPrefix types.old self.old types.new self.new items.now) }
     {
         for item in items {
             self.add_used_by_item(alloc, types, item)?;

@@ -1,9 +1,9 @@
 -- The names of a scope in turn: on the side of imports, and what a table of them means.
-use Rattle.std.proofs.Common.{◌≡◌, ℕ, true, List, [], ◌++◌, map, Option, Some, None, refl, sym, ap, ◌∙◌}
-use Rattle.wit_syntax.proofs.Common.{Id, ScopeName, SourceFunction, WorldSide, bytes_eq, find_some, in_turn, in_turn_among, local_id, local_name, local_names, lookup-place, map_at, map_map, meaning, name_itself, names_on, option_map, slice_get, slice_get-map}
+use Rattle.std.proofs.Common.{◌≡◌, ℕ, true, List, [], ◌++◌, map, Option, Some, None, refl, sym, ap, ◌∙◌, is_none}
+use Rattle.wit_syntax.proofs.Common.{Id, ScopeName, SourceFunction, TypeDef, TypeOwner, WorldSide, bytes_eq, find_some, in_turn, in_turn_among, local_id, local_name, local_names, lookup-place, map_at, map_map, meaning, name_itself, names_on, option_map, slice_get, slice_get-map, if◌then◌else◌}
 use mathlib.Core.Path.{fun_ext}
-use Rattle.wit_arena.proofs.Common.{Names, env_of, names_in}
-use Rattle.wit_walk.proofs.Common.{lost_word, unless_meant, word_fault}
+use Rattle.wit_arena.proofs.Common.{Names, Required, ResolvedScope, env_of, names_in}
+use Rattle.wit_walk.proofs.Common.{lost_word, word_fault}
 use Rattle.wit_arena.proofs.Meant.{free_unmeant}
 use Rattle.wit_refusals.specs.NameScopes.{Name}
 use Rattle.wit_sides.specs.SideNames.{defined_on}
@@ -12,6 +12,7 @@ use Rattle.wit_rules.specs.Signatures.{AreAllNames}
 use Rattle.wit_entries.specs.EntryFaults.{unless_found}
 use Rattle.wit_signatures.specs.ForeignName.{name_of_id}
 use Rattle.wit_externs.specs.AloneFaults.{words_in}
+use Rattle.wit_item_entries.specs.AddedNames.{AddsTurn}
 use Rattle.wit_item_entries.specs.NameOrder.{IsTurn}
 
 -- once the names of a scope are defined where nothing was, they are on their side
@@ -21,6 +22,10 @@ used_before side old new borrowed ids nothing defined same = defined side ∙ ap
 -- the texts of the names of a scope in turn
 pub turn_texts : (xs : List ScopeName) (order : List ℕ) (ids : List Id) → ids ≡ map local_id (in_turn xs order) → map (λ (id : Id). id.name.now) ids ≡ local_names (in_turn xs order)
 turn_texts xs order ids are = ap (map (λ (id : Id). id.name.now)) are ∙ map_map (λ (id : Id). id.name.now) local_id (in_turn xs order)
+
+-- and so of those that were added
+pub turn_named : (old new : List TypeDef) (cs : List ResolvedScope) (o : TypeOwner) (xs : List ScopeName) (types : Names) (ids : List Id) (rs : List Required) → AddsTurn old new cs o xs types ids rs → names_in types ≡ map (λ (id : Id). id.name.now) ids
+turn_named old new cs o xs types ids rs t = t.listed ∙ sym (turn_texts xs t.adds.order ids t.turn)
 
 -- where a table has just the names of a scope, what it lacks is none of them
 pub all_names : (xs : List ScopeName) (ids : List Id) (types : Names) → IsTurn xs ids → names_in types ≡ map (λ (id : Id). id.name.now) ids → AreAllNames (env_of types) xs
@@ -41,5 +46,5 @@ pub words_same : (xs : List ScopeName) (ids : List Id) (types : Names) → IsTur
 words_same xs ids types t listed = fun_ext (λ fns. fun_ext (λ id. by fns id (env_of types id.name.now) refl))
   where
     by : (fns : List SourceFunction) (id : Id) (o : Option ℕ) → env_of types id.name.now ≡ o → unless_found (lost_word fns id) o ≡ word_fault xs fns id
-    by fns id None free = sym (ap (λ (m : Option ScopeName). unless_meant m (lost_word fns id)) ((all_names xs ids types t listed).unmeant id.name.now free))
-    by fns id (Some place) present = (let x = has_meaning xs ids types id.name.now place t listed present in sym (ap (λ (m : Option ScopeName). unless_meant m (lost_word fns id)) x.1))
+    by fns id None free = sym (ap (λ (m : Option ScopeName). if is_none m then Some (lost_word fns id) else None) ((all_names xs ids types t listed).unmeant id.name.now free))
+    by fns id (Some place) present = (let x = has_meaning xs ids types id.name.now place t listed present in sym (ap (λ (m : Option ScopeName). if is_none m then Some (lost_word fns id) else None) x.1))

@@ -2,12 +2,8 @@
 use Rattle.std.proofs.Common.{◌≡◌, ◌∷◌, ◌++◌, [], List, map, false, inl, inr, refl, sym, ap, ◌∙◌}
 use Rattle.wit_syntax.proofs.Common.{Declared, Id, Imported, Item, SideFunction, SourceFunction, TheInline, TheInterface, TheWorld, about, cases_Bool, cond-false, cond-true, flat_map, functions, interface_imported, is_world, items_on, on_side, part_functions, role_side, same_side}
 use Rattle.wit_refusals.specs.NameScopes.{Name}
-use Rattle.wit_rules.specs.declared.borrowed.BorrowedFunction.{BorrowedFunction}
-use Rattle.wit_rules.specs.BorrowedFunctions.{function_view}
 use Rattle.wit_signatures.specs.ForeignName.{name_of_function, name_of_id}
 use Rattle.wit_externs.specs.Clash.{all_on, names_of_items}
-use Rattle.wit_scopes.specs.BorrowedNames.{Borrowed as BorrowedName}
-use Rattle.wit_item_entries.specs.Body.{HasNames}
 
 declared_imported : (d : Declared) → (about d).is_world ≡ false → on_side Imported (flat_map part_functions (about d).parts) ≡ flat_map part_functions (about d).parts
 declared_imported (TheInterface x) sort = interface_imported x.items.items
@@ -17,14 +13,7 @@ declared_imported (TheInline world place x name items) sort = interface_imported
 pub all_imported : (item : Item) → is_world item ≡ false → on_side Imported (functions item) ≡ functions item
 all_imported item sort = declared_imported item.declared sort
 
--- an item that is borrowed by an interface is that
-pub declared_interface : (item : Item) (d : Declared) (names : List BorrowedName) → HasNames item d names → (about d).is_world ≡ false → is_world item ≡ false
-declared_interface item d names own sort = ap (λ (x : Declared). (about x).is_world) own.declared ∙ sort
-
--- and the functions that are written in it are its own
-pub declared_functions : (item : Item) (d : Declared) (names : List BorrowedName) (all ws : List BorrowedFunction) → HasNames item d names → ws ≡ all → map function_view all ≡ flat_map part_functions (about d).parts → map function_view ws ≡ functions item
-declared_functions item d names all ws own same are = ap (map function_view) same ∙ are ∙ ap (λ (x : Declared). flat_map part_functions (about x).parts) (sym own.declared)
-
+-- the names of functions that a world would import
 names_functions : (fns : List SourceFunction) → names_of_items (items_on Imported (map SideFunction fns)) ≡ map name_of_function (on_side Imported fns)
 names_functions [] = refl
 names_functions (fn ∷ fns) =

@@ -11,7 +11,7 @@ use Rattle.wit_item_entries.proofs.OwnKeys.{turn_keys}
 pub no_functions : (hs : List BorrowedFunction) → length hs ≡ 0 → map function_view hs ≡ []
 no_functions hs none = ap (map function_view) (nil_from_length hs none)
 
-alone : (side : WorldSide) (xs : List ScopeName) (ids : List Id) → IsTurn xs ids → list_any (λ (id : Id). list_any is_ascii_uppercase id.name.now) ids ≡ false → AllDiffer (map name_key (names_on side (map name_of_id ids) ++ []))
+pub alone : (side : WorldSide) (xs : List ScopeName) (ids : List Id) → IsTurn xs ids → list_any (λ (id : Id). list_any is_ascii_uppercase id.name.now) ids ≡ false → AllDiffer (map name_key (names_on side (map name_of_id ids) ++ []))
 alone Imported xs ids t lower = turn_keys xs ids t lower
 alone Exported xs ids t lower = differ_none
 

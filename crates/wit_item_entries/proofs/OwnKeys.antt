@@ -1,6 +1,6 @@
 -- Names without a letter in upper case, which are their own keys.
 use Rattle.std.proofs.Common.{◌≡◌, ℕ, ◌||◌, false, List, [], ◌∷◌, ◌++◌, map, refl, sym, ap, ◌∙◌, subst}
-use Rattle.wit_syntax.proofs.Common.{AllDiffer, Id, ScopeName, append-nil, folded, in_turn_distinct, is_ascii_uppercase, list_any, map_map}
+use Rattle.wit_syntax.proofs.Common.{AllDiffer, Id, ScopeName, append-nil, lower_case, in_turn_distinct, is_ascii_uppercase, list_any, map_map}
 use denote.Ref.{Bor}
 use Rattle.wit_names.proofs.Labels.{folded_key-label}
 use Rattle.wit_refusals.proofs.Cases.{texts-lower, names-folded}
@@ -9,9 +9,9 @@ use Rattle.wit_item_entries.specs.NameOrder.{IsTurn}
 use Rattle.wit_item_entries.proofs.FunctionFaults.{turn_texts}
 
 -- the key of a label is the label in lower case
-keys-folded : (ids : List Id) → map name_key (map name_of_id ids) ≡ map (λ (id : Id). folded id.name.now) ids
+keys-folded : (ids : List Id) → map name_key (map name_of_id ids) ≡ map (λ (id : Id). lower_case id.name.now) ids
 keys-folded [] = refl
-keys-folded (id ∷ ids) = ap (λ k. k ∷ map name_key (map name_of_id ids)) (folded_key-label id.name.now id.label) ∙ ap (λ l. folded id.name.now ∷ l) (keys-folded ids)
+keys-folded (id ∷ ids) = ap (λ k. k ∷ map name_key (map name_of_id ids)) (folded_key-label id.name.now id.label) ∙ ap (λ l. lower_case id.name.now ∷ l) (keys-folded ids)
 
 any-text : (ids : List Id) → list_any (λ (t : Bor (List ℕ)). list_any is_ascii_uppercase t.now) (map (λ (id : Id). id.name) ids) ≡ list_any (λ (id : Id). list_any is_ascii_uppercase id.name.now) ids
 any-text [] = refl

@@ -1,25 +1,21 @@
 -- The first fault of the names of a scope: tests of names in handles in an arena that grows, and one step after another.
 use Rattle.std.proofs.Common.{◌≡◌, ◌⊎◌, ℕ, List, [], ◌∷◌, ◌++◌, length, map, take, ◌+◌, Option, Some, None, inl, inr, refl, sym, ap, ◌∙◌, subst, Contains}
-use Rattle.wit_syntax.proofs.Common.{Address, Defined, Fault, Id, IsAllocationFailure, IsOrder, ParseError, Plain, Record, ScopeName, TypeBody, TypeDef, TypeOwner, Variant, all_shapes, all_words, append-nil, body_of, body_types, cyclic_at, defined, fault_of, flat_map, in_order, in_turn, local_id, missing_type_at, option_or, rows_of, shape_of, slice_get, type_word, used, words, written_body}
+use Rattle.wit_syntax.proofs.Common.{Address, Defined, Fault, Id, IsAllocationFailure, IsOrder, ParseError, Plain, Record, ScopeName, TypeBody, TypeDef, TypeOwner, Variant, all_shapes, all_words, append-nil, body_of, body_types, cyclic_at, defined, fault_of, in_order, local_id, missing_type_at, option_or, rows_of, shape_of, slice_get, type_word, used, words, written_body, AreDistinct, Err, Ok, Result}
 use Rattle.wit_type_tree.specs.declared.types.«Type».{«Type» as Written}
 use Rattle.wit_type_tree.specs.declared.types.«Type».TheVariants as written
 use Rattle.wit_type_tree.specs.declared.types.TypeDef.{TypeDef as Definition}
-use Rattle.wit_walk.proofs.Common.{AtCycle, AtMissing, InOrder, IsOutcome, IsTypeOrderFault, Outcome, definition_fault as scope_definition_fault, first_in, local_names_fault, metadata_fault, none_both, or_none_both, order_fault, order_of, outcome_one, type_fault}
+use Rattle.wit_walk.proofs.Common.{AtCycle, AtMissing, InOrder, IsOutcome, IsTypeOrderFault, Outcome, definition_fault as scope_definition_fault, first_in, local_names_fault, metadata_fault, none_both, or_none_both, order_fault, order_of, outcome_one, type_fault, Finds, Reports, finds_same}
 use Rattle.wit_first.specs.ListFaults.{list_fault}
 use Rattle.wit_first.proofs.TypeFaults.{type_kept}
 use Rattle.wit_walk.proofs.SameTypes.{Agree, types_same}
-use Rattle.wit_arena.proofs.Common.{Defines, Env, HasNames, Names, ResolvedScope, defines_more, defines_none, words-head}
+use Rattle.wit_arena.proofs.Common.{Defines, Env, HasNames, ResolvedScope, defines_more, words-head}
 use Rattle.wit_entries.specs.EntryFaults.{unless_found, name_fault, handled_fault, handle_fault, written_fault, types_fault, body_fault, definition_fault}
 use Rattle.wit_entries.specs.Requiring.{IsExtended}
 use Rattle.wit_entries.specs.declared.scope.Scope.{Scope}
-use Rattle.wit_scopes.specs.BorrowedNames.{Borrowed, name_view, own_use}
 use Rattle.wit_scopes.specs.DefinitionOrder.{AreInTurn}
 use Rattle.wit_scopes.proofs.Turning.{none_unknown}
-use Rattle.wit_items.specs.ResolvedInterfaces.{resolved_scopes_of}
-use Rattle.wit_items.specs.declared.interfaces.Interfaces.{Interfaces}
-use Rattle.wit_item_entries.specs.UseFaults.{local_faults}
 use Rattle.wit_externs.specs.AloneFaults.{EndsIn, IsSafe}
-use Rattle.wit_item_entries.specs.ReachedFaults.{Reaches, IsFaultless, IsDefinitionsFault, HaveOrdered, IsOrderedFault, HaveNames, IsNamesFault, definitions_fault, ordered_fault, names_fault}
+use Rattle.wit_item_entries.specs.ReachedFaults.{definitions_fault, ordered_fault, EndsAlong, EndsInTurn, FindsDefinitions}
 use Rattle.wit_item_entries.proofs.Handled.{take_after}
 
 module _ (env : Env) (es : List TypeDef) (handle : Id → Option Fault) where
@@ -75,14 +71,6 @@ meant_in old env es handle ds k d turn at kept has id among = by (env id.name.no
     by None free = absurd (none_unknown old env ds k d (missing_type_at id) turn at kept has (record { id = id; among = among; free = free; is = refl }))
     by (Some place) present = (place, present)
 
--- a fault by a relation, and by another
-pub by_weaker : (P Q : Fault → Type 0) (e : ParseError) → (P (fault_of e) → Q (fault_of e)) → IsAllocationFailure e ⊎ P (fault_of e) → IsAllocationFailure e ⊎ Q (fault_of e)
-by_weaker P Q e weaker h = elim h [ inl memory ↦ inl memory | inr is ↦ inr (weaker is) ]
-
--- before any name was added
-starts : (cs : List ResolvedScope) (o : TypeOwner) (old : List TypeDef) (names : Names) (xs : List ScopeName) (wrong : (Id → Option Fault) → Option Fault) (f : Fault) → ((handle : Id → Option Fault) → wrong handle ≡ Some f) → Reaches cs o old names xs wrong f
-starts cs o old names xs wrong f is = record { count = 0; mid = old; now = names; defines = λ s. defines_none old cs o s names; more = []; is = λ handle ends. is handle }
-
 -- the faults of the names of a scope, in turn
 abbrev twice : List ScopeName → Option Fault
 twice xs = local_names_fault (map local_id (used xs ++ defined xs))
@@ -93,21 +81,15 @@ round outcome = order_fault missing_type_at (cyclic_at 16 type_word) outcome
 abbrev ordered : List ScopeName → Outcome → List ScopeName
 ordered xs outcome = defined (in_order xs (order_of outcome))
 
--- two names are spelled alike
-pub twice_first : (a : Scope) (old : List TypeDef) (xs : List ScopeName) (f : Fault) → twice xs ≡ Some f → IsOrderedFault a old xs f
-twice_first a old xs f wrong outcome is cs = starts cs a.owner old a.names (ordered xs outcome) (ordered_fault xs outcome) f (λ handle. ap (λ (o : Option Fault). option_or o (option_or (round outcome) (definitions_fault handle (ordered xs outcome)))) wrong)
-
 -- there is no order
-outcome_fault : (xs : List ScopeName) (f : Fault) (outcome : Outcome) → IsOutcome (rows_of xs) outcome → IsTypeOrderFault xs (Some f) → round outcome ≡ Some f
-outcome_fault xs f outcome is h = elim h [
-  | inl lost ↦ ap round (outcome_one (rows_of xs) outcome (AtMissing lost.2.id) is (lost.0, lost.1, lost.2, refl)) ∙ ap Some (sym lost.3)
-  | inr cyclic ↦ ap round (outcome_one (rows_of xs) outcome (AtCycle cyclic.2.id) is (cyclic.0, cyclic.1, cyclic.2, refl)) ∙ ap Some (sym cyclic.3)
+pub outcome_reported : (xs : List ScopeName) (outcome : Outcome) (e : ParseError) → IsOutcome (rows_of xs) outcome → IsAllocationFailure e ⊎ IsTypeOrderFault xs (Some (fault_of e)) → Reports (round outcome) e
+outcome_reported xs outcome e is h = elim h [
+  | inl memory ↦ inl memory
+  | inr wrong ↦ inr (elim wrong [
+    | inl lost ↦ ap round (outcome_one (rows_of xs) outcome (AtMissing lost.2.id) is (lost.0, lost.1, lost.2.first)) ∙ ap Some (sym lost.3)
+    | inr cyclic ↦ ap round (outcome_one (rows_of xs) outcome (AtCycle cyclic.2.id) is (cyclic.2.complete, cyclic.0, cyclic.1, cyclic.2.first)) ∙ ap Some (sym cyclic.3)
+  ])
 ]
-
-pub unordered_first : (a : Scope) (old : List TypeDef) (xs : List ScopeName) (f : Fault) → twice xs ≡ None → IsTypeOrderFault xs (Some f) → IsOrderedFault a old xs f
-unordered_first a old xs f none wrong outcome is cs = starts cs a.owner old a.names (ordered xs outcome) (ordered_fault xs outcome) f (λ handle. (
-    let ds = definitions_fault handle (ordered xs outcome) in
-    ap (λ (o : Option Fault). option_or o (option_or (round outcome) ds)) none ∙ ap (λ (o : Option Fault). option_or o ds) (outcome_fault xs f outcome is wrong)))
 
 -- there is one, and then it is that of the definitions
 module _ (xs ds : List ScopeName) (order : List ℕ) (none : twice xs ≡ None) (least : IsOrder (rows_of xs) order) (are : ds ≡ defined (in_order xs order)) (outcome : Outcome) (is : IsOutcome (rows_of xs) outcome) where
@@ -117,68 +99,28 @@ module _ (xs ds : List ScopeName) (order : List ℕ) (none : twice xs ≡ None) 
   them : ds ≡ ordered xs outcome
   them = are ∙ ap (ordered xs) (sym one)
 
-  of_definitions : (handle : Id → Option Fault) → ordered_fault xs outcome handle ≡ definitions_fault handle ds
-  of_definitions handle =
+  of_definitions : (handle : Id → Option Fault) → definitions_fault handle ds ≡ ordered_fault xs outcome handle
+  of_definitions handle = sym (
       ap (λ (o : Option Fault). option_or o (option_or (round outcome) (definitions_fault handle (ordered xs outcome)))) none
       ∙ ap (λ (o : Outcome). option_or (round o) (definitions_fault handle (ordered xs outcome))) one
-      ∙ ap (definitions_fault handle) (sym them)
+      ∙ ap (definitions_fault handle) (sym them))
 
-pub definitions_first : (a : Scope) (old : List TypeDef) (xs ds : List ScopeName) (order : List ℕ) (f : Fault) → twice xs ≡ None → IsOrder (rows_of xs) order → ds ≡ defined (in_order xs order) → IsDefinitionsFault a old ds f → IsOrderedFault a old xs f
-definitions_first a old xs ds order f none least are h outcome is cs =
-    let r = h cs in
-    record {
-      count = r.count;
-      mid = r.mid;
-      now = r.now;
-      defines = λ s. subst (λ (ys : List ScopeName). Defines old r.mid cs a.owner s a.names r.now (take r.count ys)) (them xs ds order none least are outcome is) (r.defines s);
-      more = r.more;
-      is = λ handle ends. of_definitions xs ds order none least are outcome is handle ∙ r.is handle ends;
-    }
+  pub definitions_found : {T : Type 0} (r : Result T ParseError) (a : Scope) (old : List TypeDef) (cs : List ResolvedScope) (handle : Id → Option Fault) → AreDistinct xs → ((p : List ℕ) → outcome ≡ InOrder p → AreDistinct xs → EndsAlong cs a.owner old a.names (defined (in_order xs p)) handle) → FindsDefinitions a old ds r → Finds (ordered_fault xs outcome handle) r
+  definitions_found r a old cs handle distinct along found = finds_same r (of_definitions handle) (found cs handle (subst (λ (ys : List ScopeName). EndsAlong cs a.owner old a.names ys handle) (sym are) (along order one distinct)))
 
-pub definitions_none : (xs ds : List ScopeName) (order : List ℕ) (names : Names) (es : List TypeDef) → twice xs ≡ None → IsOrder (rows_of xs) order → ds ≡ defined (in_order xs order) → IsFaultless names es (λ handle. definitions_fault handle ds) → HaveOrdered xs names es
-definitions_none xs ds order names es none least are h outcome is handle safe = of_definitions xs ds order none least are outcome is handle ∙ h handle safe
+-- a test that is right along all names of a scope is right along its definitions, after the used ones
+pub after_uses : (cs : List ResolvedScope) (o : TypeOwner) (a : Scope) (old mid : List TypeDef) (xs : List ScopeName) (outcome : Outcome) (handle : Id → Option Fault) → a.owner ≡ o → ((s : Address) → Defines old mid cs o s [] a.names (used xs)) → EndsInTurn cs o old xs outcome handle → (order : List ℕ) → outcome ≡ InOrder order → AreDistinct xs → EndsAlong cs a.owner mid a.names (defined (in_order xs order)) handle
+after_uses cs o a old mid xs outcome handle owner uses along order is distinct count new more now defines =
+    let ds = defined (in_order xs order) in
+    along order is distinct (length (used xs) + count) new more now (λ s.
+    subst (λ (ys : List ScopeName). Defines old new cs o s [] now ys) (sym (take_after (used xs) ds count)) (defines_more old mid new cs o s [] a.names now (used xs) (take count ds) (uses s) (subst (λ (m : TypeOwner). Defines mid new cs m s a.names now (take count ds)) owner (defines s))))
 
--- a used name is wrong
-pub used_first : (is : Interfaces) (o : TypeOwner) (old : List TypeDef) (names : List Borrowed) (f : Fault) → local_faults is (flat_map own_use names) ≡ Some f → IsNamesFault None is o old names f
-used_first is o old names f wrong outcome right = starts (resolved_scopes_of is) o old [] (in_turn (map name_view names) (order_of outcome)) (λ handle. option_or None (names_fault is names outcome handle)) f (λ handle. ap (λ (x : Option Fault). option_or x (ordered_fault (map name_view names) outcome handle)) wrong)
+-- calls that return an error, or a value
+abbrev pub failed : ParseError → Result ℕ ParseError
+failed e = Err e
 
--- none is, and then it is that of the definitions
-pub types_first : (is : Interfaces) (a : Scope) (o : TypeOwner) (old mid : List TypeDef) (names : List Borrowed) (f : Fault) → local_faults is (flat_map own_use names) ≡ None → a.owner ≡ o → ((s : Address) → Defines old mid (resolved_scopes_of is) o s [] a.names (used (map name_view names))) → IsOrderedFault a mid (map name_view names) f → IsNamesFault None is o old names f
-types_first is a o old mid names f none owner uses h outcome right =
-    let cs = resolved_scopes_of is in
-    let xs = map name_view names in
-    let ds = ordered xs outcome in
-    let r = h outcome right cs in
-    record {
-      count = length (used xs) + r.count;
-      mid = r.mid;
-      now = r.now;
-      defines = λ s. subst (λ (ys : List ScopeName). Defines old r.mid cs o s [] r.now ys) (sym (take_after (used xs) ds r.count)) (defines_more old mid r.mid cs o s [] a.names r.now (used xs) (take r.count ds) (uses s) (subst (λ (m : TypeOwner). Defines mid r.mid cs m s a.names r.now (take r.count ds)) owner (r.defines s)));
-      more = r.more;
-      is = λ handle ends. ap (λ (x : Option Fault). option_or x (ordered_fault xs outcome handle)) none ∙ r.is handle ends;
-    }
-
-pub types_none : (is : Interfaces) (names : List Borrowed) (now : Names) (es : List TypeDef) → local_faults is (flat_map own_use names) ≡ None → HaveOrdered (map name_view names) now es → HaveNames None is names now es
-types_none is names now es none h outcome right handle safe = ap (λ (x : Option Fault). option_or x (ordered_fault (map name_view names) outcome handle)) none ∙ h outcome right handle safe
-
--- after another fault, or where there is none before
-pub before_first : (before : Option Fault) (is : Interfaces) (o : TypeOwner) (old : List TypeDef) (names : List Borrowed) (f : Fault) → before ≡ Some f → IsNamesFault before is o old names f
-before_first before is o old names f wrong outcome right = starts (resolved_scopes_of is) o old [] (in_turn (map name_view names) (order_of outcome)) (λ handle. option_or before (names_fault is names outcome handle)) f (λ handle. ap (λ (x : Option Fault). option_or x (names_fault is names outcome handle)) wrong)
-
-pub after_first : (before : Option Fault) (is : Interfaces) (o : TypeOwner) (old : List TypeDef) (names : List Borrowed) (f : Fault) → before ≡ None → IsNamesFault None is o old names f → IsNamesFault before is o old names f
-after_first before is o old names f none h outcome right =
-    let r = h outcome right in
-    record {
-      count = r.count;
-      mid = r.mid;
-      now = r.now;
-      defines = r.defines;
-      more = r.more;
-      is = λ handle ends. ap (λ (x : Option Fault). option_or x (names_fault is names outcome handle)) none ∙ r.is handle ends;
-    }
-
-pub after_none : (before : Option Fault) (is : Interfaces) (names : List Borrowed) (now : Names) (es : List TypeDef) → before ≡ None → HaveNames None is names now es → HaveNames before is names now es
-after_none before is names now es none h outcome right handle safe = ap (λ (x : Option Fault). option_or x (names_fault is names outcome handle)) none ∙ h outcome right handle safe
+abbrev pub done : {T : Type 0} → T → Result T ParseError
+done x = Ok x
 
 -- an arena that has not grown
 pub extended_same : (es : List TypeDef) → IsExtended es es

@@ -1,9 +1,9 @@
 -- Interfaces as scopes, those of other packages in front.
-use Rattle.std.proofs.Common.{◌≡◌, ℕ, zero, suc, ◌<◌, ◌≤◌, List, [], ◌∷◌, length, Some, refl, sym, ap, ◌∙◌, arith}
-use Rattle.wit_syntax.proofs.Common.{Address, InterfaceNamed, slice_get, slice_get_within}
+use Rattle.std.proofs.Common.{◌≡◌, ℕ, zero, suc, List, [], ◌∷◌, length, Some, refl, sym, ap, ◌∙◌}
+use Rattle.wit_syntax.proofs.Common.{Address, InterfaceNamed, slice_get}
 use Rattle.wit_arena.proofs.Common.{Interface, IsFound, Names, env_of, resolved_scope_at, resolved_scopes}
 use Rattle.wit_items.specs.Found.{AreFound, interface_name}
-use Rattle.wit_items.proofs.Found.{found_resolved_scope, named_at}
+use Rattle.wit_items.proofs.Found.{found_resolved_scope}
 
 -- the resolved scope of an interface in front
 prefix_at : (ss : List Address) (is : List Interface) (t : ℕ) (s : Address) (i : Interface) → slice_get ss t ≡ Some s → slice_get is t ≡ Some i → slice_get (resolved_scopes ss is) t ≡ Some (resolved_scope_at s i)
@@ -15,13 +15,7 @@ prefix_at (r ∷ ss) (j ∷ is) zero s i at there =
     ap (λ (x : Address). Some (resolved_scope_at x j)) address ∙ ap (λ (x : Interface). Some (resolved_scope_at s x)) same
 prefix_at (r ∷ ss) (j ∷ is) (suc t) s i at there = prefix_at ss is t s i at there
 
--- an interface that goes by a name is one of all
-pub named_within : (count : ℕ) (is : List Interface) (by_name : Names) (name : List ℕ) (t : ℕ) → AreFound interface_name count is by_name → env_of by_name name ≡ Some t → t < length is
-named_within count is by_name name t found here =
-    let i = named_at interface_name is t name (found name t here).1 in
-    slice_get_within is t i.0 i.1
-
--- and is found
+-- an interface that goes by a name is found
 pub named_found : (ss : List Address) (is : List Interface) (by_name : Names) (name : List ℕ) (t : ℕ) (i : Interface) → AreFound interface_name (length ss) is by_name → env_of by_name name ≡ Some t → slice_get is t ≡ Some i → IsFound (resolved_scopes ss is) (InterfaceNamed name) (resolved_scope_at (InterfaceNamed name) i)
 named_found ss is by_name name t i found here there =
     let says = found name t here in
@@ -34,11 +28,6 @@ named_found ss is by_name name t i found here there =
       called = refl;
     }
 
--- one of another package is one of all, and is found
-pub prefix_within : (ss : List Address) (is : List Interface) (t : ℕ) (s : Address) → length ss ≤ length is → slice_get ss t ≡ Some s → t < length is
-prefix_within ss is t s enough at =
-    let lt = slice_get_within ss t s at in
-    omega arith
-
+-- so is one of another package
 pub prefix_found : (ss : List Address) (is : List Interface) (t : ℕ) (s : Address) (i : Interface) → slice_get ss t ≡ Some s → slice_get is t ≡ Some i → IsFound (resolved_scopes ss is) s (resolved_scope_at s i)
 prefix_found ss is t s i at there = record { place = t; at = prefix_at ss is t s i at there; called = refl }

@@ -1,6 +1,6 @@
 -- The functions of an item, added after its names.
-use Rattle.std.proofs.Common.{◌≡◌, List, [], ◌++◌, map, sym, ap, ◌∙◌, subst}
-use Rattle.wit_syntax.proofs.Common.{Address, AllDiffer, Id, Imported, Item, ScopeName, SideFunction, SideItem, TypeDef, TypeOwner, address, all_handles, flat_map, function_name, functions, in_turn, map_map, name_types, on_side, scope_names, side_items, written_types}
+use Rattle.std.proofs.Common.{◌≡◌, List, [], ◌++◌, map, false, refl, sym, ap, ◌∙◌, subst}
+use Rattle.wit_syntax.proofs.Common.{Address, AllDiffer, Id, Imported, Item, ScopeName, SideFunction, SideItem, SourceFunction, TypeDef, TypeOwner, address, all_handles, flat_map, function_name, functions, in_turn, is_ascii_uppercase, is_world, list_any, map_map, name_types, on_side, scope_names, side_items, side_items_functions, written_types}
 use Rattle.wit_arena.proofs.Common.{AddsAfter, AddsFunctions, AreEnded, Env, Function, Names, Required, ResolvedScope, all_handles-append, ended_append, ended_more, env_of, made_name}
 use Rattle.wit_arena.proofs.FunctionNames.{names_differ}
 use Rattle.wit_refusals.specs.NameScopes.{Name}
@@ -10,7 +10,10 @@ use Rattle.wit_externs.specs.Clash.{DifferOnSides, all_on}
 use Rattle.wit_item_entries.specs.AddedNames.{AddsTurn}
 use Rattle.wit_item_entries.specs.NameOrder.{IsTurn}
 use Rattle.wit_item_entries.specs.Body.{AddsBody}
+use Rattle.wit_item_entries.proofs.Handled.{requires_none}
 use Rattle.wit_item_entries.proofs.NameOrder.{differ_called}
+use Rattle.wit_item_entries.proofs.NoFunctions.{alone}
+use Rattle.wit_item_entries.proofs.ReachedFaults.{extended_same}
 
 -- the names of a scope that was added, in turn
 pub turn_added : (old mid : List TypeDef) (cs : List ResolvedScope) (o : TypeOwner) (xs : List ScopeName) (types : Names) (ids : List Id) (rs : List Required) → AddsTurn old mid cs o xs types ids rs → IsTurn xs ids
@@ -42,6 +45,18 @@ body_added old mid new cs o item types ids own all fs n adds g q named differ = 
   named = named;
   differ = differ;
 }
+
+-- an interface without functions adds none
+functions_none : (es : List TypeDef) (s : Address) (names : Names) → AddsFunctions es es s names [] []
+functions_none es s names = record { from = λ decls ms occurrence known. record { now = ms; collects = refl; occurrence = occurrence; are = record { count = refl; each = λ k x y at there. absurd (let f : ⊥ = cc in f) } } }
+
+pub none_added : (old mid : List TypeDef) (cs : List ResolvedScope) (o : TypeOwner) (item : Item) (types : Names) (ids : List Id) (own : List Required) → is_world item ≡ false → functions item ≡ [] → list_any (λ (id : Id). list_any is_ascii_uppercase id.name.now) ids ≡ false → AddsTurn old mid cs o (scope_names item) types ids own → AddsBody old mid cs o item types ids [] own
+none_added old mid cs o item types ids own sort none lower n = body_added old mid mid cs o item types ids own own [] n
+    (λ s. subst (λ (fns : List SourceFunction). AddsFunctions mid mid s types fns []) (sym none) (functions_none mid s types))
+    (extended_same mid)
+    (subst (λ (fns : List SourceFunction). Requires (env_of types) mid (all_handles (flat_map written_types fns)) own own) (sym none) (requires_none (env_of types) mid own))
+    (ap (map name_of_function) (sym none))
+    (λ side. subst (λ (items : List SideItem). AllDiffer (map name_key (all_on side ids items))) (sym (side_items_functions item sort ∙ ap (map SideFunction) none)) (alone side (scope_names item) ids (turn_added old mid cs o (scope_names item) types ids own n) lower))
 
 -- where functions alone are on the sides, and all of them are where imports are, their names differ if their keys do
 pub made_differ : (old new : List TypeDef) (cs : List ResolvedScope) (o : TypeOwner) (item : Item) (types : Names) (ids : List Id) (fs : List Function) (rs : List Required) → on_side Imported (functions item) ≡ functions item → side_items item ≡ map SideFunction (functions item) → AddsBody old new cs o item types ids fs rs → AllDiffer (map made_name fs)

@@ -9,9 +9,10 @@ use Rattle.wit_scopes.specs.declared.scope_name.UsedName.{UsedName}
 use Rattle.wit_scopes.specs.declared.scope_name.Source.{Source as BorrowedSource}
 use Rattle.wit_scopes.specs.declared.scope_name.Source.TheVariants as borrowed_source
 use Rattle.wit_items.specs.ForeignAddresses.{prefix_of}
-use Rattle.wit_items.specs.ResolvedInterfaces.{resolved_scopes_of}
+use Rattle.wit_items.specs.ItemPaths.{source_target}
+use Rattle.wit_items.specs.ResolvedInterfaces.{resolved_scopes_of, unresolved_fault}
 use Rattle.wit_items.specs.declared.interfaces.Interfaces.{Interfaces}
-use Rattle.wit_item_entries.specs.UseFaults.{interface_of, source_fault, lost_name, asked_fault, used_fault, spelled_fault, local_fault}
+use Rattle.wit_item_entries.specs.UseFaults.{interface_of, lost_name, asked_fault, used_fault, spelled_fault, local_fault}
 use Rattle.wit_item_entries.proofs.ResolvedScopes.{named_found, prefix_found}
 
 -- a name that is that of a function, or of nothing
@@ -28,7 +29,7 @@ of_nothing fns id none =
     rw miss refl
 
 -- a used name from an interface that is resolved
-pub used_from : (is : Interfaces) (u : UsedName) (i : Interface) → source_fault is.by_name u.from ≡ None → interface_of is u.from ≡ Some i → used_fault is u ≡ asked_fault u.name.now.name i
+pub used_from : (is : Interfaces) (u : UsedName) (i : Interface) → unresolved_fault is.by_name (source_target u.from) ≡ None → interface_of is u.from ≡ Some i → used_fault is u ≡ asked_fault u.name.now.name i
 used_from is u i none at = ap (λ (o : Option Fault). option_or o (option_map_or (asked_fault u.name.now.name) (interface_of is u.from) None)) none ∙ ap (λ (o : Option Interface). option_map_or (asked_fault u.name.now.name) o None) at
 
 -- a name is in a table where one of the names there is spelled alike

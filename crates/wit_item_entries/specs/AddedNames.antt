@@ -1,27 +1,21 @@
 -- What the names of a scope add to the arena, one after another.
-use Rattle.std.specs.Prelude.{◌≡◌, List, [], ◌++◌, map}
+use Rattle.std.specs.Prelude.{◌≡◌, List, [], map}
 use Rattle.std.specs.List.{flat_map}
 use Rattle.wit_type_tree.specs.declared.leaves.Id.{Id}
 use Rattle.wit_types.specs.declared.types.TypeDef.{TypeDef}
 use Rattle.wit_types.specs.declared.types.TypeOwner.{TypeOwner}
 use Rattle.wit_syntax.specs.Source.{ScopeName, local_id}
-use Rattle.wit_syntax.specs.ScopeTables.{in_order, defined, in_turn, local_names}
+use Rattle.wit_syntax.specs.ScopeTables.{in_turn, local_names, used}
 use Rattle.wit_syntax.specs.Shape.{all_handles}
 use Rattle.wit_syntax.specs.Function.{name_types}
-use Rattle.wit_arena.specs.Resolving.{Names, env_of, names_in, ResolvedScope, Required}
-use Rattle.wit_arena.specs.ResolvedArenas.{DefinesAll, AddsScope}
+use Rattle.wit_arena.specs.Resolving.{Names, env_of, names_in, ResolvedScope, Required, Defines}
+use Rattle.wit_arena.specs.ResolvedArenas.{AddsScope}
 use Rattle.wit_entries.specs.Requiring.{Requires}
 use Rattle.wit_entries.specs.declared.scope.Scope.{Scope}
 use Rattle.wit_scopes.specs.BorrowedNames.{Borrowed, name_view}
 use Rattle.wit_items.specs.ResolvedInterfaces.{resolved_scopes_of}
 use Rattle.wit_items.specs.declared.interfaces.Interfaces.{Interfaces}
-
--- the definitions of a scope were added after its used names, these are its names in turn, and this is what its handles require
-pub record DefinesTurn (old new : List TypeDef) (o : TypeOwner) (names names' : Names) (xs : List ScopeName) (ids : List Id) (before after : List Required) : Type 0 where
-  pub all : DefinesAll old new o names names' xs
-  pub turn : ids ≡ map local_id (in_turn xs all.order)
-  pub listed : names_in names' ≡ names_in names ++ local_names (defined (in_order xs all.order))
-  pub handled : Requires (env_of names') new (all_handles (flat_map name_types (defined (in_order xs all.order)))) before after
+use Rattle.wit_syntax.specs.Address.{Address}
 
 -- the names of a scope were added, these are they in turn, and this is what its handles require
 pub record AddsTurn (old new : List TypeDef) (cs : List ResolvedScope) (o : TypeOwner) (xs : List ScopeName) (types : Names) (ids : List Id) (required : List Required) : Type 0 where
@@ -38,6 +32,6 @@ AddsNames is o old new names types ids required = AddsTurn old new (resolved_sco
 abbrev pub DefinitionsRequire : Scope → Scope → List TypeDef → List ScopeName → Type 0
 DefinitionsRequire a b new ds = Requires (env_of b.names) new (all_handles (flat_map name_types ds)) a.required.items b.required.items
 
--- the definitions of a scope were added to it, which has these names in turn
-abbrev pub DefinesIn : Scope → Scope → List TypeDef → List TypeDef → List ScopeName → List Id → Type 0
-DefinesIn a b old new xs ids = DefinesTurn old new a.owner a.names b.names xs ids a.required.items b.required.items
+-- its definitions were added after the names that it uses, which were added from an arena on: all its names were, which are these in turn
+abbrev pub AddsRest : Scope → Scope → List TypeDef → List TypeDef → List ScopeName → List Id → Type 0
+AddsRest a b old new xs ids = (first : List TypeDef) (cs : List ResolvedScope) → ((s : Address) → Defines first old cs a.owner s [] a.names (used xs)) → a.required.items ≡ [] → AddsTurn first new cs a.owner xs b.names ids b.required.items

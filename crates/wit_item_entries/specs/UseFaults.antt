@@ -5,7 +5,7 @@ use Rattle.std.specs.Option.{option_and_then, option_map_or, option_or}
 use Rattle.std.specs.Str.{bytes_eq}
 use Rattle.wit_type_tree.specs.declared.leaves.Id.{Id}
 use Rattle.wit_model.specs.declared.interface.Interface.{Interface}
-use Rattle.wit_syntax.specs.Fault.{Fault, missing_at, item_word, name_word, function_used, name_twice}
+use Rattle.wit_syntax.specs.Fault.{Fault, missing_at, name_word, function_used, name_twice}
 use Rattle.wit_syntax.specs.Source.{local_id, local_name}
 use Rattle.wit_first.specs.First.{first_after, repeat_of}
 use Rattle.wit_arena.specs.Resolving.{Names, env_of, free_functions}
@@ -13,18 +13,13 @@ use Rattle.wit_entries.specs.EntryFaults.{unless_found}
 use Rattle.wit_scopes.specs.BorrowedNames.{use_view}
 use Rattle.wit_scopes.specs.declared.scope_name.UsedName.{UsedName}
 use Rattle.wit_scopes.specs.declared.scope_name.Source.{Source as BorrowedSource}
-use Rattle.wit_scopes.specs.declared.scope_name.Source.TheVariants as borrowed_source
+use Rattle.wit_items.specs.ItemPaths.{source_target}
+use Rattle.wit_items.specs.ResolvedInterfaces.{source_place, unresolved_fault}
 use Rattle.wit_items.specs.declared.interfaces.Interfaces.{Interfaces}
 
 -- the interface that a name comes from, where it is resolved
 abbrev pub interface_of : Interfaces → BorrowedSource → Option Interface
-interface_of is (borrowed_source.Declared path) = option_and_then (slice_get is.arena) (env_of is.by_name path.name.now)
-interface_of is (borrowed_source.Foreign place of name) = slice_get is.arena place
-
--- a declared one is not
-abbrev pub source_fault : Names → BorrowedSource → Option Fault
-source_fault by_name (borrowed_source.Declared path) = unless_found (missing_at 7 item_word path) (env_of by_name path.name.now)
-source_fault by_name (borrowed_source.Foreign place of name) = None
+interface_of is from = option_and_then (slice_get is.arena) (source_place is.by_name from)
 
 -- a name that means no type of an interface is that of one of its functions, or of nothing
 abbrev pub lost_name : List (List ℕ) → Id → Fault
@@ -35,7 +30,7 @@ asked_fault id i = unless_found (lost_name (free_functions i) id) (env_of i.type
 
 -- of a used name by itself: its interface, and then what it means there
 abbrev pub used_fault : Interfaces → UsedName → Option Fault
-used_fault is u = option_or (source_fault is.by_name u.from) (option_map_or (asked_fault u.name.now.name) (interface_of is u.from) None)
+used_fault is u = option_or (unresolved_fault is.by_name (source_target u.from)) (option_map_or (asked_fault u.name.now.name) (interface_of is u.from) None)
 
 -- a name of a scope is spelled alike
 abbrev pub spelled_fault : Names → Id → Option Fault

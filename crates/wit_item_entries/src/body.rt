@@ -1,34 +1,39 @@
 //! What is stated of an item and its names, the same of an interface and of a world, and the functions of an
 //! interface.
-ghost use Rattle.std.specs.Prelude.{◌≡◌, IfOk, OnOk, false, map};
-ghost use Rattle.wit_syntax.specs.Source.{Item as TheItem, scope_names as the_names, about, declared_metadata};
+ghost use Rattle.std.specs.Prelude.{◌≡◌, IfOk, OnOk, map};
+ghost use Rattle.wit_syntax.specs.Function.{functions};
+ghost use Rattle.wit_syntax.specs.Source.{scope_names as the_names, declared_metadata};
 ghost use Rattle.wit_entries.specs.Requiring.{IsExtended};
 ghost use Rattle.wit_rules.specs.BorrowedFunctions.{function_view};
 ghost use Rattle.wit_scopes.specs.BorrowedNames.{name_view};
 ghost use Rattle.wit_scopes.specs.PlacedNames.{AreNamesPlaced};
-ghost use Rattle.wit_items.specs.BorrowedItems.{declared_view, scope_item};
+ghost use Rattle.wit_items.specs.BorrowedItems.{scope_item};
 ghost use Rattle.wit_items.specs.SourceItems.{AreOf};
-ghost use Rattle.wit_item_entries.specs.NameOrder.{IsTurn};
 ghost use Rattle.wit_items.specs.ForeignAddresses.{prefix_of};
 ghost use Rattle.wit_items.specs.ResolvedInterfaces.{resolved_scopes_of};
-ghost use Rattle.wit_item_entries.specs.Body.{AddsMadeOf, AreNamesInUse, HasTurn, IsOf, functions_in};
+ghost use Rattle.wit_item_entries.specs.Body.{AddsMade, AreNamesInUse, HasTurn, IsTurned};
 ghost use Rattle.wit_item_entries.specs.ScopeFunctionFaults.{FindsSigned};
-ghost use Rattle.wit_item_entries.specs.ReachedFaults.{FindsAt, HasHead, IsHeadFault};
+ghost use Rattle.wit_item_entries.specs.ReachedFaults.{FindsNames, item_stability};
 
-use crate::functions::interface_functions;
+use crate::functions::{interface_functions, written_results};
 use crate::names::{ResolvedNames, resolve_names};
-use crate::signatures::resolve_signatures;
+use crate::own_keys::have_upper_case;
 use std::alloc::Global;
 use wit_entries::entries::Entries;
+use wit_entries::scope::Required;
+use wit_externs::in_use::define_names;
+use wit_externs::scope_functions::resolve_functions;
 use wit_items::interfaces::Interfaces;
-use wit_items::items::{Declared, ItemScope};
+use wit_items::items::ItemScope;
 use wit_items::metadata::{ItemMetadata, item_metadata};
+use wit_maps::TextTable;
 use wit_model::Function;
 use wit_rules::borrowed::BorrowedFunction;
-use wit_scopes::scope_name::ScopeName;
+use wit_rules::function_scope::FunctionScope;
 use wit_sides::Sides;
 use wit_tree::ParseResult;
-use wit_types::TypeOwner;
+use wit_tree::tree::Id;
+use wit_types::{TypeId, TypeOwner};
 
 /// What is stated of an item, and its names.
 #[derive(Drop)]
@@ -61,35 +66,49 @@ pub fn resolve_head<'a>(
     ensures as_stated { IfOk result (λ head. AreOf (declared_metadata (scope_item item.now).declared) head.metadata) }
     ensures adds { IfOk result (λ head. HasTurn head.names types.new (scope_item item.now) types.old (resolved_scopes_of interfaces.now) owner) }
     ensures extended { OnOk result (IsExtended types.old types.new) }
-    ensures first { FindsAt (λ head. HasHead interfaces.now item.now head.names.types types.new) (IsHeadFault interfaces.now owner types.old item.now) result }
+    ensures first { FindsNames (item_stability (scope_item item.now)) interfaces.now owner types.old item.now.names.now result }
 {
     let metadata = item_metadata(alloc, &item.declared)?;
     let names = resolve_names(alloc, item.names, types, interfaces, owner)?;
     Ok(Head { metadata, names })
 }
 
-/// The functions of an interface, after its names `borrowed`, which are resolved.
+/// The functions of an interface over their types, after its names, which are resolved. Where it has some, its
+/// names and then those of the functions are defined.
 pub fn resolve_item_functions<'t, 'a>(
-    alloc: Global,
-    borrowed: &[ScopeName<'t, 'a>],
-    declared: Declared<'t, 'a>,
+    item: &ItemScope<'t, 'a, '_>,
     types: &mut Entries,
-    names: &mut ResolvedNames<'a>,
+    names: &TextTable<TypeId>,
+    turn: &[Id<'a>],
+    required: &mut Vec<Required>,
 ) -> ParseResult<ItemFunctions<'t, 'a>>
-    requires sort { (about (declared_view declared)).is_world ≡ false }
-    requires of { (i : TheItem) × IsOf declared borrowed.now i }
-    requires turn { IsTurn (map name_view borrowed.now) names.old.turn.items }
-    ensures types { OnOk result (names.new.types ≡ names.old.types) }
-    ensures turn { OnOk result (names.new.turn ≡ names.old.turn) }
-    ensures written { IfOk result (λ own. map function_view own.written.items ≡ functions_in (declared_view declared.entry)) }
-    ensures adds { IfOk result (λ own. AddsMadeOf declared.entry borrowed.now names.old names.new types.old types.new own.functions.items) }
-    ensures in_use { IfOk result (λ own. AreNamesInUse own.in_use names.old.turn.items own.written.items) }
+    requires { IsTurned item.now names.now turn.now }
+    ensures written { IfOk result (λ own. map function_view own.written.items ≡ functions (scope_item item.now)) }
+    ensures adds { IfOk result (λ own. AddsMade names.now turn.now types.old types.new (scope_item item.now) own.functions.items required.old.items required.new.items) }
+    ensures in_use { IfOk result (λ own. AreNamesInUse own.in_use turn.now own.written.items) }
     ensures extended { IsExtended types.old types.new }
-    ensures first { FindsSigned names.old.types types.new (map name_view borrowed.now) names.old.turn.items (functions_in (declared_view declared.entry)) result }
+    ensures first { FindsSigned names.now types.new (map name_view item.now.names.now) turn.now (functions (scope_item item.now)) result }
 {
-    let written = interface_functions(alloc, &declared)?;
+    let alloc = *names.allocator();
+    let written = interface_functions(alloc, &item.declared)?;
     let mut in_use = Sides::new(alloc);
-    let functions = resolve_signatures(borrowed, types, names, &written, &mut in_use)?;
+    if written.len() == 0 {
+        if !have_upper_case(turn) {
+            return Ok(ItemFunctions {
+                written,
+                functions: Vec::new(alloc),
+                in_use,
+            });
+        }
+    }
+    let results = written_results(alloc, item.names)?;
+    define_names(&mut in_use, turn)?;
+    let scope = FunctionScope {
+        names,
+        results: &results,
+        functions: &written,
+    };
+    let functions = resolve_functions(alloc, scope, types, required, &mut in_use)?;
     Ok(ItemFunctions {
         written,
         functions,

@@ -1,5 +1,5 @@
 //! The functions of an item as they are written, and as they are in the package.
-ghost use Rattle.std.specs.Prelude.{◌≡◌, IfOk, OnOk, map, nat_eq};
+ghost use Rattle.std.specs.Prelude.{◌≡◌, ◌++◌, IfOk, OnOk, map, nat_eq};
 ghost use Rattle.std.specs.Cmp.Lexicographic.{pointwise};
 ghost use Rattle.std.specs.List.{flat_map};
 ghost use Rattle.indexmap.specs.IndexMap.{insert_entry};
@@ -12,7 +12,7 @@ ghost use Rattle.wit_syntax.specs.SignatureRules.{body_ok};
 ghost use Rattle.wit_rules.specs.Signatures.{stated_ok, AreResults};
 ghost use Rattle.wit_items.specs.BorrowedItems.{declared_view};
 ghost use Rattle.wit_scopes.specs.BorrowedNames.{name_view};
-ghost use Rattle.wit_item_entries.specs.Body.{AppendsFunctions, AreFunctionsIn};
+ghost use Rattle.wit_item_entries.specs.Body.{AreFunctionsIn};
 
 use std::alloc::{AllocError, Global};
 use wit_items::items::Declared;
@@ -32,7 +32,7 @@ fn add_definition<'t, 'a>(
     functions: &mut Vec<BorrowedFunction<'t, 'a>>,
     definition: &'t TypeDef<'a>,
 ) -> Result<(), AllocError>
-    ensures { OnOk result (AppendsFunctions functions.old.items functions.new.items (definition_functions definition.now.name definition.now.body)) }
+    ensures { OnOk result (map function_view functions.new.items ≡ map function_view functions.old.items ++ definition_functions definition.now.name definition.now.body) }
 {
     if let TypeBody::Resource { funcs } = &definition.body {
         for function in funcs {
@@ -47,7 +47,7 @@ fn add_extern_part<'t, 'a>(
     functions: &mut Vec<BorrowedFunction<'t, 'a>>,
     written: &'t Extern<'a>,
 ) -> Result<(), AllocError>
-    ensures { OnOk result (AppendsFunctions functions.old.items functions.new.items (extern_functions written.now written.now.kind)) }
+    ensures { OnOk result (map function_view functions.new.items ≡ map function_view functions.old.items ++ extern_functions written.now written.now.kind) }
 {
     match &written.kind {
         ExternKind::Func(name, func) => push(
@@ -167,19 +167,6 @@ fn add_function(
     table.put(name, function)
 }
 
-/// [`function_table`], with more room than it takes.
-fn placed_table(alloc: Global, functions: Vec<Function>) -> Result<TextTable<Function>, AllocError>
-    requires { AllDiffer (map (λ f. f.name) functions.items) }
-    ensures { IfOk result (λ table. table ≡ placed_functions functions.items) }
-{
-    let placed = setters_after_getters(alloc, functions)?;
-    let mut table = TextTable::with_capacity(alloc, placed.len())?;
-    for function in placed {
-        add_function(alloc, &mut table, function)?;
-    }
-    Ok(table)
-}
-
 /// The functions of an interface under their names, where each setter that is written before its
 /// getter comes directly after it.
 pub fn function_table(
@@ -189,6 +176,10 @@ pub fn function_table(
     requires { AllDiffer (map (λ f. f.name) functions.items) }
     ensures { IfOk result (λ table. table ≡ placed_functions functions.items) }
 {
-    let table = placed_table(alloc, functions)?;
+    let placed = setters_after_getters(alloc, functions)?;
+    let mut table = TextTable::with_capacity(alloc, placed.len())?;
+    for function in placed {
+        add_function(alloc, &mut table, function)?;
+    }
     Ok(table.shrunk())
 }

@@ -6,5 +6,4 @@ pub mod functions;
 pub mod names;
 pub mod own_keys;
 pub mod required;
-pub mod signatures;
 pub mod uses;

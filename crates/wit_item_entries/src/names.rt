@@ -9,8 +9,8 @@ ghost use Rattle.wit_items.specs.ForeignAddresses.{prefix_of};
 ghost use Rattle.wit_scopes.specs.PlacedNames.{AreNamesPlaced};
 ghost use Rattle.wit_scopes.specs.DefinitionOrder.{AreInTurn};
 ghost use Rattle.wit_arena.specs.Resolving.{env_of, names_in};
-ghost use Rattle.wit_item_entries.specs.AddedNames.{AddsNames, DefinesIn, DefinitionsRequire};
-ghost use Rattle.wit_item_entries.specs.ReachedFaults.{FindsAt, FindsDefinitions, FindsOrdered, HaveNames, IsNamesFault};
+ghost use Rattle.wit_item_entries.specs.AddedNames.{AddsNames, AddsRest, DefinitionsRequire};
+ghost use Rattle.wit_item_entries.specs.ReachedFaults.{FindsDefinitions, FindsNames, FindsOrdered};
 
 use crate::uses::resolve_uses;
 use std::alloc::Global;
@@ -52,7 +52,7 @@ fn define_all(
     ensures listed { OnOk result (names_in scope.new.names ≡ names_in scope.old.names ++ local_names (map definition_view definitions.now)) }
     ensures handled { OnOk result (DefinitionsRequire scope.old scope.new types.new (map definition_view definitions.now)) }
     ensures extended { OnOk result (IsExtended types.old types.new) }
-    ensures first { FindsDefinitions scope.old scope.new types.old types.new (map definition_view definitions.now) result }
+    ensures first { FindsDefinitions scope.old types.old (map definition_view definitions.now) result }
 {
     for definition in definitions {
         define(alloc, types, scope, definition.definition)?;
@@ -71,9 +71,9 @@ fn resolve_types<'t, 'a>(
 ) -> ParseResult<Vec<Id<'a>>>
     requires uses { map use_view uses.now ≡ used (map name_view names.now) }
     requires listed { names_in scope.old.names ≡ local_names (used (map name_view names.now)) }
-    ensures defines { IfOk result (λ turn. DefinesIn scope.old scope.new types.old types.new (map name_view names.now) turn.items) }
+    ensures defines { IfOk result (λ turn. AddsRest scope.old scope.new types.old types.new (map name_view names.now) turn.items) }
     ensures extended { OnOk result (IsExtended types.old types.new) }
-    ensures first { FindsOrdered scope.old scope.new types.old types.new (map name_view names.now) result }
+    ensures first { FindsOrdered scope.old types.old (map name_view names.now) result }
 {
     let written = written_turn(alloc, names, uses)?;
     check_unique_names(alloc, &written.ids)?;
@@ -95,7 +95,7 @@ pub fn resolve_names<'f, 'a>(
     requires placed { AreNamesPlaced (prefix_of interfaces.now.files) names.now }
     ensures adds { IfOk result (λ r. AddsNames interfaces.now owner types.old types.new names.now r.types r.turn.items r.required.items) }
     ensures extended { OnOk result (IsExtended types.old types.new) }
-    ensures first { FindsAt (λ r. HaveNames None interfaces.now names.now r.types types.new) (IsNamesFault None interfaces.now owner types.old names.now) result }
+    ensures first { FindsNames None interfaces.now owner types.old names.now result }
 {
     let uses = used_names(alloc, names)?;
     let mut scope = Scope {

@@ -1,57 +1,33 @@
 //! Names that a scope uses from interfaces.
-ghost use Rattle.std.specs.Prelude.{◌≡◌, ◌↔◌, [], Contains, Some, map, OnOk, IfOk, IsTrue, string_bytes};
+ghost use Rattle.std.specs.Prelude.{◌≡◌, ◌↔◌, ◌++◌, [], Contains, Some, codes, map, OnOk, IfOk, IsTrue, string_bytes};
 ghost use Rattle.std.specs.List.{flat_map};
 ghost use Rattle.std.specs.Option.{option_copied, option_or, option_to_list};
 ghost use Rattle.wit_syntax.specs.Source.{local_id};
 ghost use Rattle.wit_syntax.specs.ScopeTables.{local_names};
-ghost use Rattle.wit_syntax.specs.Words.{used_words};
 ghost use Rattle.wit_first.specs.First.{Finds, Reports};
 ghost use Rattle.wit_arena.specs.SourceFunctions.{freestanding_names};
 ghost use Rattle.wit_entries.specs.Requiring.{IsExtended};
-ghost use Rattle.wit_scopes.specs.BorrowedNames.{source_view, use_view, IsPlaced, ArePlaced};
+ghost use Rattle.wit_scopes.specs.BorrowedNames.{use_view, IsPlaced, ArePlaced};
 ghost use Rattle.wit_items.specs.ForeignAddresses.{prefix_of};
-ghost use Rattle.wit_items.specs.ResolvedInterfaces.{resolved_scopes_of};
-ghost use Rattle.wit_arena.specs.Resolving.{resolved_scope_at, free_functions, IsFound, names_in};
-ghost use Rattle.wit_item_entries.specs.UseFaults.{interface_of, local_faults, lost_name, source_fault, spelled_fault, used_fault};
+ghost use Rattle.wit_arena.specs.Resolving.{free_functions, names_in};
+ghost use Rattle.wit_item_entries.specs.UseFaults.{local_faults, lost_name, spelled_fault, used_fault};
 ghost use Rattle.wit_item_entries.specs.Uses.{AddsAllUsed, AddsUsed};
 
 use std::alloc::{AllocError, Global};
 use wit_entries::entries::Entries;
 use wit_entries::scope::Scope;
 use wit_items::interfaces::Interfaces;
+use wit_items::resolved_path::source_id;
 use wit_maps::TextTable;
 use wit_model::{Function, FunctionKind, Interface};
 use wit_names::prefix::rest_after;
 use wit_notes::stated_metadata;
 use wit_refusals::refusal::{refuse_in, refuse_missing};
 use wit_refusals::repeat_words::defined_twice;
-use wit_scopes::scope_name::{Source, UsedName, local_of};
+use wit_scopes::scope_name::{UsedName, local_of};
 use wit_tree::tree::Id;
 use wit_tree::{ParseError, ParseResult};
 use wit_types::{Type, TypeDefKind};
-
-/// The interface that a name comes from.
-fn used_interface<'i>(
-    alloc: Global,
-    from: &Source<'_, '_>,
-    interfaces: &'i Interfaces<'_, '_, '_, '_>,
-) -> ParseResult<&'i Interface>
-    requires placed { IsPlaced (prefix_of interfaces.now.files) from.now }
-    ensures found { IfOk result (λ i. IsFound (resolved_scopes_of interfaces.now) (source_view from.now) (resolved_scope_at (source_view from.now) i.now)) }
-    ensures at { IfOk result (λ i. interface_of interfaces.now from.now ≡ Some i.now) }
-    ensures first { Finds (source_fault interfaces.now.by_name from.now) result }
-{
-    match from {
-        Source::Declared(path) => match interfaces.by_name.get(path.name) {
-            Some(id) => Ok(interfaces.arena.get(*id)),
-            None => Err(refuse_missing(alloc, 7, "interface or world", *path)),
-        },
-        Source::Foreign { place, .. } => {
-            let id = interfaces.arena.id_at(*place);
-            Ok(interfaces.arena.get(id))
-        }
-    }
-}
 
 /// The written name of a function that is one by itself.
 fn free_name(function: &Function) -> Option<&str>
@@ -92,7 +68,7 @@ fn has_function(functions: &TextTable<Function>, name: &str) -> bool
 
 /// The words for a function that is used as a name.
 fn function_used(alloc: Global, name: &str) -> Result<String, AllocError>
-    ensures { IfOk result (λ words. string_bytes words ≡ used_words name.now) }
+    ensures { IfOk result (λ words. string_bytes words ≡ codes "cannot import function `" ++ (name.now ++ codes "`")) }
 {
     format!(in alloc; "cannot import function `{name}`")
 }
@@ -126,7 +102,8 @@ fn resolve_use<'f, 'a>(
     ensures first { Finds (option_or (used_fault interfaces.now used.now) (spelled_fault scope.old.names (local_id (use_view used.now)))) result }
 {
     let name = used.name;
-    let interface = used_interface(alloc, &used.from, interfaces)?;
+    let id = source_id(alloc, interfaces, &used.from)?;
+    let interface = interfaces.arena.get(id);
     let original = match interface.types.get(name.name.name) {
         Some(original) => *original,
         None => return Err(refuse_used(alloc, interface, name.name)),

@@ -1,12 +1,14 @@
 -- Where a path leads, by the table of items.
 use Rattle.std.proofs.Common.{◌≡◌, ℕ, ◌<◌, Bool, List, [], ◌∷◌, length, Option, Some, None, inl, inr, refl, sym, ap, ◌∙◌, arith, Bor}
-use Rattle.wit_syntax.proofs.Common.{Id, Item, Local, PackageFile, Row, Target, all_items, bytes_eq, cases_Bool, find, is_world, is_world_at, item_name, item_named, item_row, item_rows, length-map, ltb-false, ltb-true, map, map_at, name_cases, nat_lt, option_copied, option_map, place_of, position, position-Some, position_or_len, slice_get, slice_get_past, slice_get_read, target}
+use Rattle.wit_syntax.proofs.Common.{Id, Item, Local, PackageFile, Row, Target, all_items, bytes_eq, cases_Bool, find, is_world, is_world_at, item_name, item_named, item_row, item_rows, item_word, length-map, ltb-false, ltb-true, map, map_at, missing_at, name_cases, nat_lt, option_copied, option_map, place_of, position, position-Some, position_or_len, slice_get, slice_get_past, slice_get_read, target}
 use Rattle.std.specs.Slice.{IsItemAt}
 use Rattle.std.proofs.lemmas.List.Folds.{find_at}
+use Rattle.wit_first.specs.FileFaults.{lost_fault}
+use Rattle.wit_first.specs.UseFaults.{reached_fault}
+use Rattle.wit_first.proofs.FileFaults.{lost_at}
 use Rattle.wit_files.specs.FileNames.{found_at}
 use Rattle.wit_files.specs.declared.file_names.Found.{Found}
 use Rattle.wit_files.specs.declared.file_names.Found.TheVariants.{Item as ItemAt, Foreign as ForeignAt}
-use Rattle.wit_items.specs.ItemPaths.{item_place, other_place}
 
 -- whether two names are one does not hang on which is first
 bytes_swap : (a b : List ℕ) → bytes_eq a b ≡ bytes_eq b a
@@ -56,23 +58,6 @@ found_some : (o : Option ℕ) (p : ℕ) → option_map ItemAt o ≡ Some (ItemAt
 found_some None p h = absurd (let f : ⊥ = cc in f)
 found_some (Some q) p h = cc
 
--- by the place of what is found
-pub item_found : (r : Option Found) (p : ℕ) → item_place r ≡ Some p → r ≡ Some (ItemAt p)
-item_found None p h = absurd (let f : ⊥ = cc in f)
-item_found (Some (ItemAt q)) p h = cc
-item_found (Some (ForeignAt q)) p h = absurd (let f : ⊥ = cc in f)
-
-pub item_unfound : (r : Option Found) → item_place r ≡ None → (p : ℕ) → r ≡ Some (ItemAt p) → ⊥
-item_unfound r h p is = let wrong : None ≡ Some p = sym h ∙ ap item_place is in let f : ⊥ = cc in f
-
-pub other_found : (r : Option Found) (p : ℕ) → other_place r ≡ Some p → r ≡ Some (ForeignAt p)
-other_found None p h = absurd (let f : ⊥ = cc in f)
-other_found (Some (ItemAt q)) p h = absurd (let f : ⊥ = cc in f)
-other_found (Some (ForeignAt q)) p h = cc
-
-pub other_unfound : (r : Option Found) → other_place r ≡ None → (p : ℕ) → r ≡ Some (ForeignAt p) → ⊥
-other_unfound r h p is = let wrong : None ≡ Some p = sym h ∙ ap other_place is in let f : ⊥ = cc in f
-
 -- a path that leads to no place leads to no item
 pub leads_nowhere : (files : List PackageFile) (to : Target) (id : Id) (r : Option Found) → to ≡ Local id → r ≡ found_at files to → ((p : ℕ) → r ≡ Some (ItemAt p) → ⊥) → item_named (all_items files) id.name.now ≡ None
 leads_nowhere files to id r local found other =
@@ -95,3 +80,12 @@ leads_within files to id r p local found some =
     let it = position-Some (λ (row : Row). bytes_eq id.name.now row.name) (item_rows files) p (record { name = []; needs = [] }) at in
     let lt : p < length (item_rows files) = it.0 in
     omega (arith, lt, length-map (all_items files) item_row)
+
+-- the name of no item is lost
+pub lost_named : (files : List PackageFile) (id from : Id) → item_named (all_items files) id.name.now ≡ None → reached_fault (is_world_at files (Local id)) from (lost_fault (all_items files) (Local id)) None ≡ Some (missing_at 7 item_word id)
+lost_named files id from none = ap (λ (o : Option Bool). reached_fault o from (lost_fault (all_items files) (Local id)) None) (ap (option_map is_world) none) ∙ lost_at (all_items files) id none
+
+-- nothing of another package is at a name
+pub item_apart : (o : Option ℕ) (k : ℕ) → option_map ItemAt o ≡ Some (ForeignAt k) → ⊥
+item_apart None k h = let f : ⊥ = cc in f
+item_apart (Some j) k h = let wrong : ItemAt j ≡ ForeignAt k = cc in let f : ⊥ = cc in f

@@ -1,9 +1,15 @@
 -- Items of an arena that are found by their names, with one more, and the scopes of interfaces and the addresses of worlds.
-use Rattle.std.proofs.Common.{◌≡◌, ◌≤◌, ℕ, zero, suc, true, cond, List, [], ◌∷◌, ◌++◌, length, Result, Ok, Err, Option, Some, inl, inr, refl, sym, ap, ◌∙◌, subst, nat_eq, arith}
-use Rattle.wit_syntax.proofs.Common.{Address, InterfaceNamed, OnErr, OnOk, PackageFile, WorldNamed, at_prefix, at_seam, insert_entry, length-append, lookup-insert_entry, name_cases, name_itself, option_and_then, option_map, pointwise, slice_get, slice_get-map, unwrap_or}
+use Rattle.std.proofs.Common.{◌≡◌, ◌<◌, ◌≤◌, ℕ, zero, suc, true, cond, List, [], ◌∷◌, ◌++◌, length, Result, Ok, Err, Option, Some, inl, inr, refl, sym, ap, ◌∙◌, subst, nat_eq, arith}
+use Rattle.wit_syntax.proofs.Common.{Address, InterfaceNamed, OnErr, OnOk, PackageFile, WorldNamed, at_prefix, at_seam, insert_entry, length-append, lookup-insert_entry, name_cases, name_itself, option_and_then, option_map, pointwise, slice_get, slice_get-map, slice_get_within, unwrap_or}
 use Rattle.wit_arena.proofs.Common.{Interface, Names, World, env_of, resolved_scope, resolved_scope_at, resolved_scopes, worlds_at}
 use Rattle.wit_items.specs.Found.{AreFound, interface_name, name_at, world_name}
 use Rattle.wit_items.specs.BorrowedItems.{others_of}
+use Rattle.wit_items.specs.ForeignAddresses.{prefix_of}
+use Rattle.wit_items.specs.ResolvedInterfaces.{source_place}
+use Rattle.wit_items.specs.declared.interfaces.Interfaces.{Interfaces}
+use Rattle.wit_scopes.specs.BorrowedNames.{IsPlaced}
+use Rattle.wit_scopes.specs.declared.scope_name.Source.{Source}
+use Rattle.wit_scopes.specs.declared.scope_name.Source.TheVariants as source
 
 module _ {X : Type 0} (called : X → Option (List ℕ)) where
   -- what is at a place, where that has a name
@@ -74,3 +80,22 @@ pub worlds_found : (files : List PackageFile) (ws : List World) (by_name : Names
 worlds_found files ws by_name found name t here =
     let says = found name t here in
     found_place (others_of files) ws t name says.0 says.1
+
+-- an interface that goes by a name is one of all
+pub named_within : (count : ℕ) (is : List Interface) (by_name : Names) (name : List ℕ) (t : ℕ) → AreFound interface_name count is by_name → env_of by_name name ≡ Some t → t < length is
+named_within count is by_name name t found here =
+    let i = named_at interface_name is t name (found name t here).1 in
+    slice_get_within is t i.0 i.1
+
+-- so is one of another package
+pub prefix_within : (ss : List Address) (is : List Interface) (t : ℕ) (s : Address) → length ss ≤ length is → slice_get ss t ≡ Some s → t < length is
+prefix_within ss is t s enough at =
+    let lt = slice_get_within ss t s at in
+    omega arith
+
+-- so is one that is borrowed, if it is resolved
+pub source_within : (is : Interfaces) (s : Source) (id : ℕ) → IsPlaced (prefix_of is.files) s → source_place is.by_name s ≡ Some id → id < length is.arena
+source_within is (source.Declared path) id placed at = named_within (length (prefix_of is.files)) is.arena is.by_name path.name.now id is.found at
+source_within is (source.Foreign place of name) id placed at =
+    let same : place ≡ id = cc in
+    subst (λ (k : ℕ). k < length is.arena) same (prefix_within (prefix_of is.files) is.arena place _ is.prefix placed)

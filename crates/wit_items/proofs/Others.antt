@@ -1,13 +1,18 @@
 -- Paths to items of other packages, and the entries of those items.
 use Rattle.std.proofs.Common.{◌≡◌, ℕ, zero, suc, ◌+◌, ◌≤◌, Bool, true, false, not, cond, List, [], ◌∷◌, length, Option, Some, None, inl, inr, refl, sym, ap, ◌∙◌, arith}
 use Rattle.wit_syntax.proofs.Common.{Address, Attribute, Contains, DefinitionPart, Extern, ExternPart, Foreign, ForeignNamed, ForeignVisit, FunctionPart, Id, IncludePart, Item, Local, PackageFile, PackageName, Part, Target, Use as WrittenUse, UsePart, UsePath, WorldNamed, all_items, at_back, at_contains, at_side, at_split, cases_Bool, extern_paths, extern_visits, find, find_at, find_passes, find_some, flat_map, flat_map_at, flat_map_has, foreign_at, foreign_interfaces, foreign_items, foreign_worlds, inline_uses, is_world_at, kept_has, leads, map, map_at, option_map, part_visits, parts, path_visits, same_address, same_address-equal, same_address-from, same_item, side_itself, slice_get, slice_get-map, target_scope, use_path, visited, walk}
-use Rattle.wit_arena.proofs.Common.{AstItem, IsNoWorld, IsVisited, Names, World, env_of, foreign_entry, foreign_place, leads_visited, part_use_at, path_among, path_visited, side_has, visit_listed, worlds_at}
+use Rattle.wit_arena.proofs.Common.{AstItem, IsVisited, Names, World, env_of, foreign_entry, foreign_place, leads_visited, part_use_at, path_among, path_visited, side_has, visit_listed, worlds_at}
 use Rattle.wit_model.specs.declared.ast_item.AstItem.TheVariants as entry
 use Rattle.wit_files.specs.FileNames.{found_at, top_at}
 use Rattle.wit_files.specs.declared.file_names.Found.{Found}
-use Rattle.wit_files.specs.declared.file_names.Found.TheVariants.{Item as ItemAt, Foreign as ForeignAt}
-use Rattle.wit_items.specs.ItemPaths.{HasPart, HasPath, entry_at, interface_entry, world_entry, world_at}
-use Rattle.wit_items.proofs.Finding.{find_position, find_no_position}
+use Rattle.wit_files.specs.declared.file_names.Found.TheVariants.{Foreign as ForeignAt}
+use Rattle.wit_items.specs.ItemPaths.{HasPart, HasPath, entry_at, world_entry, world_at}
+use Rattle.wit_items.proofs.Finding.{item_apart, find_position, find_no_position}
+
+-- no world is where a path leads: of the package none that was resolved, of another package an interface
+abbrev pub IsNoWorld : List PackageFile → Names → Target → Type 0
+IsNoWorld files by_name (Local id) = env_of by_name id.name.now ≡ None
+IsNoWorld files by_name (Foreign p id) = option_map (λ (v : ForeignVisit). v.wants_world) (foreign_at files (ForeignNamed p id.name.now)) ≡ Some false
 
 abbrev named : PackageName → Id → Address
 named p id = ForeignNamed p id.name.now
@@ -15,11 +20,7 @@ named p id = ForeignNamed p id.name.now
 abbrev is_at : Address → ForeignVisit → Bool
 is_at s v = same_address (visited v) s
 
--- where something else is found, nothing of another package is
-item_apart : (o : Option ℕ) (k : ℕ) → option_map ItemAt o ≡ Some (ForeignAt k) → ⊥
-item_apart None k h = let f : ⊥ = cc in f
-item_apart (Some j) k h = let wrong : ItemAt j ≡ ForeignAt k = cc in let f : ⊥ = cc in f
-
+-- the place of another package, if it is one
 foreign_place_of : (o : Option ℕ) (k : ℕ) → option_map ForeignAt o ≡ Some (ForeignAt k) → o ≡ Some k
 foreign_place_of None k h = absurd (let f : ⊥ = cc in f)
 foreign_place_of (Some j) k h = cc
@@ -89,30 +90,27 @@ entry_world : (files : List PackageFile) (v : ForeignVisit) → v.wants_world �
 entry_world files v sort = ap (λ (b : Bool). cond b (entry.World (foreign_place (foreign_worlds files) v)) (entry.Interface (foreign_place (foreign_interfaces files) v))) sort
 
 -- where an interface is where a path leads, the path leads to an interface, whose address is at that place
-pub interface_found : (files : List PackageFile) (p : PackageName) (id : Id) (i : ℕ) → interface_entry (entry_at files (Foreign p id)) ≡ Some i → (is_world_at files (Foreign p id) ≡ Some false) × (slice_get (map visited (foreign_interfaces files)) i ≡ Some (ForeignNamed p id.name.now))
+pub interface_found : (files : List PackageFile) (p : PackageName) (id : Id) (i : ℕ) → entry_at files (Foreign p id) ≡ Some (entry.Interface i) → (is_world_at files (Foreign p id) ≡ Some false) × (slice_get (map visited (foreign_interfaces files)) i ≡ Some (ForeignNamed p id.name.now))
 interface_found files p id i h = of_entry (foreign_at files (named p id)) refl h
   where
-    of_entry : (o : Option ForeignVisit) → foreign_at files (named p id) ≡ o → interface_entry (option_map (foreign_entry files) o) ≡ Some i → (option_map (λ (v : ForeignVisit). v.wants_world) (foreign_at files (named p id)) ≡ Some false) × (slice_get (map visited (foreign_interfaces files)) i ≡ Some (named p id))
+    of_entry : (o : Option ForeignVisit) → foreign_at files (named p id) ≡ o → option_map (foreign_entry files) o ≡ Some (entry.Interface i) → (option_map (λ (v : ForeignVisit). v.wants_world) (foreign_at files (named p id)) ≡ Some false) × (slice_get (map visited (foreign_interfaces files)) i ≡ Some (named p id))
     of_entry None found is = absurd (let f : ⊥ = cc in f)
     of_entry (Some v) found is = elim (cases_Bool v.wants_world) [
       | inl world ↦ absurd (
-          let wrong : None ≡ Some i = ap (λ e. interface_entry (Some e)) (sym (entry_world files v world)) ∙ is in
+          let wrong : Some (entry.World (foreign_place (foreign_worlds files) v)) ≡ Some (entry.Interface i) = ap Some (sym (entry_world files v world)) ∙ is in
           let f : ⊥ = cc in
           f)
       | inr sort ↦ (
-          let both : Some (foreign_place (foreign_interfaces files) v) ≡ Some i = ap (λ e. interface_entry (Some e)) (sym (entry_interface files v sort)) ∙ is in
+          let both : Some (entry.Interface (foreign_place (foreign_interfaces files) v)) ≡ Some (entry.Interface i) = ap Some (sym (entry_interface files v sort)) ∙ is in
           let place : foreign_place (foreign_interfaces files) v ≡ i = cc in
           (ap (option_map (λ (v : ForeignVisit). v.wants_world)) found ∙ ap Some sort, ap (slice_get (map visited (foreign_interfaces files))) (sym place) ∙ interface_place files (named p id) v found sort))
     ]
 
 -- where none is there, the path leads to a world, if it leads to an item that is visited
-pub interface_missing : (files : List PackageFile) (p : PackageName) (id : Id) (v : ForeignVisit) → foreign_at files (ForeignNamed p id.name.now) ≡ Some v → interface_entry (entry_at files (Foreign p id)) ≡ None → is_world_at files (Foreign p id) ≡ Some true
-interface_missing files p id v found h = elim (cases_Bool v.wants_world) [
+pub interface_missing : (files : List PackageFile) (p : PackageName) (id : Id) (v : ForeignVisit) → foreign_at files (ForeignNamed p id.name.now) ≡ Some v → ((i : ℕ) → entry_at files (Foreign p id) ≡ Some (entry.Interface i) → ⊥) → is_world_at files (Foreign p id) ≡ Some true
+interface_missing files p id v found other = elim (cases_Bool v.wants_world) [
   | inl world ↦ ap (option_map (λ (v : ForeignVisit). v.wants_world)) found ∙ ap Some world
-  | inr sort ↦ absurd (
-      let wrong : Some (foreign_place (foreign_interfaces files) v) ≡ None = ap (λ e. interface_entry (Some e)) (sym (entry_interface files v sort)) ∙ ap (λ o. interface_entry (option_map (foreign_entry files) o)) (sym found) ∙ h in
-      let f : ⊥ = cc in
-      f)
+  | inr sort ↦ absurd (other (foreign_place (foreign_interfaces files) v) (ap (option_map (foreign_entry files)) found ∙ ap Some (entry_interface files v sort)))
 ]
 
 -- the address of a world that is where a path leads

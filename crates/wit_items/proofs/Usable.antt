@@ -1,33 +1,22 @@
 -- Items of files, and the first fault of their uses.
-use Rattle.std.proofs.Common.{◌≡◌, ℕ, Bool, true, false, List, [], ◌∷◌, ◌++◌, Option, Some, None, inl, inr, refl, sym, ap, ◌∙◌, subst, Contains}
-use Rattle.wit_syntax.proofs.Common.{Declared, Foreign, ForeignNamed, ForeignVisit, Id, Item, Local, PackageFile, PackageName, Target, all_items, at_contains, at_either, contains_at, file_items, flat_map, foreign_at, is_world, is_world_at, item_named, item_word, leads, missing_at, option_map, parts, path_id, slice_get, slice_get_within, top_names}
+use Rattle.std.proofs.Common.{◌≡◌, ℕ, Bool, true, false, List, [], ◌∷◌, Option, Some, None, refl, sym, ap, ◌∙◌, subst, Contains}
+use Rattle.wit_syntax.proofs.Common.{AstItem, Declared, Foreign, ForeignNamed, ForeignVisit, Id, Item, Local, PackageFile, PackageName, Target, UsePath, all_items, at_contains, contains_at, declared_items, file_items, flat_map, foreign_at, is_world, is_world_at, item_named, item_word, leads, missing_at, option_map, parts, path_id, slice_get, slice_get_within, top_names}
+use Rattle.wit_arena.proofs.Common.{AreUsableUses}
 use Rattle.wit_first.specs.AttributeFaults.{metadata_fault}
 use Rattle.wit_first.specs.FileFaults.{lost_fault}
 use Rattle.wit_first.specs.UseFaults.{all_uses_fault, item_uses_fault, path_fault, reached_fault}
-use Rattle.wit_first.proofs.Bridge.{in_only, metadata_agree, or_none_both}
+use Rattle.wit_first.proofs.Bridge.{in_only, or_none_both}
 use Rattle.wit_first.proofs.FileFaults.{lost_at}
 use Rattle.wit_top_names.proofs.Lost.{at_flat}
-use Rattle.wit_files.specs.FileNames.{names_at_top}
+use Rattle.wit_files.specs.FileNames.{names_at_top, top_at}
 use Rattle.wit_items.specs.declared.items.Item.{Item as Borrowed}
-use Rattle.wit_items.specs.ItemPaths.{HasItem}
-use Rattle.wit_items.specs.BorrowedItems.{declared_view, IsFiled, AreFiled, HaveSoundUses}
-use Rattle.wit_items.proofs.Others.{used_visited}
+use Rattle.wit_items.specs.ItemPaths.{HasItem, HasPath}
+use Rattle.wit_items.specs.BorrowedItems.{declared_view, IsFiled}
+use Rattle.wit_items.proofs.Others.{used_visited, wanted_visited}
 use Rattle.wit_items.proofs.UsableNames.{path_of_use}
 use Rattle.wit_items.proofs.Written.{right_use}
 
--- items of files, one more
-pub filed_more : (files : List PackageFile) (items new : List Borrowed) (x : Borrowed) → new ≡ items ++ x ∷ [] → AreFiled files items → IsFiled files x → AreFiled files new
-filed_more files items new x extended filed one = rw extended (record {
-  each = λ k i at. elim (at_either items x k i at) [
-    | inl early ↦ filed.each k i early
-    | inr last ↦ subst (IsFiled files) (sym last.1) one
-  ];
-})
-
-pub filed_none : (files : List PackageFile) → AreFiled files []
-filed_none files = record { each = λ k i at. absurd (let f : ⊥ = cc in f) }
-
--- so each is an item that the file at its place declares
+-- an item of files is one that the file at its place declares
 pub filed_item : (files : List PackageFile) (i : Borrowed) → IsFiled files i → HasItem files i.place (declared_view i.declared)
 filed_item files i filed = record {
   within = slice_get_within files i.place i.file.now filed.file;
@@ -53,12 +42,18 @@ item_here files place file d at among = record {
   among = rw (ap names_at_top at) (item_among files place file (record { top = top_names file; declared = d }) at among);
 }
 
+-- so is one that a declaration of the file makes
+pub item_declared : (files : List PackageFile) (place : ℕ) (file : PackageFile) (xs : List AstItem) (i : ℕ) (x : AstItem) (d : Declared) → slice_get files place ≡ Some file → xs ≡ file.decl_list.items.items → slice_get xs i ≡ Some x → declared_items (top_names file) x ≡ record { top = top_names file; declared = d } ∷ [] → HasItem files place d
+item_declared files place file xs i x d at all there only =
+    let w : Item = record { top = top_names file; declared = d } in
+    item_here files place file d at (subst (λ (l : List AstItem). Contains (flat_map (declared_items (top_names file)) l) w) all (declared_among (declared_items (top_names file)) xs i x w there only))
+
 -- where there is none, each path leads to an interface
 none_mapped : (o : Option Item) → option_map is_world o ≡ None → o ≡ None
 none_mapped None h = refl
 none_mapped (Some i) h = absurd (let f : ⊥ = cc in f)
 
-usable_by : (files : List PackageFile) (to : Target) (from : Id) (o : Option Bool) → is_world_at files to ≡ o → ((p : PackageName) (id : Id) → to ≡ Foreign p id → (v : ForeignVisit) × (foreign_at files (ForeignNamed p id.name.now) ≡ Some v)) → reached_fault o from (lost_fault (all_items files) to) ≡ None → is_world_at files to ≡ Some false
+usable_by : (files : List PackageFile) (to : Target) (from : Id) (o : Option Bool) → is_world_at files to ≡ o → ((p : PackageName) (id : Id) → to ≡ Foreign p id → (v : ForeignVisit) × (foreign_at files (ForeignNamed p id.name.now) ≡ Some v)) → reached_fault o from (lost_fault (all_items files) to) None ≡ None → is_world_at files to ≡ Some false
 usable_by files to from (Some false) is visited none = is
 usable_by files to from (Some true) is visited none = absurd (let f : ⊥ = cc in f)
 usable_by files (Local id) from None is visited none =
@@ -70,16 +65,16 @@ usable_by files (Foreign p id) from None is visited none =
     let wrong : None ≡ Some v.0.wants_world = sym is ∙ ap (option_map (λ (w : ForeignVisit). w.wants_world)) v.1 in
     absurd (let f : ⊥ = cc in f)
 
-pub uses_sound : (files : List PackageFile) → all_uses_fault files ≡ None → HaveSoundUses files (all_items files)
-uses_sound files none = record {
-  each = λ i here. record {
-    each = λ u among. (
-        let k = at_contains (all_items files) i here in
-        let right = right_use files i.top (parts i) (in_only (item_uses_fault files) (all_items files) none k.0 i k.1) u among in
-        let both = or_none_both (metadata_fault u.attributes.items) (path_fault files i.top u.from) right in
-        record {
-          noted = (metadata_agree u.attributes.items).unbroken both.0;
-          usable = usable_by files (leads i.top u.from) (path_id u.from) (is_world_at files (leads i.top u.from)) refl (used_visited files i u.from here (path_of_use (parts i) u among)) both.1;
-        });
-  };
+-- a path of an item that has no fault leads to an interface
+pub wanted_usable : (files : List PackageFile) (place : ℕ) (path : UsePath) → HasPath files place path → path_fault files (top_at files place) path None ≡ None → is_world_at files (leads (top_at files place) path) ≡ Some false
+wanted_usable files place path has none = usable_by files (leads (top_at files place) path) (path_id path) (is_world_at files (leads (top_at files place) path)) refl (wanted_visited files place path has) none
+
+-- where nothing is wrong with uses, they lead to interfaces
+pub uses_usable : (files : List PackageFile) → all_uses_fault files ≡ None → AreUsableUses files (all_items files)
+uses_usable files none = record {
+  usable = λ i u here among.
+      let k = at_contains (all_items files) i here in
+      let right = right_use files i.top (parts i) (in_only (item_uses_fault files) (all_items files) none k.0 i k.1) u among in
+      let both = or_none_both (metadata_fault u.attributes.items) (path_fault files i.top u.from None) right in
+      usable_by files (leads i.top u.from) (path_id u.from) (is_world_at files (leads i.top u.from)) refl (used_visited files i u.from here (path_of_use (parts i) u among)) both.1;
 }

@@ -1,8 +1,8 @@
 -- The uses and the names of interfaces that are written in a world: those of its parts on each side.
 use Rattle.std.proofs.Common.{◌≡◌, ℕ, List, [], ◌∷◌, ◌++◌, Some, None, refl, sym, ap, ◌∙◌, Contains}
-use Rattle.wit_syntax.proofs.Common.{DefinitionPart, Exported, Extern, ExternPart, FunctionPart, Imported, IncludePart, Interface, InterfaceItem, Item, PackageFile, Part, TheInterface, TopName, Use as WrittenUse, UsePart, WorldSide, append-nil, at_contains, contains_at, flat_map, flat_map_at, inline_uses, interface_part, item_uses, map, option_or, part_uses, side_itself, slice_get, walk}
+use Rattle.wit_syntax.proofs.Common.{DefinitionPart, Exported, Extern, ExternPart, FunctionPart, Imported, IncludePart, Interface, InterfaceItem, Item, PackageFile, Part, TheInterface, TopName, Use as WrittenUse, UsePart, WorldSide, append-nil, at_contains, contains_at, flat_map, flat_map_at, inline_uses, interface_part, item_uses, map, option_or, part_uses, side_itself, slice_get, walk, own_uses}
 use Rattle.wit_tree.specs.declared.tree.InterfaceItem.TheVariants as interface_item
-use Rattle.wit_first.specs.UseFaults.{item_uses_fault, own_uses, use_fault, uses_fault}
+use Rattle.wit_first.specs.UseFaults.{item_uses_fault, use_fault}
 use Rattle.wit_first.proofs.Bridge.{in_only, or_none_both}
 use Rattle.wit_first.proofs.First.{in-append}
 use Rattle.wit_scopes.specs.BorrowedNames.{name_view}
@@ -11,6 +11,7 @@ use Rattle.wit_items.specs.NamesInside.{written_items, side_uses}
 use Rattle.wit_items.specs.InlineNames.{names_written, inside_view}
 use Rattle.wit_items.proofs.UsableNames.{among_flat}
 use Rattle.wit_items.proofs.WrittenNames.{items_names, names_written_in}
+use Rattle.wit_first.specs.First.{first_in}
 
 pub items_uses : (xs : List InterfaceItem) → flat_map part_uses (map interface_part xs) ≡ flat_map item_uses xs
 items_uses [] = refl
@@ -31,30 +32,30 @@ none_on side (interface_item.TypeDef d ∷ xs) = none_on side xs
 none_on side (interface_item.Use u ∷ xs) = none_on side xs
 none_on side (interface_item.Func f ∷ xs) = none_on side xs
 
-pub interface_uses : (files : List PackageFile) (top : List TopName) (i : Interface) → item_uses_fault files (record { top = top; declared = TheInterface i }) ≡ uses_fault files top (flat_map item_uses i.items.items)
+pub interface_uses : (files : List PackageFile) (top : List TopName) (i : Interface) → item_uses_fault files (record { top = top; declared = TheInterface i }) ≡ first_in (use_fault files top) (flat_map item_uses i.items.items)
 interface_uses files top i =
     let ps = map interface_part i.items.items in
     let own = flat_map own_uses ps in
-    ap (λ l. uses_fault files top (own ++ (l ++ flat_map (side_uses Exported) ps))) (none_on Imported i.items.items)
-    ∙ ap (λ l. uses_fault files top (own ++ l)) (none_on Exported i.items.items)
-    ∙ ap (uses_fault files top) (append-nil own ∙ own_items i.items.items)
+    ap (λ l. first_in (use_fault files top) (own ++ (l ++ flat_map (side_uses Exported) ps))) (none_on Imported i.items.items)
+    ∙ ap (λ l. first_in (use_fault files top) (own ++ l)) (none_on Exported i.items.items)
+    ∙ ap (first_in (use_fault files top)) (append-nil own ∙ own_items i.items.items)
 
 -- of a world: its own, and then those on either side
-pub world_uses : (files : List PackageFile) (top : List TopName) (ps : List Part) → uses_fault files top (walk own_uses (λ (x : Extern). inline_uses x.kind) ps) ≡ option_or (uses_fault files top (flat_map own_uses ps)) (option_or (uses_fault files top (flat_map (side_uses Imported) ps)) (uses_fault files top (flat_map (side_uses Exported) ps)))
+pub world_uses : (files : List PackageFile) (top : List TopName) (ps : List Part) → first_in (use_fault files top) (walk own_uses (λ (x : Extern). inline_uses x.kind) ps) ≡ option_or (first_in (use_fault files top) (flat_map own_uses ps)) (option_or (first_in (use_fault files top) (flat_map (side_uses Imported) ps)) (first_in (use_fault files top) (flat_map (side_uses Exported) ps)))
 world_uses files top ps =
     in-append (use_fault files top) (flat_map own_uses ps) (flat_map (side_uses Imported) ps ++ flat_map (side_uses Exported) ps)
-    ∙ ap (option_or (uses_fault files top (flat_map own_uses ps))) (in-append (use_fault files top) (flat_map (side_uses Imported) ps) (flat_map (side_uses Exported) ps))
+    ∙ ap (option_or (first_in (use_fault files top) (flat_map own_uses ps))) (in-append (use_fault files top) (flat_map (side_uses Imported) ps) (flat_map (side_uses Exported) ps))
 
 -- nothing is wrong with a `use` of parts, where nothing is wrong with their own, nor with those that are written on either side
-module _ (files : List PackageFile) (top : List TopName) (ps : List Part) (none : uses_fault files top (walk own_uses (λ (x : Extern). inline_uses x.kind) ps) ≡ None) where
-  both : (uses_fault files top (flat_map own_uses ps) ≡ None) × (option_or (uses_fault files top (flat_map (side_uses Imported) ps)) (uses_fault files top (flat_map (side_uses Exported) ps)) ≡ None)
-  both = or_none_both (uses_fault files top (flat_map own_uses ps)) (option_or (uses_fault files top (flat_map (side_uses Imported) ps)) (uses_fault files top (flat_map (side_uses Exported) ps))) (sym (world_uses files top ps) ∙ none)
+module _ (files : List PackageFile) (top : List TopName) (ps : List Part) (none : first_in (use_fault files top) (walk own_uses (λ (x : Extern). inline_uses x.kind) ps) ≡ None) where
+  both : (first_in (use_fault files top) (flat_map own_uses ps) ≡ None) × (option_or (first_in (use_fault files top) (flat_map (side_uses Imported) ps)) (first_in (use_fault files top) (flat_map (side_uses Exported) ps)) ≡ None)
+  both = or_none_both (first_in (use_fault files top) (flat_map own_uses ps)) (option_or (first_in (use_fault files top) (flat_map (side_uses Imported) ps)) (first_in (use_fault files top) (flat_map (side_uses Exported) ps))) (sym (world_uses files top ps) ∙ none)
 
-  on_side : (side : WorldSide) → uses_fault files top (flat_map (side_uses side) ps) ≡ None
-  on_side Imported = (or_none_both (uses_fault files top (flat_map (side_uses Imported) ps)) (uses_fault files top (flat_map (side_uses Exported) ps)) both.1).0
-  on_side Exported = (or_none_both (uses_fault files top (flat_map (side_uses Imported) ps)) (uses_fault files top (flat_map (side_uses Exported) ps)) both.1).1
+  on_side : (side : WorldSide) → first_in (use_fault files top) (flat_map (side_uses side) ps) ≡ None
+  on_side Imported = (or_none_both (first_in (use_fault files top) (flat_map (side_uses Imported) ps)) (first_in (use_fault files top) (flat_map (side_uses Exported) ps)) both.1).0
+  on_side Exported = (or_none_both (first_in (use_fault files top) (flat_map (side_uses Imported) ps)) (first_in (use_fault files top) (flat_map (side_uses Exported) ps)) both.1).1
 
-  right_in : (us : List WrittenUse) (u : WrittenUse) → uses_fault files top us ≡ None → Contains us u → use_fault files top u ≡ None
+  right_in : (us : List WrittenUse) (u : WrittenUse) → first_in (use_fault files top) us ≡ None → Contains us u → use_fault files top u ≡ None
   right_in us u right among = (let it = at_contains us u among in in_only (use_fault files top) us right it.0 u it.1)
 
   pub right_use : (u : WrittenUse) → Contains (flat_map part_uses ps) u → use_fault files top u ≡ None
@@ -88,7 +89,3 @@ interface_inside side top i = names_written_in top side (map interface_part i.it
 pub inside_is : (i : Borrowed) (w : Item) → map (λ ns. map name_view ns.items) i.imported.items ≡ names_written Imported w → map (λ ns. map name_view ns.items) i.exported.items ≡ names_written Exported w → (side : WorldSide) → inside_view side i ≡ names_written side w
 inside_is i w imported exported Imported = imported
 inside_is i w imported exported Exported = exported
-
-pub inside_none : (side : WorldSide) → map (inside_view side) [] ≡ []
-inside_none Imported = refl
-inside_none Exported = refl

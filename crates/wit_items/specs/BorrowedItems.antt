@@ -1,16 +1,14 @@
--- Declared items that are borrowed, and whether their uses break a rule.
-use Rattle.std.specs.Prelude.{◌≡◌, ℕ, List, Some, Contains, map, slice_get}
+-- Declared items that are borrowed.
+use Rattle.std.specs.Prelude.{◌≡◌, List, Some, Contains, map, slice_get}
 use Rattle.wit_tree.specs.declared.tree.PackageFile.{PackageFile}
 use Rattle.wit_syntax.specs.Address.{Address}
 use Rattle.wit_syntax.specs.Source.{top_names, Declared, TheInterface, TheWorld, TheInline, Item, all_items, ScopeName}
-use Rattle.wit_syntax.specs.ScopeTables.{uses}
 use Rattle.wit_syntax.specs.Foreign.{visited, foreign_worlds}
 use Rattle.wit_items.specs.declared.items.Declared.{Declared as BorrowedDeclared}
 use Rattle.wit_items.specs.declared.items.Declared.TheVariants as borrowed_item
 use Rattle.wit_items.specs.declared.items.Item.{Item as Borrowed}
 use Rattle.wit_items.specs.declared.items.ItemScope.{ItemScope as BorrowedScope}
 use Rattle.wit_scopes.specs.BorrowedNames.{name_view}
-use Rattle.wit_items.specs.ItemPaths.{AreSound}
 
 -- the interface or the world that is borrowed
 abbrev pub declared_view : BorrowedDeclared → Declared
@@ -35,14 +33,6 @@ pub record IsFiled (files : List PackageFile) (i : Borrowed) : Type 0 where
   pub file : slice_get files i.place ≡ Some i.file.now
   pub among : Contains (all_items files) (item_view i)
 
--- each of these is one
-pub record AreFiled (files : List PackageFile) (items : List Borrowed) : Type 0 where
-  pub each : (k : ℕ) (i : Borrowed) → slice_get items k ≡ Some i → IsFiled files i
-
 -- the addresses of other packages' worlds
 abbrev pub others_of : List PackageFile → List Address
 others_of files = map visited (foreign_worlds files)
-
--- nothing is wrong with the uses of these items
-pub record HaveSoundUses (files : List PackageFile) (own : List Item) : Type 0 where
-  pub each : (i : Item) → Contains own i → AreSound files i.top (uses i)

@@ -1,5 +1,5 @@
 -- The names of interfaces that are written in worlds.
-use Rattle.std.specs.Prelude.{if◌then◌else◌, List, [], ◌∷◌, map}
+use Rattle.std.specs.Prelude.{List, [], ◌∷◌, map}
 use Rattle.std.specs.List.{flat_map}
 use Rattle.wit_tree.specs.declared.tree.Extern.{Extern}
 use Rattle.wit_tree.specs.declared.tree.ExternKind.{ExternKind}
@@ -8,9 +8,9 @@ use Rattle.wit_tree.specs.declared.tree.InterfaceItem.{InterfaceItem}
 use Rattle.wit_tree.specs.declared.tree.Use.{Use}
 use Rattle.wit_tree.specs.declared.tree.World.{World}
 use Rattle.wit_tree.specs.declared.tree.WorldSide.{WorldSide}
-use Rattle.wit_syntax.specs.ExternPart.{same_side, inline_uses}
-use Rattle.wit_syntax.specs.Source.{TopName, at_side, interface_part, part_names, world_part, Part, DefinitionPart, UsePart, IncludePart, FunctionPart, ExternPart, ScopeName}
-use Rattle.wit_syntax.specs.Sides.{SideItem, SideFunction, SideLink, SideInline, items_on, part_items}
+use Rattle.wit_syntax.specs.ExternPart.{inline_uses}
+use Rattle.wit_syntax.specs.Source.{TopName, at_side, interface_part, part_names, world_part, Part, ScopeName}
+use Rattle.wit_syntax.specs.Sides.{SideItem, SideInline}
 
 -- the parts of a world
 abbrev pub world_parts : World → List Part
@@ -18,28 +18,17 @@ world_parts world = map world_part world.items.items
 
 -- the names of the interface that it is, if it is written there
 abbrev pub inline_names : List TopName → SideItem → List (List ScopeName)
-inline_names top (SideFunction fn) = []
-inline_names top (SideLink link) = []
 inline_names top (SideInline x name items) = flat_map (part_names top) (map interface_part items) ∷ []
-
--- the names of each interface that is written on a side of a world
-abbrev pub names_inside : List TopName → WorldSide → World → List (List ScopeName)
-names_inside top side world = flat_map (inline_names top) (items_on side (flat_map part_items (world_parts world)))
+inline_names top _ = []
 
 -- the items of the interface that it is, if it is written there
 abbrev pub kind_items : ExternKind → List (List InterfaceItem)
 kind_items (extern.Interface name items) = items.items ∷ []
-kind_items (extern.Path path) = []
-kind_items (extern.Func name f) = []
-kind_items (extern.NamedPath name path) = []
+kind_items _ = []
 
 -- those of a part, if it is on a side
 abbrev pub written_items : WorldSide → Part → List (List InterfaceItem)
-written_items side (DefinitionPart d) = []
-written_items side (UsePart u) = []
-written_items side (IncludePart i) = []
-written_items side (FunctionPart f) = []
-written_items side (ExternPart x) = if same_side side x.side then kind_items x.kind else []
+written_items side part = at_side (λ (x : Extern). kind_items x.kind) side part
 
 -- the uses of the interface that is written in a part, if it is on a side
 abbrev pub side_uses : WorldSide → Part → List Use

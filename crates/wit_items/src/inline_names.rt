@@ -1,16 +1,17 @@
 //! The names of the interfaces that are written in a world.
-ghost use Rattle.std.specs.Prelude.{◌≡◌, All, map, IfOk};
+ghost use Rattle.std.specs.Prelude.{◌≡◌, map, IfOk};
 ghost use Rattle.std.specs.List.{flat_map};
 ghost use Rattle.std.specs.Option.{option_copied, option_to_list};
 ghost use Rattle.wit_syntax.specs.Source.{TheWorld, world_part as the_world_part};
-ghost use Rattle.wit_first.specs.First.{Finds};
-ghost use Rattle.wit_first.specs.UseFaults.{uses_fault};
+ghost use Rattle.wit_first.specs.First.{Finds, first_in};
+ghost use Rattle.wit_first.specs.UseFaults.{use_fault};
 ghost use Rattle.wit_files.specs.FileNames.{top_at};
 ghost use Rattle.wit_items.specs.ForeignAddresses.{prefix_of};
-ghost use Rattle.wit_items.specs.ItemPaths.{HasItem};
-ghost use Rattle.wit_items.specs.NamesInside.{kind_items, names_inside as the_names_inside, side_uses, world_parts, written_items};
+ghost use Rattle.wit_items.specs.InlineNames.{names_written};
+ghost use Rattle.wit_items.specs.ItemPaths.{HasItem, item_in};
+ghost use Rattle.wit_items.specs.NamesInside.{kind_items, side_uses, world_parts, written_items};
+ghost use Rattle.wit_items.specs.PlacedItems.{ArePlacedInside};
 ghost use Rattle.wit_scopes.specs.BorrowedNames.{name_view};
-ghost use Rattle.wit_scopes.specs.PlacedNames.{AreNamesPlaced};
 
 use crate::files::Files;
 use crate::part_names::interface_names;
@@ -57,9 +58,9 @@ pub fn names_inside<'f, 'a>(
     place: usize,
 ) -> ParseResult<Vec<Vec<ScopeName<'f, 'a>>>>
     requires item { HasItem files.now place (TheWorld world.now) }
-    ensures names { IfOk result (λ inside. map (λ ns. map name_view ns.items) inside.items ≡ the_names_inside (top_at files.now place) side world.now) }
-    ensures placed { IfOk result (λ inside. All (λ ns. AreNamesPlaced (prefix_of files.now) ns.items) inside.items) }
-    ensures first { Finds (uses_fault files.now (top_at files.now place) (flat_map (side_uses side) (world_parts world.now))) result }
+    ensures names { IfOk result (λ inside. map (λ ns. map name_view ns.items) inside.items ≡ names_written side (item_in files.now place (TheWorld world.now))) }
+    ensures placed { IfOk result (λ inside. ArePlacedInside (prefix_of files.now) inside.items) }
+    ensures first { Finds (first_in (use_fault files.now (top_at files.now place)) (flat_map (side_uses side) (world_parts world.now))) result }
 {
     let mut inside = Vec::new(alloc);
     for part in world_items(world) {

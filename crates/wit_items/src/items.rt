@@ -1,23 +1,15 @@
 //! The declared items of all files, each with the names of its scope.
 ghost use Rattle.std.specs.Prelude.{◌≡◌, ◌++◌, Some, map, slice_get, IfOk, OnOk};
-ghost use Rattle.wit_tree.specs.declared.tree.WorldSide.{WorldSide as TheSide};
-ghost use Rattle.wit_syntax.specs.Source.{scope_names, file_items, all_items};
-ghost use Rattle.wit_syntax.specs.Foreign.{visited, foreign_interfaces};
+ghost use Rattle.wit_syntax.specs.Source.{file_items, all_items};
 ghost use Rattle.wit_first.specs.First.{Finds, first_in};
 ghost use Rattle.wit_first.specs.UseFaults.{all_uses_fault, item_uses_fault};
-ghost use Rattle.wit_scopes.specs.BorrowedNames.{name_view};
-ghost use Rattle.wit_items.specs.ItemPaths.{AreEntriesOf};
-ghost use Rattle.wit_items.specs.BorrowedItems.{item_view, names_view, scope_item, AreFiled};
-ghost use Rattle.wit_items.specs.ForeignAddresses.{prefix_of};
-ghost use Rattle.wit_items.specs.InlineNames.{AddsWritten, inside_view, names_written};
-ghost use Rattle.wit_items.specs.PlacedItems.{AreItemsPlaced};
+ghost use Rattle.wit_items.specs.BorrowedItems.{item_view, scope_item};
+ghost use Rattle.wit_items.specs.Gathered.{AreItemsOf};
 
 use crate::files::Files;
 use crate::inline_names::names_inside;
 use crate::part_names::{interface_names, world_names};
 use std::alloc::Global;
-use wit_files::FileNames;
-use wit_model::AstItem as Entry;
 use wit_scopes::scope_name::ScopeName;
 use wit_top_names::declarations;
 use wit_tree::ParseResult;
@@ -92,7 +84,6 @@ impl<'f, 'a> Item<'f, 'a> {
     /// The item with its names, but for those of what is written in it.
     pub fn scope(&self) -> ItemScope<'f, 'a, '_>
         ensures item { scope_item result ≡ item_view self.now }
-        ensures names { map name_view result.names.now ≡ names_view self.now }
         ensures borrowed { result.names.now ≡ self.now.names.items }
     {
         ItemScope {
@@ -113,10 +104,7 @@ fn add_items<'f, 'a>(
 ) -> ParseResult<()>
     requires file { slice_get files.now place ≡ Some file.now }
     ensures items { OnOk result (map item_view items.new.items ≡ map item_view items.old.items ++ file_items file.now) }
-    ensures names { OnOk result (map names_view items.new.items ≡ map names_view items.old.items ++ map scope_names (file_items file.now)) }
-    ensures inside { OnOk result (AddsWritten items.old.items items.new.items (file_items file.now)) }
-    ensures filed { OnOk result (AreFiled files.now items.old.items → AreFiled files.now items.new.items) }
-    ensures placed { OnOk result (AreItemsPlaced (prefix_of files.now) items.old.items → AreItemsPlaced (prefix_of files.now) items.new.items) }
+    ensures each { OnOk result (AreItemsOf files.now items.old.items → AreItemsOf files.now items.new.items) }
     ensures first { Finds (first_in (item_uses_fault files.now) (file_items file.now)) result }
 {
     let declared = declarations(file);
@@ -150,8 +138,11 @@ fn add_items<'f, 'a>(
     Ok(())
 }
 
-/// The items of all files, in push order and then in source order.
-fn add_all<'f, 'a>(
+/// The items of all files, in push order and then in source order, with room for so many.
+///
+/// A `use` in an item is refused whose attributes break a rule (30 to 35), which leads to no item (7),
+/// or to a world (10).
+pub fn declared_items<'f, 'a>(
     alloc: Global,
     names: &Files<'_, '_, 'f, 'a>,
     files: &'f [PackageFile<'a>],
@@ -159,10 +150,7 @@ fn add_all<'f, 'a>(
 ) -> ParseResult<Vec<Item<'f, 'a>>>
     requires files { names.now ≡ files.now }
     ensures items { IfOk result (λ items. map item_view items.items ≡ all_items names.now) }
-    ensures names { IfOk result (λ items. map names_view items.items ≡ map scope_names (all_items names.now)) }
-    ensures inside { IfOk result (λ items. (side : TheSide) → map (inside_view side) items.items ≡ map (names_written side) (all_items names.now)) }
-    ensures filed { IfOk result (λ items. AreFiled names.now items.items) }
-    ensures placed { IfOk result (λ items. AreItemsPlaced (map visited (foreign_interfaces names.now)) items.items) }
+    ensures each { IfOk result (λ items. AreItemsOf names.now items.items) }
     ensures first { Finds (all_uses_fault names.now) result }
 {
     let mut items = Vec::with_capacity(alloc, room)?;
@@ -170,28 +158,4 @@ fn add_all<'f, 'a>(
         add_items(alloc, names, file, &mut items, place)?;
     }
     Ok(items)
-}
-
-/// The items of all files, in push order and then in source order.
-///
-/// A `use` in an item is refused whose attributes break a rule (30 to 35), which leads to no item (7),
-/// or to a world (10).
-/// `entries` are those of other packages' items.
-pub fn declared_items<'f, 'a>(
-    alloc: Global,
-    names: &FileNames<'f, 'a>,
-    files: &'f [PackageFile<'a>],
-    entries: &[Entry],
-) -> ParseResult<Vec<Item<'f, 'a>>>
-    requires files { names.now ≡ files.now }
-    requires entries { AreEntriesOf names.now entries.now }
-    ensures items { IfOk result (λ items. map item_view items.items ≡ all_items names.now) }
-    ensures names { IfOk result (λ items. map names_view items.items ≡ map scope_names (all_items names.now)) }
-    ensures inside { IfOk result (λ items. (side : TheSide) → map (inside_view side) items.items ≡ map (names_written side) (all_items names.now)) }
-    ensures filed { IfOk result (λ items. AreFiled names.now items.items) }
-    ensures placed { IfOk result (λ items. AreItemsPlaced (map visited (foreign_interfaces names.now)) items.items) }
-    ensures first { Finds (all_uses_fault names.now) result }
-{
-    let all = Files::of(names, entries);
-    add_all(alloc, &all, files, names.item_order().len())
 }

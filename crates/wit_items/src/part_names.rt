@@ -1,17 +1,16 @@
 //! The names that the parts of an item bring.
-ghost use Rattle.std.specs.Prelude.{◌≡◌, ◌++◌, Contains, map, IfOk, OnOk};
+ghost use Rattle.std.specs.Prelude.{◌≡◌, ◌++◌, ◌∷◌, [], Contains, List, map, IfOk, OnOk};
 ghost use Rattle.std.specs.List.{flat_map};
 ghost use Rattle.wit_tree.specs.declared.tree.Use.{Use as TheUse};
 ghost use Rattle.wit_syntax.specs.ExternPart.{item_uses};
-ghost use Rattle.wit_syntax.specs.Source.{TheWorld, interface_part as the_interface_part, world_part as the_world_part, part_names, path_scope};
-ghost use Rattle.wit_first.specs.First.{Finds};
-ghost use Rattle.wit_first.specs.UseFaults.{own_uses, use_fault, uses_fault};
+ghost use Rattle.wit_syntax.specs.Source.{Part as ThePart, TheWorld, leads, interface_part as the_interface_part, world_part as the_world_part};
+ghost use Rattle.wit_first.specs.First.{Finds, first_in};
+ghost use Rattle.wit_first.specs.UseFaults.{use_fault};
+ghost use Rattle.wit_syntax.specs.ScopeTables.{own_uses};
 ghost use Rattle.wit_files.specs.FileNames.{top_at};
-ghost use Rattle.wit_scopes.specs.BorrowedNames.{source_view, name_view, IsPlaced};
-ghost use Rattle.wit_items.specs.ForeignAddresses.{prefix_of};
 ghost use Rattle.wit_items.specs.NamesInside.{world_parts};
-ghost use Rattle.wit_items.specs.ItemPaths.{part_view, HasItem, HasPath};
-ghost use Rattle.wit_scopes.specs.PlacedNames.{AreNamesPlaced};
+ghost use Rattle.wit_items.specs.ItemPaths.{part_view, HasItem, HasPath, IsSourceOf};
+ghost use Rattle.wit_items.specs.PlacedItems.{AreNamesOf};
 
 use crate::files::Files;
 use crate::resolved_path::path_source;
@@ -64,8 +63,7 @@ fn sound_source<'f, 'a>(
     used: &'f Use<'a>,
 ) -> ParseResult<Source<'f, 'a>>
     requires path { HasPath files.now place used.now.from }
-    ensures source { IfOk result (λ source. source_view source ≡ path_scope (top_at files.now place) used.now.from) }
-    ensures placed { IfOk result (λ source. IsPlaced (prefix_of files.now) source) }
+    ensures source { IfOk result (IsSourceOf files.now (leads (top_at files.now place) used.now.from)) }
     ensures first { Finds (use_fault files.now (top_at files.now place) used.now) result }
 {
     check_metadata(alloc, &used.attributes)?;
@@ -81,9 +79,8 @@ fn add_part<'f, 'a>(
     part: Part<'f, 'a>,
 ) -> ParseResult<()>
     requires paths { (u : TheUse) → Contains (own_uses (part_view part)) u → HasPath files.now place u.from }
-    ensures names { OnOk result (map name_view names.new.items ≡ map name_view names.old.items ++ part_names (top_at files.now place) (part_view part.entry)) }
-    ensures placed { OnOk result (AreNamesPlaced (prefix_of files.now) names.old.items → AreNamesPlaced (prefix_of files.now) names.new.items) }
-    ensures first { Finds (uses_fault files.now (top_at files.now place) (own_uses (part_view part.entry))) result }
+    ensures names { OnOk result ((ps : List ThePart) → AreNamesOf files.now place ps names.old.items → AreNamesOf files.now place (ps ++ part_view part.entry ∷ []) names.new.items) }
+    ensures first { Finds (first_in (use_fault files.now (top_at files.now place)) (own_uses (part_view part.entry))) result }
 {
     match part {
         Part::DefinitionPart(definition) => {
@@ -137,9 +134,8 @@ pub fn interface_names<'f, 'a>(
     place: usize,
 ) -> ParseResult<Vec<ScopeName<'f, 'a>>>
     requires paths { (u : TheUse) → Contains (flat_map item_uses items.now) u → HasPath files.now place u.from }
-    ensures names { IfOk result (λ names. map name_view names.items ≡ flat_map (part_names (top_at files.now place)) (map the_interface_part items.now)) }
-    ensures placed { IfOk result (λ names. AreNamesPlaced (prefix_of files.now) names.items) }
-    ensures first { Finds (uses_fault files.now (top_at files.now place) (flat_map item_uses items.now)) result }
+    ensures names { IfOk result (λ names. AreNamesOf files.now place (map the_interface_part items.now) names.items) }
+    ensures first { Finds (first_in (use_fault files.now (top_at files.now place)) (flat_map item_uses items.now)) result }
 {
     let mut names = Vec::with_capacity(alloc, interface_room(items))?;
     for part in items {
@@ -156,9 +152,8 @@ pub fn world_names<'f, 'a>(
     place: usize,
 ) -> ParseResult<Vec<ScopeName<'f, 'a>>>
     requires item { HasItem files.now place (TheWorld world.now) }
-    ensures names { IfOk result (λ names. map name_view names.items ≡ flat_map (part_names (top_at files.now place)) (world_parts world.now)) }
-    ensures placed { IfOk result (λ names. AreNamesPlaced (prefix_of files.now) names.items) }
-    ensures first { Finds (uses_fault files.now (top_at files.now place) (flat_map own_uses (world_parts world.now))) result }
+    ensures names { IfOk result (λ names. AreNamesOf files.now place (world_parts world.now) names.items) }
+    ensures first { Finds (first_in (use_fault files.now (top_at files.now place)) (flat_map own_uses (world_parts world.now))) result }
 {
     let written = world_items(world);
     let mut names = Vec::with_capacity(alloc, world_room(written))?;

@@ -1,8 +1,11 @@
 -- The names that are borrowed of the interfaces that are written in a world.
-use Rattle.std.proofs.Common.{◌≡◌, ℕ, suc, ◌+◌, ◌<◌, All, Bool, cond, List, [], ◌∷◌, ◌++◌, length, get_or, Some, map, refl, sym, ap, ◌∙◌, subst, arith}
-use Rattle.wit_syntax.proofs.Common.{All-get_or, Extern, Id, InterfaceItem, Item, ScopeName, SideFunction, SideInline, SideItem, SideLink, TopName, at_back, filter-append, flat_map, flat_map-append, inline_item, interface_part, item_inline, item_side, items_on, option_map, part_names, same_side, scope_names, side_items, side_itself, slice_get, slice_get-get_or, slice_get-map, slice_get_within}
+use Rattle.std.proofs.Common.{◌≡◌, ℕ, zero, suc, ◌+◌, ◌<◌, Bool, cond, List, [], ◌∷◌, ◌++◌, length, Some, Vec, Global, map, refl, ap, ◌∙◌, subst, arith}
+use Rattle.wit_syntax.proofs.Common.{Address, Extern, Id, InterfaceItem, Item, ScopeName, SideFunction, SideInline, SideItem, SideLink, TopName, at_back, filter-append, flat_map, flat_map-append, get_or_from_slice_get, inline_item, interface_part, item_inline, item_side, items_on, option_map, part_names, same_side, scope_names, side_items, side_itself, slice_get, slice_get-map, slice_get_within}
 use Rattle.wit_items.specs.NamesInside.{inline_names}
 use Rattle.wit_items.specs.InlineNames.{names_written}
+use Rattle.wit_items.specs.PlacedItems.{ArePlacedInside}
+use Rattle.wit_scopes.specs.BorrowedNames.{Borrowed, name_view}
+use Rattle.wit_scopes.specs.PlacedNames.{AreNamesPlaced}
 
 -- there are as many lists of names as interfaces
 names_count : (top : List TopName) (xs : List SideItem) → length (flat_map (inline_names top) xs) ≡ length (flat_map item_inline xs)
@@ -41,9 +44,19 @@ names_own borrowed i s xs rest x name items n place names same all count is at =
     let made : own ∷ [] ≡ scope_names s ∷ [] = ap (map scope_names) is in
     one ∙ head_same own (scope_names s) made
 
--- what was read of a list is one of it
-pub read_map : {X Y : Type 0} (f : X → Y) (xs : List X) (k : ℕ) (x : X) → k < length xs → x ≡ get_or xs k x → slice_get (map f xs) k ≡ Some (f x)
-read_map f xs k x lt is = slice_get-map f xs k ∙ ap (option_map f) (slice_get-get_or xs k x lt ∙ ap Some (sym is))
+-- what is lent of a list is of one of it
+lent_at : (vs : List (Vec Borrowed Global)) (k : ℕ) (names : List Borrowed) → option_map (λ (ns : Vec Borrowed Global). ns.items) (slice_get vs k) ≡ Some names → (v : Vec Borrowed Global) × (slice_get vs k ≡ Some v) × (v.items ≡ names)
+lent_at [] k names at = absurd (let f : ⊥ = cc in f)
+lent_at (v ∷ vs) zero names at = (v, refl, cc)
+lent_at (v ∷ vs) (suc k) names at = lent_at vs k names at
 
-pub read_all : {X : Type 0} (P : X → Type 0) (xs : List X) (k : ℕ) (x : X) → k < length xs → x ≡ get_or xs k x → All P xs → P x
-read_all P xs k x lt is all = subst P (sym is) (All-get_or P xs k x lt all)
+-- so it is seen, and placed
+pub lent_named : (vs : List (Vec Borrowed Global)) (k : ℕ) (names : List Borrowed) → option_map (λ (ns : Vec Borrowed Global). ns.items) (slice_get vs k) ≡ Some names → slice_get (map (λ (ns : Vec Borrowed Global). map name_view ns.items) vs) k ≡ Some (map name_view names)
+lent_named vs k names at =
+    let it = lent_at vs k names at in
+    slice_get-map (λ (ns : Vec Borrowed Global). map name_view ns.items) vs k ∙ ap (option_map (λ (ns : Vec Borrowed Global). map name_view ns.items)) it.1 ∙ ap (λ (l : List Borrowed). Some (map name_view l)) it.2
+
+pub lent_placed : (prefix : List Address) (vs : List (Vec Borrowed Global)) (k : ℕ) (names : List Borrowed) → option_map (λ (ns : Vec Borrowed Global). ns.items) (slice_get vs k) ≡ Some names → ArePlacedInside prefix vs → AreNamesPlaced prefix names
+lent_placed prefix vs k names at placed =
+    let it = lent_at vs k names at in
+    subst (AreNamesPlaced prefix) it.2 (subst (λ (ns : Vec Borrowed Global). AreNamesPlaced prefix ns.items) (get_or_from_slice_get vs k it.0 it.0 it.1) (placed k it.0 (slice_get_within vs k it.0 it.1)))

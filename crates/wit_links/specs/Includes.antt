@@ -1,15 +1,14 @@
 -- The first fault of includes: E30 to E34 and E11.
-use Rattle.std.specs.Prelude.{ℕ, if◌then◌else◌, List, Option, None, Some, is_none}
+use Rattle.std.specs.Prelude.{if◌then◌else◌, List, Option, None, Some, is_none}
 use Rattle.std.specs.Option.{option_or}
 use Rattle.wit_tree.specs.declared.tree.Include.{Include}
 use Rattle.wit_syntax.specs.Address.{Address}
-use Rattle.wit_syntax.specs.Source.{Declared, Item, TopName, leads, path_id}
+use Rattle.wit_syntax.specs.Source.{Item, TopName, leads, path_id}
 use Rattle.wit_syntax.specs.Fault.{Fault, interface_there}
 use Rattle.wit_syntax.specs.ScopeTables.{includes}
 use Rattle.wit_first.specs.AttributeFaults.{stability_fault}
 use Rattle.wit_first.specs.First.{first_in}
 use Rattle.wit_arena.specs.ResolvedArenas.{worlds_at}
-use Rattle.wit_files.specs.FileNames.{top_at}
 use Rattle.wit_items.specs.ItemPaths.{world_at}
 use Rattle.wit_items.specs.BorrowedItems.{others_of}
 use Rattle.wit_links.specs.declared.worlds.Worlds.{Worlds}
@@ -17,14 +16,6 @@ use Rattle.wit_links.specs.declared.worlds.Worlds.{Worlds}
 -- the addresses of the worlds that are resolved
 abbrev pub addresses_of : Worlds → List Address
 addresses_of ws = worlds_at (others_of ws.interfaces.now.files) ws.arena
-
--- the names at the top of the file at a place
-abbrev pub top_of : Worlds → ℕ → List TopName
-top_of ws place = top_at ws.interfaces.now.files place
-
--- what is declared in the file at a place, as an item
-abbrev pub item_in : Worlds → ℕ → Declared → Item
-item_in ws place declared = record { top = top_of ws place; declared = declared }
 
 -- the first fault of an include: its attributes, and then that its path leads to no world that is resolved
 abbrev pub included_fault : Worlds → List TopName → Include → Option Fault

@@ -1,17 +1,15 @@
 //! Includes of worlds.
-ghost use Rattle.std.specs.Prelude.{◌≡◌, ◌<◌, IfOk, length, map, true, string_bytes};
+ghost use Rattle.std.specs.Prelude.{◌≡◌, ◌<◌, ◌++◌, IfOk, codes, length, map, string_bytes};
 ghost use Rattle.std.specs.Option.{option_copied};
-ghost use Rattle.wit_syntax.specs.Source.{leads, TheWorld, IncludePart, about};
-ghost use Rattle.wit_syntax.specs.Words.{interface_words};
+ghost use Rattle.wit_syntax.specs.Source.{leads, TheWorld, IncludePart};
 ghost use Rattle.wit_first.specs.First.{Finds};
 ghost use Rattle.wit_arena.specs.Whole.{renamed, IsInclude, AreIncludes};
-ghost use Rattle.wit_items.specs.ItemPaths.{HasItem, HasPart, world_entry, world_at};
-ghost use Rattle.wit_items.specs.BorrowedItems.{declared_view};
-ghost use Rattle.wit_links.specs.Includes.{addresses_of, included_fault, includes_fault, item_in, top_of};
+ghost use Rattle.wit_files.specs.FileNames.{top_at};
+ghost use Rattle.wit_items.specs.ItemPaths.{HasItem, HasPart, world_at, world_entry, item_in};
+ghost use Rattle.wit_links.specs.Includes.{addresses_of, included_fault, includes_fault};
 
 use crate::worlds::Worlds;
 use std::alloc::{AllocError, Global};
-use wit_items::items::Declared;
 use wit_items::resolved_path::entry_of;
 use wit_model::{AstItem as Entry, IncludeName, WorldInclude};
 use wit_notes::attributes::check_stability;
@@ -40,7 +38,7 @@ fn renames(alloc: Global, names: &[tree::IncludeName<'_>]) -> Result<Row<Include
 
 /// The words for an include of an interface.
 fn not_a_world(alloc: Global, name: &str) -> Result<String, AllocError>
-    ensures { IfOk result (λ words. string_bytes words ≡ interface_words name.now) }
+    ensures { IfOk result (λ words. string_bytes words ≡ codes "name `" ++ (name.now ++ codes "` is defined as an interface, not a world")) }
 {
     format!(in alloc; "name `{name}` is defined as an interface, not a world")
 }
@@ -63,7 +61,7 @@ fn included_world<'f, 'a>(
     path: &'f UsePath<'a>,
 ) -> Option<WorldId>
     requires within { place < length worlds.now.interfaces.now.files }
-    ensures { result ≡ world_at worlds.now.interfaces.now.files worlds.now.by_name (leads (top_of worlds.now place) path.now) }
+    ensures { result ≡ world_at worlds.now.interfaces.now.files worlds.now.by_name (leads (top_at worlds.now.interfaces.now.files place) path.now) }
 {
     match worlds.interfaces.files.target(place, path) {
         Target::Local(id) => match worlds.by_name.get(id.name) {
@@ -83,8 +81,8 @@ fn resolve_include<'f, 'a>(
     include: &'f tree::Include<'a>,
 ) -> ParseResult<WorldInclude>
     requires part { HasPart worlds.now.interfaces.now.files place (IncludePart include.now) }
-    ensures is { IfOk result (λ i. IsInclude (addresses_of worlds.now) (top_of worlds.now place) include.now i) }
-    ensures first { Finds (included_fault worlds.now (top_of worlds.now place) include.now) result }
+    ensures is { IfOk result (λ i. IsInclude (addresses_of worlds.now) (top_at worlds.now.interfaces.now.files place) include.now i) }
+    ensures first { Finds (included_fault worlds.now (top_at worlds.now.interfaces.now.files place) include.now) result }
 {
     check_stability(alloc, &include.attributes)?;
     let path = path_id(&include.from);
@@ -113,16 +111,16 @@ fn include_count(world: &tree::World<'_>) -> usize {
     count
 }
 
-/// The includes of a world.
-fn resolve_includes<'f, 'a>(
+/// The includes of a declared world.
+pub fn resolve_includes<'f, 'a>(
     alloc: Global,
     world: &'f tree::World<'a>,
     worlds: &Worlds<'_, '_, '_, 'f, 'a>,
     place: usize,
 ) -> ParseResult<Row<WorldInclude>>
     requires item { HasItem worlds.now.interfaces.now.files place (TheWorld world.now) }
-    ensures are { IfOk result (λ includes. AreIncludes (addresses_of worlds.now) (item_in worlds.now place (TheWorld world.now)) includes) }
-    ensures first { Finds (includes_fault worlds.now (item_in worlds.now place (TheWorld world.now))) result }
+    ensures are { IfOk result (λ includes. AreIncludes (addresses_of worlds.now) (item_in worlds.now.interfaces.now.files place (TheWorld world.now)) includes) }
+    ensures first { Finds (includes_fault worlds.now (item_in worlds.now.interfaces.now.files place (TheWorld world.now))) result }
 {
     let mut includes = Vec::with_capacity(alloc, include_count(world))?;
     for part in world_items(world) {
@@ -132,22 +130,4 @@ fn resolve_includes<'f, 'a>(
         }
     }
     Ok(Row::from(includes))
-}
-
-/// The includes of a declared world.
-pub fn declared_includes<'f, 'a>(
-    alloc: Global,
-    declared: &Declared<'f, 'a>,
-    worlds: &Worlds<'_, '_, '_, 'f, 'a>,
-    place: usize,
-) -> ParseResult<Row<WorldInclude>>
-    requires sort { (about (declared_view declared.now)).is_world ≡ true }
-    requires item { HasItem worlds.now.interfaces.now.files place (declared_view declared.now) }
-    ensures are { IfOk result (λ includes. AreIncludes (addresses_of worlds.now) (item_in worlds.now place (declared_view declared.now)) includes) }
-    ensures first { Finds (includes_fault worlds.now (item_in worlds.now place (declared_view declared.now))) result }
-{
-    match declared {
-        Declared::World(world) => resolve_includes(alloc, *world, worlds, place),
-        Declared::Interface(_) | Declared::Inline(_) => unreachable!(),
-    }
 }

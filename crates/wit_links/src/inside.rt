@@ -1,15 +1,10 @@
 //! The interfaces that are written in a world, each as an item of its own.
-ghost use Rattle.std.specs.Prelude.{◌≡◌, ◌<◌, ◌+◌, ◌++◌, ◌∷◌, [], IfOk, List, Some, false, length, map, slice_get, true};
-ghost use Rattle.wit_tree.specs.declared.tree.WorldSide.{WorldSide as TheSide};
-ghost use Rattle.wit_syntax.specs.Address.{Address};
-ghost use Rattle.wit_syntax.specs.ExternPart.{same_side};
+ghost use Rattle.std.specs.Prelude.{◌≡◌, ◌<◌, ◌+◌, ◌++◌, ◌∷◌, [], IfOk, List, Some, length, slice_get, true};
+ghost use Rattle.std.specs.Option.{option_map};
 ghost use Rattle.wit_syntax.specs.Function.{SourceFunction};
 ghost use Rattle.wit_syntax.specs.Source.{TheWorld, about};
 ghost use Rattle.wit_syntax.specs.Sides.{SideFunction, SideItem};
-ghost use Rattle.wit_scopes.specs.PlacedNames.{AreNamesPlaced};
-ghost use Rattle.wit_scopes.specs.BorrowedNames.{name_view};
-ghost use Rattle.wit_items.specs.PlacedItems.{AreItemsPlaced};
-ghost use Rattle.wit_items.specs.InlineNames.{inside_view};
+ghost use Rattle.wit_items.specs.InlineNames.{inside_of, inside_view};
 ghost use Rattle.wit_items.specs.BorrowedItems.{declared_view, item_view, scope_item};
 ghost use Rattle.wit_links.specs.SideCounts.{IsInterfaceOn, IsSeen, inline_of, seen_on};
 
@@ -108,26 +103,6 @@ impl Seen {
         }
     }
 
-    /// With this on a side.
-    fn set(self, side: WorldSide, counts: Counts) -> Seen
-        ensures own { seen_on side result ≡ counts }
-        ensures other { (s : TheSide) → same_side s side ≡ false → seen_on s result ≡ seen_on s self }
-        ensures functions { result.functions ≡ self.functions }
-    {
-        match side {
-            WorldSide::Imported => Seen {
-                imports: counts,
-                exports: self.exports,
-                functions: self.functions,
-            },
-            WorldSide::Exported => Seen {
-                imports: self.imports,
-                exports: counts,
-                functions: self.functions,
-            },
-        }
-    }
-
     /// With one function more.
     pub fn with_function(self) -> Result<Seen, AllocError>
         ensures { IfOk result (λ seen. (xs : List SideItem) (fn : SourceFunction) → IsSeen xs self → IsSeen (xs ++ SideFunction fn ∷ []) seen) }
@@ -145,7 +120,18 @@ impl Seen {
         ensures { IfOk result (λ seen. (xs : List SideItem) (x : SideItem) → IsInterfaceOn side inline x → IsSeen xs self → IsSeen (xs ++ x ∷ []) seen) }
     {
         let counts = self.on(side).with(inline)?;
-        Ok(self.set(side, counts))
+        match side {
+            WorldSide::Imported => Ok(Seen {
+                imports: counts,
+                exports: self.exports,
+                functions: self.functions,
+            }),
+            WorldSide::Exported => Ok(Seen {
+                imports: self.imports,
+                exports: counts,
+                functions: self.functions,
+            }),
+        }
     }
 }
 
@@ -156,8 +142,7 @@ fn names_at<'i, 'f, 'a>(
     place: usize,
 ) -> &'i [ScopeName<'f, 'a>]
     requires { place < length (inside_view side item.now) }
-    ensures named { slice_get (inside_view side item.now) place ≡ Some (map name_view result.now) }
-    ensures placed { (prefix : List Address) → AreItemsPlaced prefix (item.now ∷ []) → AreNamesPlaced prefix result.now }
+    ensures { option_map (λ ns. ns.items) (slice_get (inside_of side item.now) place) ≡ Some result.now }
 {
     match side {
         WorldSide::Imported => &item.imported[place],
@@ -174,8 +159,7 @@ pub fn inside_scope<'i, 'f, 'a>(
 ) -> ItemScope<'f, 'a, 'i>
     requires within { before < length (inside_view inline.written.now.side item.now) }
     ensures item { scope_item result ≡ inline_of (item_view item.now) inline.entry }
-    ensures named { slice_get (inside_view inline.entry.written.now.side item.now) before ≡ Some (map name_view result.names.now) }
-    ensures placed { (prefix : List Address) → AreItemsPlaced prefix (item.now ∷ []) → AreNamesPlaced prefix result.names.now }
+    ensures names { option_map (λ ns. ns.items) (slice_get (inside_of inline.entry.written.now.side item.now) before) ≡ Some result.names.now }
 {
     ItemScope {
         file: item.file,

@@ -1,13 +1,19 @@
 -- Definitions of a scope in their order: what each needs comes before it.
-use Rattle.std.proofs.Common.{◌≡◌, ◌<◌, ℕ, zero, suc, Bool, true, List, [], ◌∷◌, ◌++◌, length, take, Option, Some, None, IsSome, inl, inr, refl, sym, ap, ◌∙◌, subst}
-use Rattle.wit_syntax.proofs.Common.{AllDiffer, AreDistinct, AreOwn, Defined, Fault, ForeignName, Id, ScopeName, Used, all_words, at_take, at_within, body_of, cases_Bool, cond-false, cond-true, cons_option, defined, either_at, filter, in_order, in_order_among, in_order_at, in_turn_distinct, is_defined, local_id, local_name, local_names, map, map-append, map_at, map_map, names_within, option_map, slice_get, slice_get-map, used, used_has, used_is}
+use Rattle.std.proofs.Common.{◌≡◌, ◌<◌, ℕ, zero, suc, Bool, true, List, [], ◌∷◌, ◌++◌, length, take, Option, Some, None, IsSome, inl, inr, refl, sym, ap, ◌∙◌, subst, Contains}
+use Rattle.wit_syntax.proofs.Common.{AllDiffer, AreDistinct, AreOwn, Defined, Fault, ForeignName, Id, ScopeName, Used, all_words, at_take, at_within, body_of, cases_Bool, cond-false, cond-true, cons_option, defined, either_at, filter, in_order, in_order_among, in_order_at, in_turn_distinct, is_defined, local_id, local_name, local_names, map, map-append, map_at, map_map, names_within, option_map, slice_get, slice_get-map, used, used_has, used_is, missing_type_at}
 use Rattle.wit_type_tree.specs.declared.types.TypeDef.{TypeDef as Definition}
 use Rattle.wit_arena.proofs.Common.{Env, HasNames}
-use Rattle.wit_arena.specs.Resolving.{IsUnknown}
 use Rattle.wit_arena.proofs.Scoping.{needed_earlier}
 use Rattle.wit_scopes.specs.BorrowedNames.{Borrowed, name_view}
 use Rattle.wit_scopes.specs.declared.scope_name.Named.TheVariants as borrowed
 use Rattle.wit_scopes.specs.DefinitionOrder.{AreOrdered, AreInTurn}
+
+-- a name means nothing yet
+pub record IsUnknown (env : Env) (ids : List Id) (f : Fault) : Type 0 where
+  pub id : Id
+  pub among : Contains ids id
+  pub free : env id.name.now ≡ None
+  pub is : f ≡ missing_type_at id
 
 -- what is at the first n places
 in_order-take : {X : Type 0} (xs : List X) (places : List ℕ) (n : ℕ) → ((j p : ℕ) → slice_get places j ≡ Some p → p < length xs) → in_order xs (take n places) ≡ take n (in_order xs places)

@@ -7,7 +7,7 @@ ghost use Rattle.wit_syntax.specs.Source.{local_id as the_local_id};
 ghost use Rattle.wit_first.specs.First.{FindsBy};
 ghost use Rattle.wit_first.specs.OrderFaults.{IsTypeOrderFault};
 ghost use Rattle.wit_scopes.specs.BorrowedNames.{name_view, use_view, definition_view};
-ghost use Rattle.wit_scopes.specs.DefinitionOrder.{AreOrdered, IsTurnOf, IsWritten, NeedNone};
+ghost use Rattle.wit_scopes.specs.DefinitionOrder.{IsTurnOf, IsWritten, NeedNone};
 
 use crate::by_place::in_order;
 use crate::distinct::{add_definition_ids, used_ids};
@@ -94,20 +94,6 @@ pub fn written_turn<'t, 'a>(
     turn_of(alloc, uses, written)
 }
 
-/// The definitions of a scope in the order of its table.
-fn sorted_definitions<'t, 'a>(
-    alloc: Global,
-    names: &[ScopeName<'t, 'a>],
-) -> ParseResult<Vec<DefinedName<'t, 'a>>>
-    requires distinct { AreDistinct (map name_view names.now) }
-    ensures ordered { IfOk result (λ ordered. AreOrdered (map name_view names.now) (map definition_view ordered.items)) }
-    ensures first { FindsBy (IsTypeOrderFault (map name_view names.now)) result }
-{
-    let places = scope_order(alloc, names)?;
-    let ordered = in_order(alloc, names, &places)?;
-    Ok(definitions(alloc, &ordered, 0)?)
-}
-
 /// Whether each name of a scope needs none.
 fn need_none(alloc: Global, names: &[ScopeName<'_, '_>]) -> Result<bool, AllocError>
     ensures { IfOk result (λ none. MatchBool none (NeedNone (map name_view names.now)) (NeedNone (map name_view names.now) → ⊥)) }
@@ -138,6 +124,8 @@ pub fn ordered_turn<'t, 'a>(
     if need_none(alloc, names)? {
         return Ok(written);
     }
-    let ordered = sorted_definitions(alloc, names)?;
-    Ok(turn_of(alloc, uses, ordered)?)
+    let places = scope_order(alloc, names)?;
+    let ordered = in_order(alloc, names, &places)?;
+    let sorted = definitions(alloc, &ordered, 0)?;
+    Ok(turn_of(alloc, uses, sorted)?)
 }

@@ -43,13 +43,9 @@ pub(crate) fn add_definition_ids<'a>(
 
 /// The texts of names.
 fn texts<'a>(alloc: Global, ids: &[Id<'a>]) -> Result<Vec<&'a str>, AllocError>
-    ensures { IfOk result (λ texts. map (λ text. text.now) texts.items ≡ map (λ id. id.name.now) ids.now) }
+    ensures { IfOk result (λ texts. texts.items ≡ map (λ id. id.name) ids.now) }
 {
-    let mut texts = Vec::with_capacity(alloc, ids.len())?;
-    for id in ids {
-        texts.push(id.name)?;
-    }
-    Ok(texts)
+    ids.iter().map(|id| id.name).collect(alloc)
 }
 
 /// Refuses a name that an earlier one has.

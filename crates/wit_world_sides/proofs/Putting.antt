@@ -9,12 +9,12 @@ use Rattle.wit_signatures.specs.ForeignName.{name_key, name_of_id}
 use Rattle.wit_externs.specs.Clash.{item_names, names_of_items}
 use Rattle.wit_externs.specs.Next.{linked_on}
 use Rattle.wit_world_sides.specs.declared.members.Members.{Members}
-use Rattle.wit_world_sides.specs.Members.{AreKeyed, Entry, Puts, bare_id, entry_sorted, key_names, key_places, names_among, places_among, text}
+use Rattle.wit_world_sides.specs.Members.{AreKeyed, Entry, Puts, bare_id, entry_sorted, key_names, key_places, text}
 use Rattle.wit_world_sides.specs.Settled.{AreCalled}
 use Rattle.wit_world_sides.specs.FilledSides.{entries_of, inserted_on}
 use Rattle.wit_world_sides.proofs.Keyed.{key_of, put_one}
 use Rattle.wit_world_sides.proofs.SideCalled.{IsCalled, called_both, called_put, none_called, types_called}
-use Rattle.wit_world_sides.proofs.SideKeys.{entry_names, entry_places, keys_apart, names_both, names_of, places_both, texts_differ, type_names, type_places}
+use Rattle.wit_world_sides.proofs.SideKeys.{entry_names, entry_places, keys_apart, names_among, names_both, names_of, places_among, places_both, texts_differ, type_names, type_places}
 
 -- no key is twice on a side
 pub keyed_differ : (m : Members) → AreKeyed m → (s : WorldSide) → AllDiffer (map key_of (entries_of s m.sides))

@@ -6,8 +6,15 @@ use Rattle.wit_model.specs.declared.world.WorldKey.TheVariants as key
 use Rattle.wit_refusals.specs.NameScopes.{Name}
 use Rattle.wit_signatures.specs.ForeignName.{name_of_id, name_key}
 use Rattle.wit_externs.specs.Clash.{item_names, names_of_items}
-use Rattle.wit_world_sides.specs.Members.{Entry, key_names, key_places, names_among, places_among, text}
+use Rattle.wit_world_sides.specs.Members.{Entry, key_names, key_places, text}
 use Rattle.wit_world_sides.proofs.Keyed.{key_of}
+
+-- the names and the places among the keys of entries
+abbrev pub names_among : List Entry → List (List ℕ)
+names_among es = flat_map key_names (map key_of es)
+
+abbrev pub places_among : List Entry → List ℕ
+places_among es = flat_map key_places (map key_of es)
 
 -- where elements differ, those after the first do, and it is none of them
 differ_tail : {X : Type 0} (x : X) (xs : List X) → AllDiffer (x ∷ xs) → AllDiffer xs

@@ -12,9 +12,9 @@ use Rattle.wit_model.specs.declared.world.WorldItem.{WorldItem}
 use Rattle.wit_model.specs.declared.world.WorldItem.TheVariants as item
 use Rattle.wit_syntax.specs.ExternPart.{same_side}
 use Rattle.wit_syntax.specs.Repeats.{AllDiffer}
-use Rattle.wit_syntax.specs.Sides.{Link, SideInline, SideItem, extern_link, item_side, items_on}
+use Rattle.wit_syntax.specs.Sides.{Link, SideInline, SideItem, SideLink, extern_link, item_side, items_on}
 use Rattle.wit_walk.specs.Members.{Sorted, item_sorted}
-use Rattle.wit_arena.specs.SideItems.{inline_entry, put_on}
+use Rattle.wit_arena.specs.SideItems.{inline_entry, link_item, put_on}
 use Rattle.wit_refusals.specs.NameScopes.{Name}
 use Rattle.wit_sides.specs.SideNames.{defined_on}
 use Rattle.wit_signatures.specs.ForeignName.{name_key, name_of_id}
@@ -56,18 +56,11 @@ key_places (key.Interface i) = i ∷ []
 abbrev pub text : Name → List ℕ
 text n = n.0
 
--- those of the keys of entries
-abbrev pub names_among : List Entry → List (List ℕ)
-names_among es = flat_map key_names (map (λ e. e.0) es)
-
-abbrev pub places_among : List Entry → List ℕ
-places_among es = flat_map key_places (map (λ e. e.0) es)
-
 -- the keys on each side are the names and the interfaces that are there, in order, of which no two are one; and functions are at
 -- their names
 pub record AreKeyed (m : Members) : Type 0 where
-  pub names : (s : WorldSide) → names_among (entries_of s m.sides) ≡ map text (defined_on s m.in_use)
-  pub places : (s : WorldSide) → places_among (entries_of s m.sides) ≡ linked_on s m.links
+  pub names : (s : WorldSide) → flat_map key_names (map (λ e. e.0) (entries_of s m.sides)) ≡ map text (defined_on s m.in_use)
+  pub places : (s : WorldSide) → flat_map key_places (map (λ e. e.0) (entries_of s m.sides)) ≡ linked_on s m.links
   pub differ : (s : WorldSide) → AllDiffer (map name_key (defined_on s m.in_use))
   pub apart : (s : WorldSide) → AllDiffer (linked_on s m.links)
   pub called : (s : WorldSide) → AreCalled (entries_of s m.sides)
@@ -80,13 +73,13 @@ pub record Puts (m m' : Members) (x : SideItem) (ids : List ℕ) (e : Entry) : T
   pub sorted : entry_sorted e ≡ item_sorted x
   pub keyed : AreKeyed m'
 
+-- so it was, where these keys are those there
+abbrev pub PutsOn : Members → Members → SideItem → List ℕ → Entry → Type 0
+PutsOn m m' x ids e = AreKeyed m → Puts m m' x ids e
+
 -- it is an interface on this side, under this name
 abbrev pub IsNamedOn : WorldSide → Id → SideItem → Type 0
 IsNamedOn side name x = (item_side x ≡ side) × (item_names x ≡ name_of_id name ∷ []) × (item_sorted x ≡ (name.name.now, codes "interface") ∷ [])
-
--- an inline interface was put on its side, under its name
-abbrev pub PutsInline : Members → Members → Extern → Id → ℕ → Type 0
-PutsInline m m' x name id = (items : List InterfaceItem) → Puts m m' (SideInline x name items) [] (inline_entry x name id)
 
 -- the interface that is imported or exported by its path
 abbrev pub path_link : PathExtern → Link
@@ -95,3 +88,10 @@ path_link p = extern_link p.written.now p.name p.path.now
 -- the place of an interface that has no name of its own
 abbrev pub bare_id : Option Id → ℕ → List ℕ
 bare_id name id = option_map_or (λ own. []) name (id ∷ [])
+
+-- an interface was put on its side by its path, or an inline one under its name
+abbrev pub PutsLink : Members → Members → PathExtern → ℕ → Type 0
+PutsLink m m' p id = PutsOn m m' (SideLink (path_link p)) (bare_id p.name id) (link_item (path_link p) id)
+
+abbrev pub PutsInline : Members → Members → Extern → Id → ℕ → Type 0
+PutsInline m m' x name id = (items : List InterfaceItem) → PutsOn m m' (SideInline x name items) [] (inline_entry x name id)

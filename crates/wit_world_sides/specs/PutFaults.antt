@@ -1,11 +1,10 @@
--- The first fault of a name and of a link that are put on a side of a world: E43, E44 and E17; and of the setters of a closed world: E18.
+-- The first fault of a name and of a link that are put on a side of a world: E43, E44 and E17.
 use Rattle.std.specs.Prelude.{◌&&◌, ℕ, if◌then◌else◌, nat_eq, Bool, List, None, Option, Some, is_none}
 use Rattle.std.specs.List.{list_any}
 use Rattle.std.specs.Option.{option_or}
 use Rattle.wit_values.specs.declared.span.Span.{Span}
 use Rattle.wit_tree.specs.declared.tree.WorldSide.{WorldSide}
 use Rattle.wit_syntax.specs.Fault.{Fault, linked_twice}
-use Rattle.wit_syntax.specs.Function.{SourceFunction}
 use Rattle.wit_syntax.specs.Sides.{Link, SideItem, SideLink, item_side}
 use Rattle.wit_syntax.specs.Source.{path_id}
 use Rattle.wit_first.specs.First.{first_in, repeat_of}
@@ -13,7 +12,7 @@ use Rattle.wit_walk.specs.Members.{crossed, is_extern}
 use Rattle.wit_refusals.specs.NameScopes.{Name}
 use Rattle.wit_sides.specs.SideNames.{defined_on}
 use Rattle.wit_sides.specs.declared.sides.Sides.{Sides}
-use Rattle.wit_externs.specs.AloneFaults.{again_fault, sides_setters}
+use Rattle.wit_externs.specs.AloneFaults.{again_fault}
 use Rattle.wit_externs.specs.Clash.{item_names}
 use Rattle.wit_externs.specs.Next.{linked_on}
 use Rattle.wit_world_sides.specs.Members.{sorted_on, text}
@@ -46,7 +45,3 @@ again_linked ids link id = if is_none link.name && list_any (nat_eq id) ids then
 -- of an interface at a place that is put on its side
 abbrev pub put_link_fault : Members → Link → ℕ → Option Fault
 put_link_fault m link id = option_or (again_linked (linked_on link.side m.links) link id) (put_fault m (SideLink link))
-
--- of the setters among functions, where the world of these is closed
-abbrev pub closed_fault : Bool → List SourceFunction → Option Fault
-closed_fault closed fns = if closed then sides_setters fns else None

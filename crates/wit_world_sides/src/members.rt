@@ -7,7 +7,7 @@ ghost use Rattle.wit_tree.specs.declared.tree.InterfaceItem.{InterfaceItem as Th
 ghost use Rattle.wit_tree.specs.declared.tree.WorldSide.{WorldSide as TheSide};
 ghost use Rattle.wit_model.specs.declared.world.WorldKey.TheVariants.{Name};
 ghost use Rattle.wit_syntax.specs.Repeats.{AllDiffer};
-ghost use Rattle.wit_syntax.specs.Sides.{SideFunction, SideInline, SideItem, SideLink, names_on};
+ghost use Rattle.wit_syntax.specs.Sides.{SideFunction, SideInline, SideItem, names_on};
 ghost use Rattle.wit_syntax.specs.Source.{ScopeName, local_id};
 ghost use Rattle.wit_first.specs.First.{Finds};
 ghost use Rattle.wit_arena.specs.SourceFunctions.{function_item};
@@ -22,13 +22,11 @@ ghost use Rattle.wit_externs.specs.AloneFaults.{defined_fault};
 ghost use Rattle.wit_externs.specs.Clash.{DefinesNames, StayApart};
 ghost use Rattle.wit_externs.specs.Next.{linked_on};
 ghost use Rattle.wit_walk.specs.Members.{sort_among};
-ghost use Rattle.wit_world_sides.specs.Members.{AreKeyed, IsNamedOn, Puts, PutsInline, bare_id, entry_sorted, item_word, path_link, sorted_on};
+ghost use Rattle.wit_world_sides.specs.Members.{AreKeyed, IsNamedOn, PutsInline, entry_sorted, item_word, path_link, sorted_on, PutsLink, PutsOn};
 ghost use Rattle.wit_world_sides.specs.PutFaults.{clash_fault, put_fault, put_link_fault, side_fault};
-ghost use Rattle.wit_syntax.specs.Words.{conflict, side_word};
+ghost use Rattle.wit_syntax.specs.Words.{side_word};
 
-use crate::sides::{
-    WorldSides, add_function, add_item, add_named, inline_item, named_sides, path_item,
-};
+use crate::sides::{WorldSides, add_item, inline_item, named_sides, path_item};
 use std::alloc::{AllocError, Global};
 use wit_externs::in_use::define_names;
 use wit_externs::links::Links;
@@ -41,6 +39,7 @@ use wit_sides::Sides;
 use wit_tree::tree::{Extern, Id, UsePath, WorldSide};
 use wit_tree::{ParseResult, Span};
 use wit_types::{InterfaceId, TypeId};
+use wit_values::Text;
 
 /// What is on the sides of a world so far.
 #[derive(Drop)]
@@ -105,7 +104,7 @@ fn side_word(side: WorldSide) -> &'static str
 
 /// The words for an import or an export that has the name of something on its side.
 fn conflict(alloc: Global, side: WorldSide, name: &str, what: &str) -> Result<String, AllocError>
-    ensures { IfOk result (λ words. string_bytes words ≡ conflict side name.now what.now) }
+    ensures { IfOk result (λ words. string_bytes words ≡ side_word side ++ (codes " `" ++ (name.now ++ (codes "` conflicts with prior " ++ (what.now ++ codes " of same name"))))) }
 {
     let word = side_word(side);
     format!(in alloc; "{word} `{name}` conflicts with prior {what} of same name")
@@ -172,14 +171,15 @@ pub fn put_function(
     borrowed: BorrowedFunction<'_, '_>,
     function: Function,
 ) -> ParseResult<()>
-    requires keyed { AreKeyed members.old }
     requires mangled { IsTrue (is_mangled function.name) }
     requires borrowed { name_of_made function ≡ name_of_function (function_view borrowed) }
-    ensures puts { OnOk result (Puts members.old members.new (SideFunction (function_view borrowed.entry)) [] (function_item function)) }
+    ensures puts { OnOk result (PutsOn members.old members.new (SideFunction (function_view borrowed.entry)) [] (function_item function)) }
     ensures first { Finds (put_fault members.old (SideFunction (function_view borrowed.entry))) result }
 {
     define_function(&mut members.in_use, &members.sides, borrowed, &function)?;
-    add_function(&mut members.sides, borrowed.side(), function)?;
+    let key = WorldKey::Name(function.name.clone()?);
+    let item = WorldItem::Function(function);
+    add_item(&mut members.sides, borrowed.side(), key, item)?;
     Ok(())
 }
 
@@ -194,9 +194,8 @@ fn put_named(
     name: Id<'_>,
     item: WorldItem,
 ) -> ParseResult<()>
-    requires keyed { AreKeyed members.old }
-    requires interface { item_word item ≡ codes "interface" }
-    ensures puts { OnOk result ((x : SideItem) → IsNamedOn side name.entry x → Puts members.old members.new x [] (Name name.entry.name.now, item)) }
+    requires { item_word item ≡ codes "interface" }
+    ensures puts { OnOk result ((x : SideItem) → IsNamedOn side name.entry x → PutsOn members.old members.new x [] (Name name.entry.name.now, item)) }
     ensures first { Finds (side_fault members.old.in_use members.old.sides side true (name_of_id name.entry)) result }
 {
     define_extern_part(
@@ -206,7 +205,8 @@ fn put_named(
         name.name,
         name.span,
     )?;
-    add_named(alloc, &mut members.sides, side, name.name, item)?;
+    let key = WorldKey::Name(Text::from_str(alloc, name.name)?);
+    add_item(&mut members.sides, side, key, item)?;
     Ok(())
 }
 
@@ -220,10 +220,9 @@ fn put_bare(
     id: InterfaceId,
     item: WorldItem,
 ) -> ParseResult<()>
-    requires keyed { AreKeyed members.old }
     requires bare { link.name ≡ None }
     requires interface { item ≡ (link_item (path_link link) id).1 }
-    ensures puts { OnOk result (Puts members.old members.new (SideLink (path_link link.entry)) (bare_id link.entry.name id) (link_item (path_link link.entry) id)) }
+    ensures puts { OnOk result (PutsLink members.old members.new link.entry id) }
     ensures first { Finds (put_link_fault members.old (path_link link.entry) id) result }
 {
     let side = link.written.side;
@@ -244,8 +243,7 @@ pub fn put_link(
     link: PathExtern<'_, '_>,
     id: InterfaceId,
 ) -> ParseResult<()>
-    requires { AreKeyed members.old }
-    ensures puts { OnOk result (Puts members.old members.new (SideLink (path_link link.entry)) (bare_id link.entry.name id) (link_item (path_link link.entry) id)) }
+    ensures puts { OnOk result (PutsLink members.old members.new link.entry id) }
     ensures first { Finds (put_link_fault members.old (path_link link.entry) id) result }
 {
     let item = path_item(alloc, link, id)?;
@@ -265,7 +263,6 @@ pub fn put_inline(
     name: Id<'_>,
     id: InterfaceId,
 ) -> ParseResult<()>
-    requires { AreKeyed members.old }
     ensures puts { OnOk result (PutsInline members.old members.new written.now name.entry id) }
     ensures first { (items : List TheItem) → Finds (put_fault members.old (SideInline written.now name.entry items)) result }
 {

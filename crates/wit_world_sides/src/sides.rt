@@ -10,7 +10,6 @@ ghost use Rattle.wit_model.specs.contracts.world.WorldKeyPartialEq.TheImpl.{eq-v
 ghost use Rattle.wit_syntax.specs.Metadata.{stability_of};
 ghost use Rattle.wit_syntax.specs.Repeats.{AllDiffer};
 ghost use Rattle.wit_syntax.specs.Source.{ScopeName, local_id};
-ghost use Rattle.wit_arena.specs.SourceFunctions.{function_item};
 ghost use Rattle.wit_arena.specs.SideItems.{inline_entry, link_item, link_span as the_link_span};
 ghost use Rattle.wit_arena.specs.Whole.{type_imports as the_imports};
 ghost use Rattle.wit_world_sides.specs.Members.{path_link};
@@ -109,34 +108,6 @@ pub(crate) fn add_item(
             sides.exports.put(key, item)?;
         }
     }
-    Ok(())
-}
-
-/// Puts a function at its name on a side.
-pub(crate) fn add_function(
-    sides: &mut WorldSides,
-    side: WorldSide,
-    function: Function,
-) -> Result<(), AllocError>
-    ensures { OnOk result ((s : TheSide) → entries_of s sides.new ≡ inserted_on s side (function_item function) (entries_of s sides.old)) }
-{
-    let key = WorldKey::Name(function.name.clone()?);
-    add_item(sides, side, key, WorldItem::Function(function))?;
-    Ok(())
-}
-
-/// Puts an item at a name of a side.
-pub(crate) fn add_named(
-    alloc: Global,
-    sides: &mut WorldSides,
-    side: WorldSide,
-    name: &str,
-    item: WorldItem,
-) -> Result<(), AllocError>
-    ensures { OnOk result ((s : TheSide) → entries_of s sides.new ≡ inserted_on s side (Name name.now, item) (entries_of s sides.old)) }
-{
-    let key = WorldKey::Name(Text::from_str(alloc, name)?);
-    add_item(sides, side, key, item)?;
     Ok(())
 }
 

@@ -1,15 +1,15 @@
 //! Setters of a world that includes nothing: each has its getter on its side, and comes after it.
-ghost use Rattle.std.specs.Prelude.{◌≡◌, List, IfOk, length, map};
+ghost use Rattle.std.specs.Prelude.{if◌then◌else◌, None, ◌≡◌, List, IfOk, length, map};
 ghost use Rattle.wit_tree.specs.declared.tree.Include.{Include};
-ghost use Rattle.wit_tree.specs.declared.tree.WorldSide.{WorldSide as TheSide};
-ghost use Rattle.wit_syntax.specs.Repeats.{AllDiffer};
 ghost use Rattle.wit_first.specs.First.{Finds};
 ghost use Rattle.wit_rules.specs.BorrowedFunctions.{function_view};
+ghost use Rattle.wit_externs.specs.AloneFaults.{sides_setters};
 ghost use Rattle.wit_externs.specs.Clash.{AreNamesWith};
-ghost use Rattle.wit_world_sides.specs.Settled.{none_of, AreCalled};
-ghost use Rattle.wit_world_sides.specs.FilledSides.{AreSettled, entries_of};
-ghost use Rattle.wit_world_sides.specs.PutFaults.{closed_fault};
+ghost use Rattle.wit_world_sides.specs.Settled.{none_of};
+ghost use Rattle.wit_world_sides.specs.FilledSides.{AreSettled};
+ghost use Rattle.wit_world_sides.specs.Members.{AreKeyed};
 
+use crate::members::Members;
 use crate::sides::WorldSides;
 use std::alloc::{AllocError, Global};
 use wit_externs::in_use::check_sides;
@@ -37,7 +37,7 @@ pub fn check_closed(
     names: &[Id<'_>],
 ) -> ParseResult<()>
     requires { AreNamesWith in_use.now names.now (map function_view functions.now) }
-    ensures first { Finds (closed_fault closed (map function_view functions.now)) result }
+    ensures first { Finds (if closed then sides_setters (map function_view functions.now) else None) result }
 {
     if closed {
         check_sides(functions, in_use, names)?;
@@ -46,11 +46,11 @@ pub fn check_closed(
 }
 
 /// What a world has on its sides: of a closed one with each setter after its getter.
-pub fn settle(alloc: Global, sides: WorldSides, closed: bool) -> Result<WorldSides, AllocError>
-    requires differ { (s : TheSide) → AllDiffer (map (λ e. e.0) (entries_of s sides)) }
-    requires called { (s : TheSide) → AreCalled (entries_of s sides) }
-    ensures { IfOk result (AreSettled closed sides) }
+pub fn settle(alloc: Global, members: Members, closed: bool) -> Result<WorldSides, AllocError>
+    requires { AreKeyed members }
+    ensures { IfOk result (AreSettled closed members.sides) }
 {
+    let sides = members.sides;
     if !closed {
         return Ok(sides);
     }

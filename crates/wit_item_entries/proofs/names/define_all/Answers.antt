@@ -36,21 +36,11 @@ returns-in_err-define-clause-first c =
     let before = c.loop-definition.invariant in
     let g = c.in_err-define.ensures.extended in
     let at : slice_get ds i ≡ Some (Defined d) = read_map definition_view c.args.definitions.now i c.definition-item.result c.loop-definition-test.true c.definition-item.is in
-    rw (q.1, q.2) (elim c.in_err-define.ensures.first [
-      | inl memory ↦ inl memory
-      | inr wrong ↦ inr (λ cs. record {
-        count = i;
-        mid = mid;
-        now = now;
-        defines = λ s. before.defines cs s;
-        more = g.more;
-        is = λ handle right. (
-            let ends : EndsIn (env_of now) new handle = subst (λ (es : List TypeDef). EndsIn (env_of now) es handle) (sym g.is) right in
-            let none = before.first handle (safe_arena (env_of now) mid new handle g (safe_of (env_of now) new handle ends)) in
-            let own = definition_same (env_of now) new handle ends d (meant_in old (env_of now) new handle ds i d c.requires.turn at before.kept before.has) in
-            in-at (definition_fault handle) ds i (Defined d) _ at none (sym own ∙ wrong));
-      })
-    ])
+    rw (q.1, q.2) (λ cs handle along. (
+    let ends : EndsIn (env_of now) new handle = subst (λ (es : List TypeDef). EndsIn (env_of now) es handle) (sym g.is) (along i mid g.more now (before.defines cs)) in
+    let none = before.first handle (safe_arena (env_of now) mid new handle g (safe_of (env_of now) new handle ends)) in
+    let own = definition_same (env_of now) new handle ends d (meant_in old (env_of now) new handle ds i d c.requires.turn at before.kept before.has) in
+    elim c.in_err-define.ensures.first [ inl memory ↦ inl memory | inr wrong ↦ inr (in-at (definition_fault handle) ds i (Defined d) _ at none (sym own ∙ wrong)) ]))
 
 pub loop-definition-preserved : goal.loop-definition-preserved
 loop-definition-preserved c =
@@ -67,19 +57,24 @@ loop-definition-preserved c =
     let prefix = names_in c.args.scope.now.names in
     let free : env_of old d.name.name.now ≡ None = next_free old prefix ds i (Defined d) before.listed c.requires.differ at in
     record {
-      defines = λ cs s. rw more (defines_more c.args.types.now c.loop-definition.types c.define.new.types cs o s c.args.scope.now.names old new (take i ds) (Defined d ∷ []) (before.defines cs s) (subst (λ (m : TypeOwner). Defines c.loop-definition.types c.define.new.types cs m s old new (Defined d ∷ [])) before.owner (e.defines cs s)));
-      owner = e.owner ∙ before.owner;
-      listed = rw more (listed_next old new prefix (take i ds) (Defined d) before.listed e.stored free);
-      handled = rw more (requires_next old new c.loop-definition.types c.define.new.types (take i ds) d _ _ _ e.stored free e.extended before.handled e.handled);
+      defines = λ cs s. rw more (defines_more c.args.types.now c.loop-definition.types c.define.new.types cs o s c.args.scope.now.names old new (take i ds) (Defined d ∷ []) (before.defines cs s) (subst (λ (m : TypeOwner). Defines c.loop-definition.types c.define.new.types cs m s old new (Defined d ∷ [])) before.owner (e.made.0 cs s)));
+      owner = e.made.1 ∙ before.owner;
+      listed = rw more (listed_next old new prefix (take i ds) (Defined d) before.listed e.made.2 free);
+      handled = rw more (requires_next old new c.loop-definition.types c.define.new.types (take i ds) d _ _ _ e.made.2 free e.extended before.handled e.handled);
       first = λ handle safe. (
-          let before_names = safe_names (env_of old) (env_of new) c.define.new.types handle (stored_kept old new d.name.name.now e.stored free) safe in
+          let before_names = safe_names (env_of old) (env_of new) c.define.new.types handle (stored_kept old new d.name.name.now e.made.2 free) safe in
           in-following (definition_fault handle) ds i (Defined d) at (before.first handle (safe_arena (env_of old) c.loop-definition.types c.define.new.types handle e.extended before_names)) (definition_safe (env_of old) c.define.new.types handle before_names d e.first));
-      kept = λ xs h. names_kept old new xs d.name.name.now (before.kept xs h) e.stored;
-      has = rw more (names_more old new (take i ds) (Defined d) before.has e.stored);
+      kept = λ xs h. names_kept old new xs d.name.name.now (before.kept xs h) e.made.2;
+      has = rw more (names_more old new (take i ds) (Defined d) before.has e.made.2);
       extended = extended_then c.args.types.now c.loop-definition.types c.define.new.types before.extended e.extended;
     }
 
 pub returns-clause-first : goal.returns-clause-first
-returns-clause-first c = λ handle safe.
+returns-clause-first c = λ cs handle along.
     let ds = map definition_view c.args.definitions.now in
-    in-all (definition_fault handle) ds c.loop-definition.definition-index (omega (arith, length-map c.args.definitions.now definition_view)) (c.loop-definition.invariant.first handle safe)
+    let i = c.loop-definition.definition-index in
+    let new = c.loop-definition.types in
+    let names = c.loop-definition.scope.names in
+    let was = c.loop-definition.invariant in
+    let ends : EndsIn (env_of names) new handle = subst (λ (es : List TypeDef). EndsIn (env_of names) es handle) (append-nil new) (along i new [] names (was.defines cs)) in
+    in-all (definition_fault handle) ds i (omega (arith, length-map c.args.definitions.now definition_view)) (was.first handle (safe_of (env_of names) new handle ends))

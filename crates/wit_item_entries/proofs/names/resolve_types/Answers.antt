@@ -1,14 +1,16 @@
-use Rattle.std.proofs.Common.{◌≡◌, ◌++◌, List, Some, map, inl, inr, ap, sym, ◌∙◌, subst}
-use Rattle.wit_syntax.proofs.Common.{AreDistinct, Id, defined, distinct_names, err_from_is_err_and, local_id, used}
-use Rattle.wit_arena.proofs.Common.{env_of, names_in}
+use Rattle.std.proofs.Common.{◌≡◌, ◌++◌, List, map, ap, sym, ◌∙◌, subst, []}
+use Rattle.wit_syntax.proofs.Common.{AreDistinct, Id, defined, distinct_names, err_from_is_err_and, local_id, used, Address, all_handles, flat_map, in_order, local_name, local_names, map-append, name_types}
+use Rattle.wit_arena.proofs.Common.{env_of, names_in, Defines, Required, ResolvedScope, defines_more}
 use Rattle.wit_arena.proofs.UsePart.{listed_has}
-use Rattle.wit_walk.proofs.Common.{IsTypeOrderFault, local_names_differ, local_names_fault}
+use Rattle.wit_walk.proofs.Common.{local_names_differ, local_names_fault, reports_back, reports_prefix, reports_same}
 use Rattle.wit_scopes.specs.BorrowedNames.{name_view, definition_view}
 use Rattle.wit_scopes.specs.DefinitionOrder.{AreOrdered}
-use Rattle.wit_item_entries.specs.ReachedFaults.{IsDefinitionsFault, IsOrderedFault}
-use Rattle.wit_item_entries.proofs.ReachedFaults.{by_weaker, definitions_first, definitions_none, twice_first, unordered_first}
+use Rattle.wit_item_entries.proofs.ReachedFaults.{definitions_found, done, failed, outcome_reported}
 use Rattle.wit_scopes.proofs.Turning.{in_their_turn, own_borrowed, differ_names, turn_differs}
 use Rattle.wit_item_entries.proofs.names.resolve_types.Goals as goal
+use Rattle.wit_type_tree.specs.declared.types.«Type».{«Type» as Written}
+use Rattle.wit_entries.specs.Requiring.{Requires}
+use Rattle.wit_item_entries.proofs.Handled.{types-in_turn}
 
 pub ordered_turn-requires-clause-distinct : goal.ordered_turn-requires-clause-distinct
 ordered_turn-requires-clause-distinct c =
@@ -31,22 +33,29 @@ define_all-requires c =
     }
 
 pub returns-clause-defines : goal.returns-clause-defines
-returns-clause-defines c =
+returns-clause-defines c = λ first cs uses none.
     let xs = map name_view c.args.names.now in
     let turn = c.in_ok-turn.ensures.turn in
     let o = turn.ordered in
     let ids : List Id = c.deref.result.now in
     let are : ids ≡ map local_id (used xs ++ defined xs) = c.deref.ensures.value ∙ c.in_ok-written.ensures.names in
+    let a = c.args.scope.now in
+    let b = c.define_all.new.scope in
+    let new = c.define_all.new.types in
+    let ds = defined (in_order xs o.order) in
+    let defines : (cs : List ResolvedScope) (s : Address) → Defines c.args.types.now new cs a.owner s a.names b.names ds = rw (c.deref-2.ensures.value, o.are) at c.in_ok-define_all.ensures.defines in
+    let listed : names_in b.names ≡ names_in a.names ++ local_names ds = rw (c.deref-2.ensures.value, o.are) at c.in_ok-define_all.ensures.listed in
+    let handled : Requires (env_of b.names) new (all_handles (flat_map name_types ds)) a.required.items b.required.items = rw (c.deref-2.ensures.value, o.are) at c.in_ok-define_all.ensures.handled in
     record {
-      all = record {
+      adds = record {
         order = o.order;
         least = o.least;
         distinct = distinct_names xs (differ_names xs ids are (local_names_differ ids c.in_ok-check_unique_names.ensures));
-        defines = rw (c.deref-2.ensures.value, o.are) at c.in_ok-define_all.ensures.defines;
+        defines = λ s. defines_more first c.args.types.now new cs a.owner s [] a.names b.names (used xs) ds (uses s) (defines cs s);
       };
       turn = turn.names ∙ ap (λ l. map local_id (used xs ++ l)) o.are;
-      listed = rw (c.deref-2.ensures.value, o.are) at c.in_ok-define_all.ensures.listed;
-      handled = rw (c.deref-2.ensures.value, o.are) at c.in_ok-define_all.ensures.handled;
+      listed = listed ∙ ap (λ l. l ++ local_names ds) c.requires.listed ∙ sym (map-append local_name (used xs) ds);
+      handled = subst (λ (before : List Required). Requires (env_of b.names) new (all_handles (flat_map name_types (used xs ++ ds))) before b.required.items) none (subst (λ (ts : List Written). Requires (env_of b.names) new (all_handles ts) a.required.items b.required.items) (sym (types-in_turn xs o.order)) handled);
     }
 
 pub returns-in_err-check_unique_names-clause-first : goal.returns-in_err-check_unique_names-clause-first
@@ -54,17 +63,14 @@ returns-in_err-check_unique_names-clause-first c =
     let p = err_from_is_err_and c.from_residual-in_err-check_unique_names.result c.from_residual-in_err-check_unique_names.ensures.1 in
     let xs = map name_view c.args.names.now in
     let are : c.deref.result.now ≡ map local_id (used xs ++ defined xs) = c.deref.ensures.value ∙ c.in_ok-written.ensures.names in
-    rw (p.1, p.2) (elim c.in_err-check_unique_names.ensures [
-      | inl memory ↦ inl memory
-      | inr twice ↦ inr (twice_first c.args.scope.now c.args.types.now xs _ (ap local_names_fault (sym are) ∙ twice))
-    ])
+    rw (p.1, p.2) (λ outcome is cs handle along. reports_prefix _ (reports_same (ap local_names_fault are) c.in_err-check_unique_names.ensures))
 
 pub returns-in_err-turn-clause-first : goal.returns-in_err-turn-clause-first
 returns-in_err-turn-clause-first c =
     let p = err_from_is_err_and c.from_residual-in_err-turn.result c.from_residual-in_err-turn.ensures.1 in
     let xs = map name_view c.args.names.now in
     let are : c.deref.result.now ≡ map local_id (used xs ++ defined xs) = c.deref.ensures.value ∙ c.in_ok-written.ensures.names in
-    rw (p.1, p.2) (by_weaker (λ f. IsTypeOrderFault xs (Some f)) (IsOrderedFault c.args.scope.now c.args.types.now xs) _ (unordered_first c.args.scope.now c.args.types.now xs _ (ap local_names_fault (sym are) ∙ c.in_ok-check_unique_names.ensures)) c.in_err-turn.ensures.first)
+    rw (p.1, p.2) (λ outcome is cs handle along. reports_back (ap local_names_fault (sym are) ∙ c.in_ok-check_unique_names.ensures) (reports_prefix _ (outcome_reported xs outcome _ is c.in_err-turn.ensures.first)))
 
 pub returns-in_err-define_all-clause-first : goal.returns-in_err-define_all-clause-first
 returns-in_err-define_all-clause-first c =
@@ -72,13 +78,17 @@ returns-in_err-define_all-clause-first c =
     let xs = map name_view c.args.names.now in
     let ds = map definition_view c.deref-2.result.now in
     let o : AreOrdered xs ds = subst (λ l. AreOrdered xs (map definition_view l)) (sym c.deref-2.ensures.value) c.in_ok-turn.ensures.turn.ordered in
-    let are : c.deref.result.now ≡ map local_id (used xs ++ defined xs) = c.deref.ensures.value ∙ c.in_ok-written.ensures.names in
-    rw (p.1, p.2) (by_weaker (IsDefinitionsFault c.args.scope.now c.args.types.now ds) (IsOrderedFault c.args.scope.now c.args.types.now xs) _ (definitions_first c.args.scope.now c.args.types.now xs ds o.order _ (ap local_names_fault (sym are) ∙ c.in_ok-check_unique_names.ensures) o.least o.are) c.in_err-define_all.ensures.first)
+    let ids : List Id = c.deref.result.now in
+    let are : ids ≡ map local_id (used xs ++ defined xs) = c.deref.ensures.value ∙ c.in_ok-written.ensures.names in
+    let distinct : AreDistinct xs = distinct_names xs (differ_names xs ids are (local_names_differ ids c.in_ok-check_unique_names.ensures)) in
+    rw (p.1, p.2) (λ outcome is cs handle along. definitions_found xs ds o.order (ap local_names_fault (sym are) ∙ c.in_ok-check_unique_names.ensures) o.least o.are outcome is (failed _) c.args.scope.now c.args.types.now cs handle distinct along c.in_err-define_all.ensures.first)
 
 pub returns-clause-first : goal.returns-clause-first
-returns-clause-first c =
+returns-clause-first c = λ outcome is cs handle along.
     let xs = map name_view c.args.names.now in
     let ds = map definition_view c.deref-2.result.now in
     let o : AreOrdered xs ds = subst (λ l. AreOrdered xs (map definition_view l)) (sym c.deref-2.ensures.value) c.in_ok-turn.ensures.turn.ordered in
-    let are : c.deref.result.now ≡ map local_id (used xs ++ defined xs) = c.deref.ensures.value ∙ c.in_ok-written.ensures.names in
-    definitions_none xs ds o.order c.define_all.new.scope.names c.define_all.new.types (ap local_names_fault (sym are) ∙ c.in_ok-check_unique_names.ensures) o.least o.are c.in_ok-define_all.ensures.first
+    let ids : List Id = c.deref.result.now in
+    let are : ids ≡ map local_id (used xs ++ defined xs) = c.deref.ensures.value ∙ c.in_ok-written.ensures.names in
+    let distinct : AreDistinct xs = distinct_names xs (differ_names xs ids are (local_names_differ ids c.in_ok-check_unique_names.ensures)) in
+    definitions_found xs ds o.order (ap local_names_fault (sym are) ∙ c.in_ok-check_unique_names.ensures) o.least o.are outcome is (done ids) c.args.scope.now c.args.types.now cs handle distinct along c.in_ok-define_all.ensures.first

@@ -1,5 +1,5 @@
-use Rattle.std.proofs.Common.{Some, inl, inr, sym, ap, ◌∙◌}
-use Rattle.wit_syntax.proofs.Common.{false≢true, used_words}
+use Rattle.std.proofs.Common.{Some, inl, inr, sym, ap, ◌∙◌, ◌++◌}
+use Rattle.wit_syntax.proofs.Common.{false≢true, codes}
 use Rattle.wit_arena.proofs.Common.{free_functions}
 use Rattle.wit_item_entries.proofs.UseFaults.{of_function, of_nothing}
 use Rattle.wit_item_entries.proofs.uses.refuse_used.Goals as goal
@@ -7,7 +7,7 @@ use Rattle.wit_item_entries.proofs.uses.refuse_used.Goals as goal
 pub returns-then-has_function : goal.returns-then-has_function
 returns-then-has_function c =
     let is = of_function (free_functions c.args.interface.now) c.args.name (c.has_function.ensures.0 c.if-has_function.true) in
-    elim (c.refuse_in.ensures (used_words c.args.name.name.now) c.function_used.ensures) [ inl memory ↦ inl memory | inr says ↦ inr (ap Some (is ∙ sym says)) ]
+    elim (c.refuse_in.ensures (codes "cannot import function `" ++ (c.args.name.name.now ++ codes "`")) c.function_used.ensures) [ inl memory ↦ inl memory | inr says ↦ inr (ap Some (is ∙ sym says)) ]
 
 pub returns : goal.returns
 returns c =

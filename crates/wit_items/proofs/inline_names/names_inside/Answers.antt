@@ -1,6 +1,6 @@
 use Rattle.std.proofs.Common.{◌≡◌, ◌+◌, ◌++◌, List, [], ◌∷◌, Option, Some, Bor, map, take, refl, sym, ap, ◌∙◌}
 use Rattle.wit_syntax.proofs.Common.{Fault, InterfaceItem, PackageFile, TheWorld, TopName, WorldItem, WorldSide, append-nil, err_from_is_err_and, flat_map, foreign_interfaces, map-append, option_copied, option_map, option_to_list, part_uses, slice_get, slice_get-map, slice_get_read, take_all, take_more, visited, world_part}
-use Rattle.wit_first.specs.UseFaults.{use_fault, uses_fault}
+use Rattle.wit_first.specs.UseFaults.{use_fault}
 use Rattle.wit_first.proofs.First.{in-all, in-following, in-parts, reports-in, reports_same}
 use Rattle.wit_scopes.specs.BorrowedNames.{name_view}
 use Rattle.wit_scopes.specs.PlacedNames.{AreNamesPlaced}
@@ -12,10 +12,11 @@ use Rattle.wit_items.proofs.WrittenNames.{items_names, side_among, written_uses,
 use Rattle.wit_items.proofs.inline_names.names_inside.Goals.{in-Some+in_ok-interface_names+in_ok-push, in_default}
 use Rattle.wit_files.specs.FileNames.{top_at}
 use Rattle.wit_items.proofs.inline_names.names_inside.Goals as goal
+use Rattle.wit_first.specs.First.{first_in}
 
 -- of the uses of the interface that is written in a part
 abbrev wrong : List PackageFile → List TopName → WorldSide → WorldItem → Option Fault
-wrong files top side x = uses_fault files top (side_uses side (world_part x))
+wrong files top side x = first_in (use_fault files top) (side_uses side (world_part x))
 
 -- the items that are lent
 abbrev lent : Option (Bor (List InterfaceItem)) → List (List InterfaceItem)
@@ -69,8 +70,8 @@ loop-part-preserved c =
           let e = w.in_ok-interface_names.ensures in
           let new = w.in_ok-push.ensures.items in
           rw w.inside-is (record {
-            names = one_more (λ ns. map name_view ns.items) [] out _ _ (map (items_names top) before) (map (items_names top) after) (items_names top items) new was.names e.names (ap (map (items_names top)) one ∙ map-append (items_names top) before (items ∷ []));
-            placed = all_more (λ ns. AreNamesPlaced (map visited (foreign_interfaces files)) ns.items) out _ _ new was.placed e.placed;
+            names = one_more (λ ns. map name_view ns.items) [] out _ _ (map (items_names top) before) (map (items_names top) after) (items_names top items) new was.names e.names.view (ap (map (items_names top)) one ∙ map-append (items_names top) before (items ∷ []));
+            placed = all_more (λ ns. AreNamesPlaced (map visited (foreign_interfaces files)) ns.items) out _ _ new was.placed e.names.placed;
             none = in-following (wrong files top side) xs i x at was.none (rw (written_uses side p items written) at e.first);
           }))
       | in_default w ↦ (
@@ -79,15 +80,15 @@ loop-part-preserved c =
           rw w.inside-is (record {
             names = rw same was.names;
             placed = was.placed;
-            none = in-following (wrong files top side) xs i x at was.none (ap (uses_fault files top) (unwritten_uses side p unwritten));
+            none = in-following (wrong files top side) xs i x at was.none (ap (first_in (use_fault files top)) (unwritten_uses side p unwritten));
           }))
     ]
 
 pub returns-clause-names : goal.returns-clause-names
 returns-clause-names c = (
     let top = top_at c.args.files.now c.args.place in
-    let whole = take_all c.loop-part.part-index c.world_items-part-items.result.now c.loop-part-test.false in
-    rw (sym c.world_items-part-items.ensures) (c.loop-part.invariant.names ∙ ap (λ l. map (items_names top) (flat_map (written_items c.args.side) (map world_part l))) whole ∙ sym (names_written_in top c.args.side (map world_part c.world_items-part-items.result.now))))
+    let whole = take_all c.loop-part.part-index c.world_items-part-items.result.now c.loop-part-test.false ∙ c.world_items-part-items.ensures in
+    c.loop-part.invariant.names ∙ ap (λ l. map (items_names top) (flat_map (written_items c.args.side) (map world_part l))) whole ∙ sym (names_written_in top c.args.side (map world_part c.args.world.now.items.items)))
 
 pub returns-clause-first : goal.returns-clause-first
 returns-clause-first c =

@@ -1,17 +1,17 @@
 use Rattle.std.proofs.Common.{◌≡◌, None, map, take}
 use Rattle.wit_syntax.proofs.Common.{All, WorldItem, flat_map, foreign_interfaces, visited, world_part}
 use Rattle.wit_first.specs.First.{first_in}
-use Rattle.wit_first.specs.UseFaults.{uses_fault}
 use Rattle.wit_scopes.specs.PlacedNames.{AreNamesPlaced}
 use Rattle.wit_scopes.specs.BorrowedNames.{name_view}
 use Rattle.wit_items.specs.NamesInside.{written_items, side_uses}
 use Rattle.wit_items.proofs.WrittenNames.{items_names}
 use Rattle.wit_files.specs.FileNames.{top_at}
 use Rattle.wit_items.proofs.inline_names.names_inside.Given as goal
+use Rattle.wit_first.specs.UseFaults.{use_fault}
 
 abbrev pub invariant-loop-part : goal.invariant-loop-part
 invariant-loop-part l = record {
   names : map (λ ns. map name_view ns.items) l.inside.items ≡ map (items_names (top_at l.files l.place)) (flat_map (written_items l.side) (map world_part (take l.part-index l.part-items)));
   placed : All (λ ns. AreNamesPlaced (map visited (foreign_interfaces l.files)) ns.items) l.inside.items;
-  none : first_in (λ (x : WorldItem). uses_fault l.files (top_at l.files l.place) (side_uses l.side (world_part x))) (take l.part-index l.part-items) ≡ None;
+  none : first_in (λ (x : WorldItem). first_in (use_fault l.files (top_at l.files l.place)) (side_uses l.side (world_part x))) (take l.part-index l.part-items) ≡ None;
 }

@@ -1,19 +1,18 @@
-use Rattle.std.proofs.Common.{◌≡◌, ◌+◌, ◌++◌, List, ◌∷◌, [], Option, Some, Contains, map, take, refl, sym, ap, ◌∙◌}
-use Rattle.wit_syntax.proofs.Common.{AstItem, Exported, Fault, Imported, Item, PackageFile, TheInterface, TheWorld, TopName, append-nil, declared_items, err_from_is_err_and, file_items, flat_map, foreign_interfaces, map-append, option_or, parts, scope_names, slice_get, slice_get_read, take_more, top_names, visited}
+use Rattle.std.proofs.Common.{◌≡◌, ◌+◌, ◌++◌, ℕ, None, List, ◌∷◌, [], Option, Some, Contains, map, take, refl, sym, ap, ◌∙◌}
+use Rattle.wit_syntax.proofs.Common.{AstItem, Exported, Fault, Imported, Item, PackageFile, ParseError, TheInterface, TheWorld, TopName, append-nil, declared_items, err_from_is_err_and, file_items, flat_map, foreign_interfaces, parts, slice_get, slice_get_read, take_more, top_names, visited}
 use Rattle.wit_tree.specs.declared.tree.AstItem.TheVariants as ast
-use Rattle.wit_first.specs.First.{first_in}
-use Rattle.wit_first.specs.UseFaults.{item_uses_fault, uses_fault}
+use Rattle.wit_first.specs.First.{Reports, first_in}
+use Rattle.wit_first.specs.UseFaults.{item_uses_fault}
 use Rattle.wit_first.proofs.First.{in-all, in-flat, in-following, none_both, or_none, reports_back, reports_prefix, reports-in, reports_same}
 use Rattle.wit_files.specs.FileNames.{names_at_top}
 use Rattle.wit_top_names.proofs.Lost.{flat_more}
 use Rattle.wit_scopes.specs.PlacedNames.{AreNamesPlaced}
 use Rattle.wit_scopes.proofs.Declaring.{one_more}
-use Rattle.wit_items.specs.BorrowedItems.{item_view, names_view}
-use Rattle.wit_items.specs.NamesInside.{side_uses}
-use Rattle.wit_items.specs.InlineNames.{inside_view, names_written}
-use Rattle.wit_items.proofs.Placed.{item_placed, none_all, items_more}
+use Rattle.wit_items.specs.BorrowedItems.{item_view}
+use Rattle.wit_items.proofs.Gathered.{items_more}
+use Rattle.wit_items.proofs.Placed.{none_all, placed_inside}
 use Rattle.wit_items.proofs.UsableNames.{use_has_path}
-use Rattle.wit_items.proofs.Usable.{declared_among, item_among, item_here, filed_more}
+use Rattle.wit_items.proofs.Usable.{declared_among, item_among, item_declared}
 use Rattle.wit_items.proofs.Written.{items_uses, interface_uses, world_uses, interface_inside, inside_is}
 use Rattle.wit_items.proofs.items.add_items.Goals.{in-Interface+in_ok-interface_names-in-Interface+in_ok-push-in-Interface, in-World+in_ok-world_names-in-World+in_ok-names_inside-in-World+in_ok-names_inside-in-World-2+in_ok-push-in-World, in-Use}
 use Rattle.wit_items.proofs.items.add_items.Goals as goal
@@ -26,105 +25,78 @@ wrong files top d = first_in (item_uses_fault files) (declared_items top d)
 whole : (files : List PackageFile) (top : List TopName) (xs ds : List AstItem) → xs ≡ ds → first_in (wrong files top) xs ≡ first_in (item_uses_fault files) (flat_map (declared_items top) ds)
 whole files top xs ds same = ap (first_in (wrong files top)) same ∙ sym (in-flat (item_uses_fault files) (declared_items top) ds)
 
+-- the fault of the item that a declaration makes, where the ones before make none
+made_reported : (files : List PackageFile) (file : PackageFile) (xs : List AstItem) (i : ℕ) (x : AstItem) (w : Item) (own : Option Fault) (e : ParseError) → xs ≡ file.decl_list.items.items → slice_get xs i ≡ Some x → declared_items (top_names file) x ≡ w ∷ [] → item_uses_fault files w ≡ own → first_in (wrong files (top_names file)) (take i xs) ≡ None → Reports own e → Reports (first_in (item_uses_fault files) (file_items file)) e
+made_reported files file xs i x w own e all at only is none report =
+    let top = top_names file in
+    reports_same (whole files top xs file.decl_list.items.items all) (reports-in (wrong files top) xs i x e at none (reports_same (sym (ap (first_in (item_uses_fault files)) only ∙ or_none (item_uses_fault files w) ∙ is)) report))
+
 pub returns-in_err-interface_names-in-Interface-clause-first : goal.returns-in_err-interface_names-in-Interface-clause-first
 returns-in_err-interface_names-in-Interface-clause-first c =
     let p = err_from_is_err_and c.from_residual.result c.from_residual.ensures.1 in
-    let file = c.args.file.now in
     let files = c.args.files.now in
-    let top = top_names file in
-    let top_is = ap names_at_top c.requires.file in
-    let xs = c.declarations-declared.result.now in
-    let i = c.loop-item.item-index in
-    let w : Item = record { top = top; declared = TheInterface c.in-Interface.interface } in
-    let at : slice_get xs i ≡ Some (ast.Interface c.in-Interface.interface) = slice_get_read xs _ i c.item-item.result refl c.loop-item-test.true c.item-item.is ∙ ap Some c.in-Interface.is in
-    rw (p.1, p.2) (reports_same (whole files top xs file.decl_list.items.items c.declarations-declared.ensures) (reports-in (wrong files top) xs i (ast.Interface c.in-Interface.interface) _ at c.loop-item.invariant.none (reports_same (sym (or_none (item_uses_fault files w) ∙ interface_uses files top c.in-Interface.interface)) (rw (c.deref.ensures.value, top_is) at c.in_err-interface_names-in-Interface.ensures.first))))
+    let top = top_names c.args.file.now in
+    let at = slice_get_read c.declarations-declared.result.now _ c.loop-item.item-index c.item-item.result refl c.loop-item-test.true c.item-item.is ∙ ap Some c.in-Interface.is in
+    rw (p.1, p.2) (made_reported files c.args.file.now c.declarations-declared.result.now c.loop-item.item-index (ast.Interface c.in-Interface.interface) (record { top = top; declared = TheInterface c.in-Interface.interface }) _ _ c.declarations-declared.ensures at refl (interface_uses files top c.in-Interface.interface) c.loop-item.invariant.none (rw (c.deref.ensures.value, ap names_at_top c.requires.file) at c.in_err-interface_names-in-Interface.ensures.first))
 
 pub returns-in_err-world_names-in-World-clause-first : goal.returns-in_err-world_names-in-World-clause-first
 returns-in_err-world_names-in-World-clause-first c =
     let p = err_from_is_err_and c.from_residual-in_err-world_names-in-World.result c.from_residual-in_err-world_names-in-World.ensures.1 in
-    let file = c.args.file.now in
     let files = c.args.files.now in
-    let top = top_names file in
     let top_is = ap names_at_top c.requires.file in
-    let xs = c.declarations-declared.result.now in
-    let i = c.loop-item.item-index in
-    let w : Item = record { top = top; declared = TheWorld c.in-World.world } in
-    let ps = parts w in
-    let at : slice_get xs i ≡ Some (ast.World c.in-World.world) = slice_get_read xs _ i c.item-item.result refl c.loop-item-test.true c.item-item.is ∙ ap Some c.in-World.is in
-    let imported = uses_fault files top (flat_map (side_uses Imported) ps) in
-    let exported = uses_fault files top (flat_map (side_uses Exported) ps) in
-    rw (p.1, p.2) (reports_same (whole files top xs file.decl_list.items.items c.declarations-declared.ensures) (reports-in (wrong files top) xs i (ast.World c.in-World.world) _ at c.loop-item.invariant.none (reports_same (sym (or_none (item_uses_fault files w) ∙ world_uses files top ps)) (reports_prefix (option_or imported exported) (rw top_is at c.in_err-world_names-in-World.ensures.first)))))
+    let w : Item = record { top = top_names c.args.file.now; declared = TheWorld c.in-World.world } in
+    let at = slice_get_read c.declarations-declared.result.now _ c.loop-item.item-index c.item-item.result refl c.loop-item-test.true c.item-item.is ∙ ap Some c.in-World.is in
+    rw (p.1, p.2) (made_reported files c.args.file.now c.declarations-declared.result.now c.loop-item.item-index (ast.World c.in-World.world) w _ _ c.declarations-declared.ensures at refl (world_uses files w.top (parts w)) c.loop-item.invariant.none (reports_prefix _ (rw top_is at c.in_err-world_names-in-World.ensures.first)))
 
 pub returns-in_err-names_inside-in-World-clause-first : goal.returns-in_err-names_inside-in-World-clause-first
 returns-in_err-names_inside-in-World-clause-first c =
     let p = err_from_is_err_and c.from_residual-in_err-names_inside-in-World.result c.from_residual-in_err-names_inside-in-World.ensures.1 in
-    let file = c.args.file.now in
     let files = c.args.files.now in
-    let top = top_names file in
     let top_is = ap names_at_top c.requires.file in
-    let xs = c.declarations-declared.result.now in
-    let i = c.loop-item.item-index in
-    let w : Item = record { top = top; declared = TheWorld c.in-World.world } in
-    let ps = parts w in
-    let at : slice_get xs i ≡ Some (ast.World c.in-World.world) = slice_get_read xs _ i c.item-item.result refl c.loop-item-test.true c.item-item.is ∙ ap Some c.in-World.is in
-    let imported = uses_fault files top (flat_map (side_uses Imported) ps) in
-    let exported = uses_fault files top (flat_map (side_uses Exported) ps) in
-    rw (p.1, p.2) (reports_same (whole files top xs file.decl_list.items.items c.declarations-declared.ensures) (reports-in (wrong files top) xs i (ast.World c.in-World.world) _ at c.loop-item.invariant.none (reports_same (sym (or_none (item_uses_fault files w) ∙ world_uses files top ps)) (reports_back (rw top_is at c.in_ok-world_names-in-World.ensures.first) (reports_prefix exported (rw top_is at c.in_err-names_inside-in-World.ensures.first))))))
+    let w : Item = record { top = top_names c.args.file.now; declared = TheWorld c.in-World.world } in
+    let at = slice_get_read c.declarations-declared.result.now _ c.loop-item.item-index c.item-item.result refl c.loop-item-test.true c.item-item.is ∙ ap Some c.in-World.is in
+    rw (p.1, p.2) (made_reported files c.args.file.now c.declarations-declared.result.now c.loop-item.item-index (ast.World c.in-World.world) w _ _ c.declarations-declared.ensures at refl (world_uses files w.top (parts w)) c.loop-item.invariant.none (reports_back (rw top_is at c.in_ok-world_names-in-World.ensures.first) (reports_prefix _ (rw top_is at c.in_err-names_inside-in-World.ensures.first))))
 
 pub returns-in_err-names_inside-in-World-2-clause-first : goal.returns-in_err-names_inside-in-World-2-clause-first
 returns-in_err-names_inside-in-World-2-clause-first c =
     let p = err_from_is_err_and c.from_residual-in_err-names_inside-in-World-2.result c.from_residual-in_err-names_inside-in-World-2.ensures.1 in
-    let file = c.args.file.now in
     let files = c.args.files.now in
-    let top = top_names file in
     let top_is = ap names_at_top c.requires.file in
-    let xs = c.declarations-declared.result.now in
-    let i = c.loop-item.item-index in
-    let w : Item = record { top = top; declared = TheWorld c.in-World.world } in
-    let ps = parts w in
-    let at : slice_get xs i ≡ Some (ast.World c.in-World.world) = slice_get_read xs _ i c.item-item.result refl c.loop-item-test.true c.item-item.is ∙ ap Some c.in-World.is in
-    let imported = uses_fault files top (flat_map (side_uses Imported) ps) in
-    let exported = uses_fault files top (flat_map (side_uses Exported) ps) in
-    rw (p.1, p.2) (reports_same (whole files top xs file.decl_list.items.items c.declarations-declared.ensures) (reports-in (wrong files top) xs i (ast.World c.in-World.world) _ at c.loop-item.invariant.none (reports_same (sym (or_none (item_uses_fault files w) ∙ world_uses files top ps)) (reports_back (rw top_is at c.in_ok-world_names-in-World.ensures.first) (reports_back (rw top_is at c.in_ok-names_inside-in-World.ensures.first) (rw top_is at c.in_err-names_inside-in-World-2.ensures.first))))))
+    let w : Item = record { top = top_names c.args.file.now; declared = TheWorld c.in-World.world } in
+    let at = slice_get_read c.declarations-declared.result.now _ c.loop-item.item-index c.item-item.result refl c.loop-item-test.true c.item-item.is ∙ ap Some c.in-World.is in
+    rw (p.1, p.2) (made_reported files c.args.file.now c.declarations-declared.result.now c.loop-item.item-index (ast.World c.in-World.world) w _ _ c.declarations-declared.ensures at refl (world_uses files w.top (parts w)) c.loop-item.invariant.none (reports_back (rw top_is at c.in_ok-world_names-in-World.ensures.first) (reports_back (rw top_is at c.in_ok-names_inside-in-World.ensures.first) (rw top_is at c.in_err-names_inside-in-World-2.ensures.first))))
 
 pub interface_names-requires : goal.interface_names-requires
 interface_names-requires c = record {
   paths = λ u has. (
       let file = c.args.file.now in
       let xs = c.declarations-declared.result.now in
-      let w : Item = record { top = top_names file; declared = TheInterface c.in-Interface.interface } in
+      let d = TheInterface c.in-Interface.interface in
       let at : slice_get xs c.loop-item.item-index ≡ Some (ast.Interface c.in-Interface.interface) = slice_get_read xs _ c.loop-item.item-index c.item-item.result refl c.loop-item-test.true c.item-item.is ∙ ap Some c.in-Interface.is in
-      let among : Contains (file_items file) w = rw c.declarations-declared.ensures at (declared_among (declared_items (top_names file)) xs c.loop-item.item-index _ w at refl) in
-      let here = item_here c.args.files.now c.args.place file w.declared c.requires.file among in
-      use_has_path c.args.files.now c.args.place w.declared u here (rw (items_uses c.in-Interface.interface.items.items) (rw c.deref.ensures.value at has)));
+      let here = item_declared c.args.files.now c.args.place file xs c.loop-item.item-index _ d c.requires.file c.declarations-declared.ensures at refl in
+      use_has_path c.args.files.now c.args.place d u here (rw (items_uses c.in-Interface.interface.items.items) (rw c.deref.ensures.value at has)));
 }
 
 pub world_names-requires : goal.world_names-requires
 world_names-requires c =
     let file = c.args.file.now in
     let xs = c.declarations-declared.result.now in
-    let w : Item = record { top = top_names file; declared = TheWorld c.in-World.world } in
     let at : slice_get xs c.loop-item.item-index ≡ Some (ast.World c.in-World.world) = slice_get_read xs _ c.loop-item.item-index c.item-item.result refl c.loop-item-test.true c.item-item.is ∙ ap Some c.in-World.is in
-    let among : Contains (file_items file) w = rw c.declarations-declared.ensures at (declared_among (declared_items (top_names file)) xs c.loop-item.item-index _ w at refl) in
-    record { item = item_here c.args.files.now c.args.place file w.declared c.requires.file among }
+    record { item = item_declared c.args.files.now c.args.place file xs c.loop-item.item-index _ (TheWorld c.in-World.world) c.requires.file c.declarations-declared.ensures at refl }
 
 pub names_inside-requires : goal.names_inside-requires
 names_inside-requires c =
     let file = c.args.file.now in
     let xs = c.declarations-declared.result.now in
-    let w : Item = record { top = top_names file; declared = TheWorld c.in-World.world } in
     let at : slice_get xs c.loop-item.item-index ≡ Some (ast.World c.in-World.world) = slice_get_read xs _ c.loop-item.item-index c.item-item.result refl c.loop-item-test.true c.item-item.is ∙ ap Some c.in-World.is in
-    let among : Contains (file_items file) w = rw c.declarations-declared.ensures at (declared_among (declared_items (top_names file)) xs c.loop-item.item-index _ w at refl) in
-    record { item = item_here c.args.files.now c.args.place file w.declared c.requires.file among }
+    record { item = item_declared c.args.files.now c.args.place file xs c.loop-item.item-index _ (TheWorld c.in-World.world) c.requires.file c.declarations-declared.ensures at refl }
 
 pub names_inside-requires-in-World : goal.names_inside-requires-in-World
 names_inside-requires-in-World c =
     let file = c.args.file.now in
     let xs = c.declarations-declared.result.now in
-    let w : Item = record { top = top_names file; declared = TheWorld c.in-World.world } in
     let at : slice_get xs c.loop-item.item-index ≡ Some (ast.World c.in-World.world) = slice_get_read xs _ c.loop-item.item-index c.item-item.result refl c.loop-item-test.true c.item-item.is ∙ ap Some c.in-World.is in
-    let among : Contains (file_items file) w = rw c.declarations-declared.ensures at (declared_among (declared_items (top_names file)) xs c.loop-item.item-index _ w at refl) in
-    record { item = item_here c.args.files.now c.args.place file w.declared c.requires.file among }
+    record { item = item_declared c.args.files.now c.args.place file xs c.loop-item.item-index _ (TheWorld c.in-World.world) c.requires.file c.declarations-declared.ensures at refl }
 
 pub loop-item-preserved : goal.loop-item-preserved
 loop-item-preserved c =
@@ -148,22 +120,24 @@ loop-item-preserved c =
       | in-Interface+in_ok-interface_names-in-Interface+in_ok-push-in-Interface b ↦ (
           let w : Item = record { top = top; declared = TheInterface b.in-Interface.interface } in
           let one : all ≡ before ++ w ∷ [] = extended ∙ ap (λ (d : AstItem). before ++ declared_items top d) b.in-Interface.is in
-          let at : slice_get xs i ≡ Some (ast.Interface b.in-Interface.interface) = slice_get_read xs _ i x refl c.loop-item-test.true c.item-item.is ∙ ap Some b.in-Interface.is in
+          let at : slice_get xs i ≡ Some (ast.Interface b.in-Interface.interface) = here ∙ ap Some b.in-Interface.is in
           let among : Contains (file_items file) w = rw c.declarations-declared.ensures at (declared_among (declared_items top) xs i _ w at refl) in
           let new = b.in_ok-push-in-Interface.ensures in
           let e = rw (b.deref.ensures.value, top_is) at b.in_ok-interface_names-in-Interface.ensures in
           rw b.items-is (record {
             items = one_more item_view (map item_view old) out _ _ before all w new was.items refl one;
-            names = one_more names_view (map names_view old) out _ _ (map scope_names before) (map scope_names all) (scope_names w) new was.names e.names (ap (map scope_names) one ∙ map-append scope_names before (w ∷ []));
-            inside = λ side. one_more (inside_view side) (map (inside_view side) old) out _ _ (map (names_written side) before) (map (names_written side) all) (names_written side w) new (was.inside side) (inside_is _ w (ap (map _) b.new.ensures.items ∙ sym (interface_inside Imported top b.in-Interface.interface)) (ap (map _) b.new-in-Interface.ensures.items ∙ sym (interface_inside Exported top b.in-Interface.interface)) side) (ap (map (names_written side)) one ∙ map-append (names_written side) before (w ∷ []));
-            filed = λ before. filed_more files out _ _ new (was.filed before) (record { file = c.requires.file; among = item_among files c.args.place file w c.requires.file among });
-            placed = λ before. items_more prefix out _ _ new (was.placed before) (item_placed prefix _ e.placed (none_all (λ ns. AreNamesPlaced prefix ns.items) _ b.new.ensures.items) (none_all (λ ns. AreNamesPlaced prefix ns.items) _ b.new-in-Interface.ensures.items));
+            each = λ before. items_more files out _ _ new (was.each before) (record {
+              filed = record { file = c.requires.file; among = item_among files c.args.place file w c.requires.file among };
+              named = rw top_is at e.names.view;
+              written = inside_is _ w (ap (map _) b.new.ensures.items ∙ sym (interface_inside Imported top b.in-Interface.interface)) (ap (map _) b.new-in-Interface.ensures.items ∙ sym (interface_inside Exported top b.in-Interface.interface));
+              placed = record { own = e.names.placed; inside = placed_inside prefix _ (none_all (λ ns. AreNamesPlaced prefix ns.items) _ b.new.ensures.items) (none_all (λ ns. AreNamesPlaced prefix ns.items) _ b.new-in-Interface.ensures.items) };
+            });
             none = in-following (wrong files top) xs i x here was.none (ap (wrong files top) b.in-Interface.is ∙ or_none (item_uses_fault files w) ∙ interface_uses files top b.in-Interface.interface ∙ e.first);
           }))
       | in-World+in_ok-world_names-in-World+in_ok-names_inside-in-World+in_ok-names_inside-in-World-2+in_ok-push-in-World b ↦ (
           let w : Item = record { top = top; declared = TheWorld b.in-World.world } in
           let one : all ≡ before ++ w ∷ [] = extended ∙ ap (λ (d : AstItem). before ++ declared_items top d) b.in-World.is in
-          let at : slice_get xs i ≡ Some (ast.World b.in-World.world) = slice_get_read xs _ i x refl c.loop-item-test.true c.item-item.is ∙ ap Some b.in-World.is in
+          let at : slice_get xs i ≡ Some (ast.World b.in-World.world) = here ∙ ap Some b.in-World.is in
           let among : Contains (file_items file) w = rw c.declarations-declared.ensures at (declared_among (declared_items top) xs i _ w at refl) in
           let new = b.in_ok-push-in-World.ensures in
           let e = rw top_is at b.in_ok-world_names-in-World.ensures in
@@ -171,20 +145,19 @@ loop-item-preserved c =
           let exported = rw top_is at b.in_ok-names_inside-in-World-2.ensures in
           rw b.items-is (record {
             items = one_more item_view (map item_view old) out _ _ before all w new was.items refl one;
-            names = one_more names_view (map names_view old) out _ _ (map scope_names before) (map scope_names all) (scope_names w) new was.names e.names (ap (map scope_names) one ∙ map-append scope_names before (w ∷ []));
-            inside = λ side. one_more (inside_view side) (map (inside_view side) old) out _ _ (map (names_written side) before) (map (names_written side) all) (names_written side w) new (was.inside side) (inside_is _ w imported.names exported.names side) (ap (map (names_written side)) one ∙ map-append (names_written side) before (w ∷ []));
-            filed = λ before. filed_more files out _ _ new (was.filed before) (record { file = c.requires.file; among = item_among files c.args.place file w c.requires.file among });
-            placed = λ before. items_more prefix out _ _ new (was.placed before) (item_placed prefix _ e.placed imported.placed exported.placed);
+            each = λ before. items_more files out _ _ new (was.each before) (record {
+              filed = record { file = c.requires.file; among = item_among files c.args.place file w c.requires.file among };
+              named = rw top_is at e.names.view;
+              written = inside_is _ w imported.names exported.names;
+              placed = record { own = e.names.placed; inside = placed_inside prefix _ imported.placed exported.placed };
+            });
             none = in-following (wrong files top) xs i x here was.none (ap (wrong files top) b.in-World.is ∙ or_none (item_uses_fault files w) ∙ world_uses files top (parts w) ∙ none_both e.first (none_both imported.first exported.first));
           }))
       | in-Use b ↦ (
           let skipped : all ≡ before = extended ∙ ap (λ (d : AstItem). before ++ declared_items top d) b.in-Use.is ∙ append-nil before in
           rw b.items-is (record {
             items = rw skipped was.items;
-            names = rw skipped was.names;
-            inside = λ side. rw skipped (was.inside side);
-            filed = was.filed;
-            placed = was.placed;
+            each = was.each;
             none = in-following (wrong files top) xs i x here was.none (ap (wrong files top) b.in-Use.is);
           }))
     ]

@@ -1,15 +1,13 @@
 use Rattle.std.proofs.Common.{◌≡◌, None, map, take}
-use Rattle.wit_syntax.proofs.Common.{WorldItem, flat_map, foreign_interfaces, part_names, visited, world_part}
+use Rattle.wit_syntax.proofs.Common.{WorldItem, own_uses, world_part}
 use Rattle.wit_first.specs.First.{first_in}
-use Rattle.wit_first.specs.UseFaults.{own_uses, uses_fault}
-use Rattle.wit_scopes.specs.PlacedNames.{AreNamesPlaced}
-use Rattle.wit_scopes.specs.BorrowedNames.{name_view}
+use Rattle.wit_first.specs.UseFaults.{use_fault}
+use Rattle.wit_items.specs.PlacedItems.{AreNamesOf}
 use Rattle.wit_files.specs.FileNames.{top_at}
 use Rattle.wit_items.proofs.part_names.world_names.Given as goal
 
 abbrev pub invariant-loop-part : goal.invariant-loop-part
 invariant-loop-part l = record {
-  names : map name_view l.names.items ≡ flat_map (part_names (top_at l.files l.place)) (map world_part (take l.part-index l.written));
-  placed : AreNamesPlaced (map visited (foreign_interfaces l.files)) l.names.items;
-  none : first_in (λ (x : WorldItem). uses_fault l.files (top_at l.files l.place) (own_uses (world_part x))) (take l.part-index l.written) ≡ None;
+  names : AreNamesOf l.files l.place (map world_part (take l.part-index l.written)) l.names.items;
+  none : first_in (λ (x : WorldItem). first_in (use_fault l.files (top_at l.files l.place)) (own_uses (world_part x))) (take l.part-index l.written) ≡ None;
 }

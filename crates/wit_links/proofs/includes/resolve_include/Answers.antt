@@ -1,5 +1,5 @@
-use Rattle.std.proofs.Common.{◌≡◌, map, None, Some, inl, inr, refl, sym, ap, ◌∙◌}
-use Rattle.wit_syntax.proofs.Common.{Id, Target, err_from_is_err_and, interface_there, interface_words, leads}
+use Rattle.std.proofs.Common.{◌≡◌, map, None, Some, inl, inr, refl, sym, ap, ◌∙◌, ◌++◌}
+use Rattle.wit_syntax.proofs.Common.{Id, Target, err_from_is_err_and, interface_there, leads, codes}
 use Rattle.wit_first.specs.AttributeFaults.{stability_fault}
 use Rattle.wit_first.proofs.First.{none_both, reports_back, reports_prefix}
 use Rattle.wit_arena.proofs.Common.{renamed}
@@ -16,7 +16,7 @@ returns-in-None-clause-first c =
     let n = c.args.include.now in
     let none : world_at files by_name (leads (top_at files c.args.place) n.from) ≡ None = sym c.included_world.ensures ∙ c.in-None.is in
     let stable : stability_fault n.attributes.items ≡ None = rw c.deref.ensures.value at c.in_ok-check_stability.ensures in
-    elim (c.refuse_in.ensures (interface_words c.path_id-path.result.name.now) c.not_a_world.ensures) [
+    elim (c.refuse_in.ensures (codes "name `" ++ (c.path_id-path.result.name.now ++ codes "` is defined as an interface, not a world")) c.not_a_world.ensures) [
       | inl memory ↦ inl memory
       | inr says ↦ reports_back stable (inr (rw none (ap Some (sym (says ∙ ap (λ (id : Id). interface_there id) c.path_id-path.ensures)))))
     ]

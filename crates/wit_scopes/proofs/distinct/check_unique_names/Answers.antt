@@ -1,5 +1,5 @@
 use Rattle.std.proofs.Common.{◌≡◌, ℕ, List, Some, inl, inr, map, take, ap, sym, ◌∙◌, subst}
-use Rattle.wit_syntax.proofs.Common.{AllDiffer, Id, IsRepeatAt, codes, defined_twice, map_at, name_twice, slice_get, slice_get-get_or, slice_get_within}
+use Rattle.wit_syntax.proofs.Common.{AllDiffer, Id, IsRepeatAt, codes, defined_twice, map_at, map_map, name_twice, slice_get, slice_get-get_or, slice_get_within}
 use Rattle.wit_first.proofs.First.{no_repeats, repeat_first}
 use Rattle.wit_scopes.proofs.Repeating.{few_differ}
 use Rattle.wit_scopes.proofs.distinct.check_unique_names.Goals as goal
@@ -14,7 +14,7 @@ returns-in-Some c =
     let second : ℕ = c.in-Some.second in
     let later = c.index-ids-second.result in
     let keys = map (λ t. t.now) c.deref.result.now in
-    let keyed : keys ≡ map text ids = ap (map (λ t. t.now)) c.deref.ensures.value ∙ c.in_ok-texts.ensures in
+    let keyed : keys ≡ map text ids = ap (map (λ t. t.now)) (c.deref.ensures.value ∙ c.in_ok-texts.ensures) ∙ map_map (λ t. t.now) (λ (id : Id). id.name) c.args.ids.now in
     let r : IsRepeatAt (map text ids) first second = subst (λ ks. IsRepeatAt ks first second) keyed (rw c.in-Some.is at c.in_ok-second.ensures.some) in
     let d : AllDiffer (take second (map text ids)) = subst (λ ks. AllDiffer (take second ks)) keyed (rw c.in-Some.is at c.in_ok-second.ensures.first) in
     let x = map_at text ids second r.x r.at_second in
@@ -27,7 +27,7 @@ returns-in-Some c =
 pub returns : goal.returns
 returns c =
     let keys = map (λ t. t.now) c.deref.result.now in
-    let keyed : keys ≡ map text c.args.ids.now = ap (map (λ t. t.now)) c.deref.ensures.value ∙ c.in_ok-texts.ensures in
+    let keyed : keys ≡ map text c.args.ids.now = ap (map (λ t. t.now)) (c.deref.ensures.value ∙ c.in_ok-texts.ensures) ∙ map_map (λ t. t.now) (λ (id : Id). id.name) c.args.ids.now in
     no_repeats text name_twice c.args.ids.now (subst AllDiffer keyed (rw c.in-None.is at c.in_ok-second.ensures.none))
 
 pub returns-then-ids-lt2 : goal.returns-then-ids-lt2

@@ -15,13 +15,12 @@ use Rattle.wit_world_sides.proofs.PutFaults.{linked_free, linked_report}
 use Rattle.wit_world_sides.proofs.members.put_bare.Goals as goal
 
 pub returns-clause-puts : goal.returns-clause-puts
-returns-clause-puts c =
+returns-clause-puts c = λ keyed.
     let m = c.args.members.now in
     let link = path_link c.args.link in
     let x = SideLink link in
     let id = c.args.id in
     let item = c.args.item in
-    let keyed = c.requires.keyed in
     let named : item_names x ≡ [] = names_itself link c.requires.bare in
     let new = c.define.new.self in
     let more = λ (s : WorldSide). subst (λ (n : ℕ). linked_on s new ≡ linked_on s m.links ++ only_place s link.side n) c.index.ensures (c.in_ok-define.ensures.defined s) in

@@ -8,14 +8,14 @@ use Rattle.wit_signatures.specs.ForeignName.{name_of_id}
 use Rattle.wit_world_sides.proofs.PutFaults.{clash_one}
 use Rattle.wit_world_sides.proofs.members.put_inline.Goals as goal
 
-pub put_named-requires-clause-interface : goal.put_named-requires-clause-interface
-put_named-requires-clause-interface c = ap item_word c.in_ok-item.ensures
+pub put_named-requires : goal.put_named-requires
+put_named-requires c = ap item_word c.in_ok-item.ensures
 
 pub returns-clause-puts : goal.returns-clause-puts
 returns-clause-puts c =
     let w = c.args.written.now in
     let own = c.args.name in
-    on_ok_weaker c.put_named.result (λ done items. subst (λ (i : WorldItem). Puts c.args.members.now c.put_named.new.members (SideInline w own items) [] (key.Name own.name.now, i)) c.in_ok-item.ensures (done (SideInline w own items) (refl, refl, refl))) c.put_named.ensures.puts
+    on_ok_weaker c.put_named.result (λ done items keyed. subst (λ (i : WorldItem). Puts c.args.members.now c.put_named.new.members (SideInline w own items) [] (key.Name own.name.now, i)) c.in_ok-item.ensures (done (SideInline w own items) (refl, refl, refl) keyed)) c.put_named.ensures.puts
 
 pub returns-in_err-item-clause-first : goal.returns-in_err-item-clause-first
 returns-in_err-item-clause-first c =

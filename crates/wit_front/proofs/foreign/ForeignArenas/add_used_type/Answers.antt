@@ -8,14 +8,14 @@ use Rattle.wit_front.specs.ForeignPrefix.{with_types, addresses_among}
 use Rattle.wit_front.proofs.ForeignName.{in_use-known, in_use-fresh, is_some-copied, none_copied}
 use Rattle.wit_front.proofs.foreign.ForeignArenas.add_used_type.Goals as goal
 
-pub returns-then-is_some-clause-in_use : goal.returns-then-is_some-clause-in_use
-returns-then-is_some-clause-in_use c = λ s vs ts apart at_place before. (
+pub returns-then-is_some : goal.returns-then-is_some
+returns-then-is_some c = λ s vs ts apart at_place before. (
     let place = subst (λ k. slice_get (addresses_among vs) k ≡ Some s) (sym c.id_at-id.ensures) at_place in
     let has = ap is_some (sym c.get-2.ensures) ∙ is_some-copied c.get-2.result ∙ sym c.is_some.ensures ∙ c.if-is_some.true in
     in_use-known vs ts s c.args.attributes.now c.args.name.now c.id_at-id.result c.get.result.now c.args.types.now c.args.self.now place c.get.ensures before has)
 
-pub returns-clause-in_use : goal.returns-clause-in_use
-returns-clause-in_use c = λ s vs ts apart at_place before. (
+pub returns : goal.returns
+returns c = λ s vs ts apart at_place before. (
     let place = subst (λ k. slice_get (addresses_among vs) k ≡ Some s) (sym c.id_at-id.ensures) at_place in
     let both : Some c.get.result.now ≡ Some c.get_mut.result.now = sym c.get.ensures ∙ c.get_mut.ensures.value in
     let same : c.get.result.now ≡ c.get_mut.result.now = cc in

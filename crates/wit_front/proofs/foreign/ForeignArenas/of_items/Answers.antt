@@ -1,10 +1,8 @@
-use Rattle.std.proofs.Common.{◌≡◌, ◌+◌, ◌++◌, ◌∷◌, [], List, map, take, sym, ap, ◌∙◌, subst, arith}
-use Rattle.wit_syntax.proofs.Common.{ForeignVisit, foreign_items, map-append, take_all, take_more}
-use Rattle.wit_arena.proofs.Common.{visits_differ}
+use Rattle.std.proofs.Common.{◌≡◌, ◌+◌, ◌++◌, ◌∷◌, [], List, map, take, sym, ap, ◌∙◌, subst}
+use Rattle.wit_syntax.proofs.Common.{ForeignVisit, map-append, take_all, take_more}
 use Rattle.wit_files.specs.declared.foreign.ForeignVisit.{ForeignVisit as Borrowed}
 use Rattle.wit_files.specs.ForeignPaths.{foreign_view}
-use Rattle.wit_front.specs.ForeignPrefix.{AreAdded, entries_after}
-use Rattle.wit_front.proofs.Prefixes.{entries_after-among}
+use Rattle.wit_front.specs.ForeignPrefix.{AreAdded}
 use Rattle.wit_front.proofs.foreign.ForeignArenas.of_items.Goals as goal
 
 pub loop-visit-init : goal.loop-visit-init
@@ -19,10 +17,5 @@ loop-visit-preserved c =
     let all : map foreign_view (take (i + 1) xs) ≡ map foreign_view (take i xs) ++ foreign_view x ∷ [] = ap (map foreign_view) more ∙ map-append foreign_view (take i xs) (x ∷ []) in
     subst (λ (l : List ForeignVisit). AreAdded l [] [] c.add.new.self) (sym all) (c.in_ok-add.ensures (map foreign_view (take i xs)) c.loop-visit.invariant)
 
-pub returns-clause-bare : goal.returns-clause-bare
-returns-clause-bare c = subst (λ (l : List Borrowed). AreAdded (map foreign_view l) [] [] c.loop-visit.arenas) (take_all c.loop-visit.visit-index c.args.items.now c.loop-visit-test.false) c.loop-visit.invariant
-
-pub returns-clause-entries : goal.returns-clause-entries
-returns-clause-entries c = λ files are. (
-    let whole = take_all c.loop-visit.visit-index c.args.items.now (omega arith) in
-    c.loop-visit.invariant.entries ∙ ap (λ (l : List Borrowed). entries_after 0 0 (map foreign_view l)) whole ∙ ap (entries_after 0 0) are ∙ entries_after-among (foreign_items files) (visits_differ files))
+pub returns : goal.returns
+returns c = subst (λ (l : List Borrowed). AreAdded (map foreign_view l) [] [] c.loop-visit.arenas) (take_all c.loop-visit.visit-index c.args.items.now c.loop-visit-test.false) c.loop-visit.invariant

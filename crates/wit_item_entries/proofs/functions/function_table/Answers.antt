@@ -3,7 +3,7 @@ use Rattle.wit_syntax.proofs.Common.{AllDiffer, append-nil, into_iter_items, map
 use Rattle.wit_arena.proofs.Common.{by_name, is_getter_of, made_name, setters_placed}
 use Rattle.wit_item_entries.proofs.FunctionTables.{function_next}
 use Rattle.wit_item_entries.proofs.PlacedNames.{placed_differ, table_placed}
-use Rattle.wit_item_entries.proofs.functions.placed_table.Goals as goal
+use Rattle.wit_item_entries.proofs.functions.function_table.Goals as goal
 
 pub loop-function-preserved : goal.loop-function-preserved
 loop-function-preserved c =
@@ -26,4 +26,4 @@ returns c =
     let over = c.in-None.ensures.steps in
     let none : left ≡ [] = nil_from_length left (search rules) in
     let all : prefix ≡ setters_placed is_getter_of c.args.functions.items = sym (append-nil prefix) ∙ ap (λ l. prefix ++ l) (sym none) ∙ was.all in
-    was.entries ∙ ap (map by_name) all ∙ table_placed c.args.functions.items
+    c.shrunk.ensures ∙ was.entries ∙ ap (map by_name) all ∙ table_placed c.args.functions.items

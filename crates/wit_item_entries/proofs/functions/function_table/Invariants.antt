@@ -1,7 +1,7 @@
 use Rattle.std.proofs.Common.{◌≡◌, ◌++◌, map}
 use Rattle.wit_syntax.proofs.Common.{into_iter_items}
 use Rattle.wit_arena.proofs.Common.{by_name, is_getter_of, setters_placed}
-use Rattle.wit_item_entries.proofs.functions.placed_table.Given as goal
+use Rattle.wit_item_entries.proofs.functions.function_table.Given as goal
 
 abbrev pub invariant-loop-function : goal.invariant-loop-function
 invariant-loop-function l = record {
