@@ -1,20 +1,20 @@
 -- Where names in handles end in an arena, they end by files in so many steps: also once some names of the next interface or world, or of what is written in it, were added.
 use Rattle.std.proofs.Common.{◌≡◌, ℕ, zero, suc, ◌<◌, List, [], ◌∷◌, ◌++◌, take, Option, Some, None, inl, inr, refl, sym, ap, ◌∙◌, arith, true, false, length, map, subst, ◌+◌}
-use Rattle.wit_syntax.proofs.Common.{Address, AliasForm, AreDistinct, AtForeign, AtResource, Elsewhere, End, EndsAt, Form, Id, IsOrder, Item, PackageFile, ResourceForm, ScopeName, SideItem, TypeDef, TypeOwner, UnknownForm, Word, address, all_items, append-nil, at_part, at_prefix, at_seam, at_take, cases_lt, differ_at, differ_by, flat_map, foreign_interfaces, in_turn, in_turn_among, in_turn_distinct, inline_items, inline_items_differ, length-map, local_name, map-append, map_at, option_map, rows_of, scope, scope_names, shape_end, slice_get, slice_get-map, slice_get_within, visited}
+use Rattle.wit_syntax.proofs.Common.{Address, AliasForm, AreDistinct, AtForeign, AtResource, Elsewhere, End, EndsAt, Form, Id, IsOrder, Item, PackageFile, ResourceForm, ScopeName, SideItem, TypeDef, TypeOwner, UnknownForm, Word, address, all_items, at_part, at_prefix, at_seam, at_take, cases_lt, differ_at, differ_by, flat_map, foreign_interfaces, in_turn, in_turn_among, in_turn_distinct, inline_items, inline_items_differ, length-map, local_name, map-append, map_at, option_map, rows_of, scope, scope_names, shape_end, slice_get, slice_get-map, slice_get_within, visited}
 use Rattle.wit_types.specs.declared.types.«Type».{«Type» as Ty}
 use Rattle.wit_types.specs.declared.types.«Type».TheVariants as type
-use Rattle.wit_walk.proofs.Common.{end_fault as walk_fault, handle_fault}
-use Rattle.wit_arena.proofs.Common.{AddsForeign, AddsInterface, AddsScope, AddsSides, AreItems, AreKnown, AreNames, AreOfSort, AreOwned, AreUsableUses, AreWorldsDone, Decls, Def, Defines, EndIs, EntryEnd, Env, Function, Interface, InterfacesDone, IsDeclared, IsDefined, IsKeyed, IsOther, IsResource, IsUnknown, Key, Names, Occurrence, Required, ResolvedScope, Turned, World, WorldArenas, all_name_occurrences, all_occurrences, all_turns, collects_from, decls, defines_wider, end_source-more, entry_end, env_of, found_end, function_part_declared, item_declared, item_of, item_scopes, keys, kind_end, kind_of, name_seen_in, next_interface, next_world, option_cases, own_item, own_order, part_end, prefix_apart, prefix_scopes, resolved_scopes, resolved_scopes_among, scope_of, scopes_of, turned, world_item_declared}
+use Rattle.wit_walk.proofs.Common.{IsOutcome, Outcome, end_fault as walk_fault, handle_fault}
+use Rattle.wit_arena.proofs.Common.{AddsForeign, AddsScope, AddsSides, AreItems, AreKnown, AreNames, AreOfSort, AreOwned, AreUsableUses, AreWorldsDone, Decls, Def, Defines, EndIs, EntryEnd, Env, Function, Interface, InterfacesDone, IsDeclared, IsDefined, IsKeyed, IsOther, IsResource, IsUnknown, Key, Names, Occurrence, Required, ResolvedScope, Turned, World, WorldArenas, all_name_occurrences, all_occurrences, all_turns, collects_from, decls, defines_wider, end_source-more, entry_end, env_of, found_end, function_part_declared, item_declared, item_of, item_scopes, keys, kind_end, kind_of, name_seen_in, next_interface, next_world, option_cases, own_item, own_order, part_end, prefix_apart, prefix_scopes, resolved_scopes, resolved_scopes_among, scope_of, scopes_of, turned, world_item_declared}
 use Rattle.wit_entries.specs.EntryFaults.{end_fault, end_in}
-use Rattle.wit_externs.specs.AloneFaults.{EndsIn, IsSafe}
+use Rattle.wit_externs.specs.AloneFaults.{EndsIn}
 use Rattle.wit_types.specs.declared.types.TypeOwner.TheVariants as owner
 use Rattle.wit_arena.proofs.DoneNames.{function_part_of}
 use Rattle.wit_arena.proofs.FunctionPart.{DoneFunction, IsFunctionPart, scope_functions}
 use Rattle.wit_arena.proofs.Interfaces.{functions_of}
 use Rattle.wit_arena.proofs.Members.{DoneScope, IsNameOf, resolved_scope_of, done_address}
 use Rattle.wit_arena.proofs.ScopesInTurn.{none_is_next}
-use Rattle.wit_arena.proofs.Sided.{IsFreshInside, b as laid, inline_step, AreSided}
-use Rattle.wit_externs.proofs.AloneFaults.{safe_of}
+use Rattle.wit_arena.proofs.Sided.{IsFreshInside, AreSided}
+use Rattle.wit_item_entries.specs.ReachedFaults.{EndsInTurn}
 use Rattle.wit_arena.proofs.Inside.{inside_at, inside_scopes-count}
 use Rattle.wit_arena.proofs.WorldSides.{fresh_inside, names_done, sides_done, world_fresh}
 use Rattle.wit_arena.proofs.WorldSides as done
@@ -72,17 +72,6 @@ module _ (files : List PackageFile) (decls : Decls) (ks : List Key) (es more : L
 abbrev AreAmong : List ResolvedScope → List DoneScope → Type 0
 AreAmong known cs = (t : ℕ) (c : ResolvedScope) → slice_get known t ≡ Some c → (j : ℕ) × (slice_get (map resolved_scope_of cs) j ≡ Some c)
 
--- some names of a scope were added in an order to none, and some types after them
-pub record IsReached (old : List TypeDef) (cs : List ResolvedScope) (o : TypeOwner) (item : Item) : Type 0 where
-  pub order : List ℕ
-  pub least : IsOrder (rows_of (scope_names item)) order
-  pub distinct : AreDistinct (scope_names item)
-  pub count : ℕ
-  pub mid : List TypeDef
-  pub names : Names
-  pub defines : (s : Address) → Defines old mid cs o s [] names (take count (in_turn (scope_names item) order))
-  pub more : List TypeDef
-
 -- An item whose scope comes next, while others are being resolved
 module _ (files : List PackageFile) (declares : Decls) (written : List Occurrence) (cs : List DoneScope) (gs : List DoneFunction) (es : List TypeDef) (d : IsFunctionPart files declares written cs gs es) (w : Item) (o : TypeOwner) (fresh : (t : ℕ) (c : DoneScope) → slice_get cs t ≡ Some c → c.address ≡ address w → ⊥) (own : declares (address w) ≡ (scope files (address w), o)) (names_are : scope files (address w) ≡ scope_names w) where
   abbrev s : Address
@@ -112,24 +101,24 @@ module _ (files : List PackageFile) (declares : Decls) (written : List Occurrenc
     own = d.own it.place it.resolved_scope it.at;
   })
 
-  module _ (resolved : List ResolvedScope) (among : AreAmong resolved cs) (h : IsReached es resolved o w) where
+  module _ (resolved : List ResolvedScope) (among : AreAmong resolved cs) (order : List ℕ) (least : IsOrder (rows_of (scope_names w)) order) (distinct : AreDistinct (scope_names w)) (count : ℕ) (mid : List TypeDef) (names : Names) (defines : (s : Address) → Defines es mid resolved o s [] names (take count (in_turn (scope_names w) order))) where
     abbrev turn : List ScopeName
-    turn = in_turn (scope_names w) h.order
+    turn = in_turn (scope_names w) order
 
     abbrev some : List ScopeName
-    some = take h.count turn
+    some = take count turn
 
     -- those of its names that were resolved are declared in it
     declared : AreOwned declares o s some
     declared i x at =
-        let p = in_turn_among (scope_names w) h.order h.least i x (at_take turn h.count i x at).0 in
+        let p = in_turn_among (scope_names w) order least i x (at_take turn count i x at).0 in
         (p.0, ap (λ (d : List ScopeName × TypeOwner). slice_get d.0 p.0) own ∙ ap (λ (l : List ScopeName). slice_get l p.0) names_are ∙ p.1, ap (λ (d : List ScopeName × TypeOwner). d.1) own)
 
     apart : AreDistinct some
-    apart = differ_by local_name some (λ i j x y at_x at_y same. differ_at local_name turn (in_turn_distinct (scope_names w) h.order h.least h.distinct) i j x y (at_take turn h.count i x at_x).0 (at_take turn h.count j y at_y).0 same)
+    apart = differ_by local_name some (λ i j x y at_x at_y same. differ_at local_name turn (in_turn_distinct (scope_names w) order least distinct) i j x y (at_take turn count i x at_x).0 (at_take turn count j y at_y).0 same)
 
-    defined : IsDefined declares d.seen h.mid s [] h.names some
-    defined = (defines_wider es h.mid resolved (map resolved_scope_of cs) o s [] h.names some among (h.defines s)).from declares d.seen declared apart (record { new = λ i x at was. unmet was.0 (local_name x) was.1 }) known d.occurrence nothing
+    defined : IsDefined declares d.seen mid s [] names some
+    defined = (defines_wider es mid resolved (map resolved_scope_of cs) o s [] names some among (defines s)).from declares d.seen declared apart (record { new = λ i x at was. unmet was.0 (local_name x) was.1 }) known d.occurrence nothing
 
     -- the scope of what occurred is declared by files
     seen_declared : (j : ℕ) (t : Address) (name : List ℕ) → slice_get (keys defined.now) j ≡ Some (Def t name) → IsDeclared files declares t
@@ -137,23 +126,19 @@ module _ (files : List PackageFile) (declares : Decls) (written : List Occurrenc
       | inl was ↦ declared_before t name (d.before was.0 t name was.1)
       | inr new ↦ (
           let same = (name_seen_in s some t name new).0 in
-          subst (λ (z : Address). IsDeclared files declares z) (sym same) (record { distinct = subst AreDistinct (sym names_are) h.distinct; whose = o; own = own }))
+          subst (λ (z : Address). IsDeclared files declares z) (sym same) (record { distinct = subst AreDistinct (sym names_are) distinct; whose = o; own = own }))
     ]
 
-    pub reached_ends : (steps : ℕ) → IsEnough files steps s → EndsIn (env_of h.names) (h.mid ++ h.more) (handle_fault files steps s)
-    reached_ends steps enough = walk_ends files declares (keys defined.now) h.mid h.more defined.occurrence.keyed seen_declared s (env_of h.names) defined.are_present steps enough
+  -- so the walk's test is right of the arena, as far as its names were added
+  pub reached_ends : (resolved : List ResolvedScope) → AreAmong resolved cs → (outcome : Outcome) → IsOutcome (rows_of (scope_names w)) outcome → (steps : ℕ) → IsEnough files steps s → EndsInTurn resolved o es (scope_names w) outcome (handle_fault files steps s)
+  reached_ends resolved among outcome right steps enough order is distinct count mid more names defines =
+      let least : IsOrder (rows_of (scope_names w)) order = subst (IsOutcome (rows_of (scope_names w))) is right in
+      let d = defined resolved among order least distinct count mid names defines in
+      walk_ends files declares (keys d.now) mid more d.occurrence.keyed (seen_declared resolved among order least distinct count mid names defines) s (env_of names) d.are_present steps enough
 
 -- a scope whose names are done, also once the arena has grown
 pub part_ends : (files : List PackageFile) (declares : Decls) (written : List Occurrence) (cs : List DoneScope) (gs : List DoneFunction) (es more : List TypeDef) → IsFunctionPart files declares written cs gs es → (t : ℕ) (c : DoneScope) → slice_get cs t ≡ Some c → (steps : ℕ) → IsEnough files steps c.address → EndsIn (env_of c.types) (es ++ more) (handle_fault files steps c.address)
 part_ends files declares written cs gs es more d t c at steps enough = walk_ends files declares (keys d.seen) es more d.occurrence.keyed (λ j s name there. function_part_declared files declares written cs gs es s name d (d.before j s name there)) c.address (env_of c.types) (d.are_present t c at) steps enough
-
--- an interface that came next
-pub next_safe : (files : List PackageFile) (declares : Decls) (written : List Occurrence) (cs : List DoneScope) (gs : List DoneFunction) (ccs : List ResolvedScope) (place : ℕ) (old new : List TypeDef) (added : Interface) (own : List Required) (i : Item) → IsFunctionPart files declares written cs gs old → AreAmong ccs cs → IsFreshInside files declares cs place i → AddsInterface ccs place old new added own i → (steps : ℕ) → IsEnough files steps (address i) → IsSafe (env_of added.types) new (handle_fault files steps (address i))
-next_safe files declares written cs gs ccs place old new added own i d known fresh a steps enough =
-    let c = laid files declares written cs gs ccs place old new added own i d known fresh a in
-    let handle = handle_fault files steps (address i) in
-    let ends : EndsIn (env_of added.types) (new ++ []) handle = part_ends files declares _ (cs ++ c ∷ []) (gs ++ scope_functions c) new [] (inline_step files declares written cs gs ccs place old new added own i d known fresh a) (length cs) c (at_seam cs c) steps enough in
-    safe_of (env_of added.types) new handle (subst (λ (es : List TypeDef). EndsIn (env_of added.types) es handle) (append-nil new) ends)
 
 among_more : (known : List ResolvedScope) (cs more : List DoneScope) → AreAmong known cs → AreAmong known (cs ++ more)
 among_more known cs more among t c at =
@@ -192,11 +177,8 @@ module _ (files : List PackageFile) (is ws : List Item) (interfaces : AreOfSort 
           own = item_declared files is ws interfaces worlds is_items ws_items (length xs) w at ∙ ap (λ (o : TypeOwner). (scope files (address w), o)) (sym whose);
         }
 
-    pub interface_ends : (h : IsReached old (resolved_scopes fore (prefix ++ xs)) (owner.Interface (length (prefix ++ xs))) w) (steps : ℕ) → IsEnough files steps (address w) → EndsIn (env_of h.names) (h.mid ++ h.more) (handle_fault files steps (address w))
-    interface_ends h steps enough = reached_ends files (decls files is ws) (all_occurrences files (map turned d.ordered)) done_before (flat_map scope_functions done_before) old part_before w (owner.Interface (length (prefix ++ xs))) fresh_interface.fresh fresh_interface.own fresh_interface.has (resolved_scopes fore (prefix ++ xs)) among_before h steps enough
-
-    pub interface_safe : (new : List TypeDef) (added : Interface) (required : List Required) → AddsInterface (resolved_scopes fore (prefix ++ xs)) (length (prefix ++ xs)) old new added required w → (steps : ℕ) → IsEnough files steps (address w) → IsSafe (env_of added.types) new (handle_fault files steps (address w))
-    interface_safe new added required a steps enough = next_safe files (decls files is ws) (all_occurrences files (map turned d.ordered)) done_before (flat_map scope_functions done_before) (resolved_scopes fore (prefix ++ xs)) (length (prefix ++ xs)) old new added required w part_before among_before fresh_interface a steps enough
+    pub interface_ends : (outcome : Outcome) → IsOutcome (rows_of (scope_names w)) outcome → (steps : ℕ) → IsEnough files steps (address w) → EndsInTurn (resolved_scopes fore (prefix ++ xs)) (owner.Interface (length (prefix ++ xs))) old (scope_names w) outcome (handle_fault files steps (address w))
+    interface_ends = reached_ends files (decls files is ws) (all_occurrences files (map turned d.ordered)) done_before (flat_map scope_functions done_before) old part_before w (owner.Interface (length (prefix ++ xs))) fresh_interface.fresh fresh_interface.own fresh_interface.has (resolved_scopes fore (prefix ++ xs)) among_before
 
   -- a world that comes next, after all interfaces and some worlds
   module _ (middle : List TypeDef) (xs : List Interface) (irs : List Required) (d : InterfacesDone files is ws prefix is middle xs irs) (us : List Item) (old : List TypeDef) (a : WorldArenas) (qs : List Required) (w : Item) (there : slice_get ws (length us) ≡ Some w) (e : AreWorldsDone files is ws wprefix d.ordered (prefix_scopes files prefix ++ d.scopes) us old a qs) where
@@ -213,12 +195,12 @@ module _ (files : List PackageFile) (is ws : List Item) (interfaces : AreOfSort 
     known_before = among_more resolved (prefix_scopes files prefix ++ d.scopes) (flat_map scopes_of e.scopes) (resolved_scopes_among files is ws interfaces worlds is_items ws_items uses es prefix wprefix foreign xs d.scopes d.laid.types)
 
     -- of the world, once some of its names were added
-    pub world_ends : (h : IsReached old resolved (owner.World (length a.worlds)) w) (steps : ℕ) → IsEnough files steps (address w) → EndsIn (env_of h.names) (h.mid ++ h.more) (handle_fault files steps (address w))
-    world_ends h steps enough =
+    pub world_ends : (outcome : Outcome) → IsOutcome (rows_of (scope_names w)) outcome → (steps : ℕ) → IsEnough files steps (address w) → EndsInTurn resolved (owner.World (length a.worlds)) old (scope_names w) outcome (handle_fault files steps (address w))
+    world_ends =
         let place : length e.own ≡ length us = e.laid.count ∙ length-map e.ordered own_order ∙ sym (length-map e.ordered own_item) ∙ ap length e.all in
         let own = world_item_declared files is ws interfaces worlds is_items ws_items (length e.own) w (ap (slice_get ws) place ∙ there) in
         let whose = ap (λ (l : List World). owner.World (length l)) e.arena ∙ next_world files is ws interfaces worlds is_items ws_items uses es prefix wprefix foreign e.own in
-        reached_ends files (decls files is ws) written before (flat_map scope_functions before) old (function_part_of files (decls files is ws) written before old e.done) w (owner.World (length a.worlds)) (world_fresh files is ws interfaces worlds is_items ws_items uses es prefix wprefix foreign middle xs irs d us old a qs e w there) (own ∙ ap (λ (o : TypeOwner). (scope files (address w), o)) (sym whose)) (scope_of files ws (item_scopes files ws ws_items) (length us) w there) resolved known_before h steps enough
+        reached_ends files (decls files is ws) written before (flat_map scope_functions before) old (function_part_of files (decls files is ws) written before old e.done) w (owner.World (length a.worlds)) (world_fresh files is ws interfaces worlds is_items ws_items uses es prefix wprefix foreign middle xs irs d us old a qs e w there) (own ∙ ap (λ (o : TypeOwner). (scope files (address w), o)) (sym whose)) (scope_of files ws (item_scopes files ws ws_items) (length us) w there) resolved known_before
 
     -- once all of them were
     module _ (types : Names) (named : List TypeDef) (adds : AddsScope old named resolved (owner.World (length a.worlds)) (scope_names w) types) where
@@ -279,8 +261,5 @@ module _ (files : List PackageFile) (is ws : List Item) (interfaces : AreOfSort 
         known_inside : AreAmong resolved scopes
         known_inside = among_more resolved (before ++ own_scope ∷ []) sided.scopes (among_more resolved before (own_scope ∷ []) known_before)
 
-        pub inline_ends : (h : IsReached mid resolved (owner.Interface (length (prefix ++ xs) + length now)) inner) (steps : ℕ) → IsEnough files steps (address inner) → EndsIn (env_of h.names) (h.mid ++ h.more) (handle_fault files steps (address inner))
-        inline_ends h steps enough = reached_ends files (decls files is ws) _ scopes _ mid sided.function_part inner (owner.Interface (length (prefix ++ xs) + length now)) fresh.fresh fresh.own fresh.has resolved known_inside h steps enough
-
-        pub inline_safe : (new : List TypeDef) (added : Interface) (required : List Required) → AddsInterface resolved (length (prefix ++ xs) + length now) mid new added required inner → (steps : ℕ) → IsEnough files steps (address inner) → IsSafe (env_of added.types) new (handle_fault files steps (address inner))
-        inline_safe new added required adds_inner steps enough = next_safe files (decls files is ws) _ scopes _ resolved (length (prefix ++ xs) + length now) mid new added required inner sided.function_part known_inside fresh adds_inner steps enough
+        pub inline_ends : (outcome : Outcome) → IsOutcome (rows_of (scope_names inner)) outcome → (steps : ℕ) → IsEnough files steps (address inner) → EndsInTurn resolved (owner.Interface (length (prefix ++ xs) + length now)) mid (scope_names inner) outcome (handle_fault files steps (address inner))
+        inline_ends = reached_ends files (decls files is ws) _ scopes _ mid sided.function_part inner (owner.Interface (length (prefix ++ xs) + length now)) fresh.fresh fresh.own fresh.has resolved known_inside

@@ -1,7 +1,7 @@
 -- The first fault of files from a step of the walk on: of their names, of uses, and of what is in interfaces and worlds.
-use Rattle.std.proofs.Common.{◌≡◌, ◌⊎◌, ℕ, List, Option, Some, None, inl, inr, refl, sym, ap, ◌∙◌}
-use Rattle.wit_syntax.proofs.Common.{Err, Fault, Id, IsAllocationFailure, IsErrAnd, IsOrder, Ok, PackageFile, ParseError, Result, Row, all_items, cyclic_at, foreign_visits, in_order, interfaces_of, item_rows, item_word, missing_at, option_or, worlds_of}
-use Rattle.wit_walk.proofs.Common.{AtCycle, AtMissing, Finds, InOrder, IsNamesFault, IsOrderFault, IsOrderedFault, IsOutcome, Known, Outcome, Reports, all_uses_fault, contents_fault, files_fault, first_in, item_names_fault, names_prefix, or_assoc, or_none, order_fault, order_of, outcome_one, reports_back, reports_prefix, reports_same, tops_fault, visits_fault}
+use Rattle.std.proofs.Common.{◌≡◌, ◌⊎◌, ℕ, List, Option, Some, None, inl, inr, sym, ap, ◌∙◌}
+use Rattle.wit_syntax.proofs.Common.{Err, Fault, Id, IsAllocationFailure, IsErrAnd, IsOrder, Ok, PackageFile, ParseError, Result, Row, all_items, cyclic_at, foreign_visits, in_order, interfaces_of, item_rows, item_word, missing_at, option_or, worlds_of, ForeignVisit}
+use Rattle.wit_walk.proofs.Common.{AtCycle, AtMissing, Finds, InOrder, IsNamesFault, IsOrderFault, IsOrderedFault, IsOutcome, Known, Outcome, Reports, all_uses_fault, contents_fault, files_fault, first_in, item_names_fault, names_prefix, or_assoc, or_none, order_fault, order_of, outcome_one, reports_back, reports_prefix, reports_same, tops_fault, stability_fault}
 use Rattle.wit_first.proofs.OrderFaults.{or_is, or_neither}
 use Rattle.wit_contents.specs.FileFaults.{IsRight, fault_after}
 
@@ -9,8 +9,8 @@ use Rattle.wit_contents.specs.FileFaults.{IsRight, fault_after}
 order_said : (lost round : Id → Fault) (rs : List Row) (o : Outcome) (first : Option Fault) → IsOutcome rs o → IsOrderFault lost round rs first → order_fault lost round o ≡ first
 order_said lost round rs o None is h = ap (order_fault lost round) (outcome_one rs o (InOrder h.0) is h.1)
 order_said lost round rs o (Some f) is h = elim h [
-  | inl m ↦ ap (order_fault lost round) (outcome_one rs o (AtMissing m.2.id) is (m.0, m.1, m.2, refl)) ∙ ap Some (sym m.3)
-  | inr m ↦ ap (order_fault lost round) (outcome_one rs o (AtCycle m.2.id) is (m.0, m.1, m.2, refl)) ∙ ap Some (sym m.3)
+  | inl m ↦ ap (order_fault lost round) (outcome_one rs o (AtMissing m.2.id) is (m.0, m.1, m.2.first)) ∙ ap Some (sym m.3)
+  | inr m ↦ ap (order_fault lost round) (outcome_one rs o (AtCycle m.2.id) is (m.2.complete, m.0, m.1, m.2.first)) ∙ ap Some (sym m.3)
 ]
 
 -- a fault of what comes first, or none, before the rest
@@ -25,10 +25,10 @@ module _ (files : List PackageFile) (known : Known) (is : IsRight files known) w
   order = order_fault (missing_at 7 item_word) (cyclic_at 8 item_word) outcome
 
   after_names : fault_after 1 files known ≡ option_or (names_prefix files) (option_or (option_or order (tops_fault files)) (fault_after 6 files known))
-  after_names = sym (in_front (visits_fault (foreign_visits files)) (item_names_fault files) (files_fault files) order (tops_fault files) (fault_after 6 files known))
+  after_names = sym (in_front (first_in (λ (v : ForeignVisit). stability_fault v.attributes) (foreign_visits files)) (item_names_fault files) (files_fault files) order (tops_fault files) (fault_after 6 files known))
 
   ordered_said : (first : Option Fault) → IsOrderedFault files first → option_or order (tops_fault files) ≡ first
-  ordered_said first h = ap (λ (o : Option Fault). option_or o (tops_fault files)) (order_said (missing_at 7 item_word) (cyclic_at 8 item_word) (item_rows files) outcome h.0 (is.outcomes.each (item_rows files)) h.1) ∙ h.2
+  ordered_said first h = ap (λ (o : Option Fault). option_or o (tops_fault files)) (order_said (missing_at 7 item_word) (cyclic_at 8 item_word) (item_rows files) outcome h.0 (is.outcomes (item_rows files)) h.1) ∙ h.2
 
   -- names have a fault, which is the first of the files
   pub names_first : (f : Fault) → IsNamesFault files (Some f) → fault_after 1 files known ≡ Some f
@@ -58,7 +58,7 @@ module _ (files : List PackageFile) (known : Known) (is : IsRight files known) w
 
     after_uses : option_or (all_uses_fault files) (option_or of_interfaces of_worlds) ≡ fault_after 6 files known
     after_uses =
-        let one : outcome ≡ InOrder places = outcome_one (item_rows files) outcome (InOrder places) (is.outcomes.each (item_rows files)) least in
+        let one : outcome ≡ InOrder places = outcome_one (item_rows files) outcome (InOrder places) (is.outcomes (item_rows files)) least in
         ap (λ (o : Option Fault). option_or (all_uses_fault files) (option_or of_interfaces o)) (sym (or_none of_worlds))
         ∙ ap (λ (o : Outcome). option_or (all_uses_fault files) (option_or (first_in (contents_fault files known) (interfaces_of (in_order (all_items files) (order_of o)))) (option_or (first_in (contents_fault files known) (worlds_of (in_order (all_items files) (order_of o)))) None))) (sym one)
 

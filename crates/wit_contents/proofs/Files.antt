@@ -1,31 +1,33 @@
 -- What holds of files, of what comes before their interfaces and worlds, and once these were added.
-use Rattle.std.proofs.Common.{◌≡◌, List, true, false, sym, ap, ◌∙◌, ◌<◌, ℕ, All, length, map, get_or, Some, subst, ◌≤◌, [], arith}
-use Rattle.wit_syntax.proofs.Common.{Declared, ForeignVisit, IsOrder, PackageFile, TypeDef, WorldSide, about, all_declared, all_items, append-nil, foreign_interfaces, foreign_items, foreign_worlds, headers, is_inside, item_rows, last_header, length-map, option_map, parts_of, release_parts, scope_names, slice_get-get_or, visited}
-use Rattle.wit_contents.specs.Outer.{AreOuter}
-use Rattle.wit_arena.proofs.Common.{AddsForeign, AreUsableUses, Interface, IsIndex, IsPackage, IsWorldIndex, Names, NamesOthers, Required, UnresolvedPackage, World, first_docs, index_prefix, interfaces_differ, items_within, resolved_scopes, visited_foreign, world_index_prefix, worlds_at, worlds_at-append}
-use Rattle.wit_items.specs.declared.items.Item.{Item as BorrowedItem}
-use Rattle.wit_items.specs.BorrowedItems.{item_view, HaveSoundUses, others_of, names_view}
+use Rattle.std.proofs.Common.{◌≡◌, List, false, sym, ap, ◌∙◌, ◌<◌, ℕ, All, length, map, get_or, subst, ◌≤◌, [], arith, refl, ◌++◌, Some}
+use Rattle.wit_syntax.proofs.Common.{Declared, ForeignVisit, IsOrder, PackageFile, TypeDef, about, all_declared, all_items, append-nil, foreign_interfaces, foreign_items, foreign_worlds, is_inside, item_rows, length-map, option_map, slice_get-get_or, visited, Fault, IsBrokenNames, first_foreign_uses, foreign_packages, in_order, interfaces_of, worlds_of, package_of, Item, TheInline, TheInterface, TheWorld, slice_get, InterfaceNamed, WorldNamed}
 use Rattle.wit_tree.specs.declared.tree.PackageName.{PackageName as Header}
-use Rattle.wit_arena.proofs.Resolved.{files_package as package_by}
-use Rattle.wit_contents.specs.AddedFiles.{AddsFiles}
+use Rattle.wit_arena.proofs.Common.{AddsForeign, Interface, Names, Required, World, index_prefix, interfaces_differ, items_within, visited_foreign, visits_differ, worlds_at, worlds_at-append, AddsInterfaces, AddsWorlds, WorldArenas, dep, prefix_worlds, AreUsableUses, IsNameIndex, interfaces_at, interfaces_at-append}
+use Rattle.wit_items.specs.declared.items.Item.{Item as BorrowedItem}
+use Rattle.wit_items.specs.BorrowedItems.{item_view, others_of}
+use Rattle.wit_arena.proofs.MadePackage.{made_of_package}
+use Rattle.wit_arena.proofs.Resolved.{files_package}
+use Rattle.wit_model.specs.declared.foreign.ForeignItems.{ForeignItems}
+use Rattle.wit_contents.specs.AddedFiles.{MakeContents, package_with}
 use Rattle.wit_files.specs.ForeignPaths.{foreign_view}
 use Rattle.wit_files.specs.declared.foreign.ForeignVisit.{ForeignVisit as BorrowedVisit}
 use Rattle.wit_front.specs.declared.foreign.ForeignArenas.{ForeignArenas}
 use Rattle.wit_items.specs.ForeignAddresses.{prefix_of}
-use Rattle.wit_items.specs.InlineNames.{inside_view, names_written}
-use Rattle.wit_items.specs.PlacedItems.{AreItemsPlaced}
-use Rattle.wit_front.specs.ForeignPrefix.{addresses_among, AreAdded, HasUsed, IsPrefix}
+use Rattle.wit_items.specs.Gathered.{AreItemsOf}
+use Rattle.wit_items.specs.ItemPaths.{AreEntriesOf}
+use Rattle.wit_items.specs.PlacedItems.{IsItemPlaced}
+use Rattle.wit_front.specs.ForeignPrefix.{AddsPrefix, AreAdded, HasUsed, IsPrefix, entries_after}
+use Rattle.wit_front.proofs.ForeignUses.{items_placed}
+use Rattle.wit_front.proofs.Prefixes.{entries_after-among}
 
-pub all_outer : (files : List PackageFile) → AreOuter (all_items files)
-all_outer files = record {
-  outer = λ k i world place x name own at is. (
-      let wrong : false ≡ true = sym (all_declared files k i at) ∙ ap (λ (d : Declared). is_inside (about d).address) is in
-      cc);
-}
-
--- where nothing is wrong with uses, they lead to interfaces
-pub uses_usable : (files : List PackageFile) → HaveSoundUses files (all_items files) → AreUsableUses files (all_items files)
-uses_usable files sound = record { usable = λ w u here used. ((sound.each w here).each u used).usable }
+-- each item of files has a name by which it is found
+pub all_called : (files : List PackageFile) (k : ℕ) (i : Item) → slice_get (all_items files) k ≡ Some i → (about i.declared).called ≡ Some (about i.declared).id.name.now
+all_called files k i at = by i.declared (all_declared files k i at)
+  where
+    by : (d : Declared) → is_inside (about d).address ≡ false → (about d).called ≡ Some (about d).id.name.now
+    by (TheInterface x) own = refl
+    by (TheWorld x) own = refl
+    by (TheInline world place x name items) own = absurd (let f : ⊥ = cc in f)
 
 -- the places of items are those of the items that are borrowed
 pub borrowed_within : (files : List PackageFile) (places : List ℕ) (items : List BorrowedItem) → IsOrder (item_rows files) places → map item_view items ≡ all_items files → All (λ (place : ℕ). place < length items) places
@@ -34,21 +36,27 @@ borrowed_within files places items order all = λ i d lt. (
     let long : length (all_items files) ≡ length items = sym (ap length all) ∙ length-map items item_view in
     subst (λ (n : ℕ). p < n) long (items_within files places order i p (slice_get-get_or places i d lt)))
 
-module _ (files : List PackageFile) (es : List TypeDef) (all : List Interface) (ws : List World) (rs : List Required) (a : AddsFiles files es all ws rs) where
-  module _ (p : UnresolvedPackage) (types : p.types ≡ es) (interfaces : p.interfaces ≡ all) (worlds : p.worlds ≡ ws) (others : NamesOthers files p) where
-    pub files_package : p.required_resource_types ≡ rs → (header : Header) → last_header files ≡ Some header → p.name.namespace ≡ header.namespace.name.now → p.name.name ≡ header.name.name.now → option_map release_parts p.name.version ≡ option_map parts_of header.version → p.name_span ≡ header.span → p.docs ≡ first_docs (headers files) → IsPackage files p
-    files_package required header last namespace name version span docs = package_by files a.places a.order a.names a.uses a.first a.middle es a.prefix a.is a.worlds_prefix a.arenas a.irs a.wrs a.foreign a.interfaces a.worlds p types (interfaces ∙ a.interface_arena) (worlds ∙ a.world_arena) others (required ∙ a.requires) header last namespace name version span docs
+-- what is added to what comes before is what files make
+module _ (files : List PackageFile) (places : List ℕ) (order : IsOrder (item_rows files) places) (names : (f : Fault) → IsBrokenNames files f → ⊥) (uses : AreUsableUses files (all_items files)) (es middle new : List TypeDef) (prefix is : List Interface) (wprefix : List World) (a : WorldArenas) (irs wrs : List Required) (foreign : AddsForeign files es prefix wprefix) (added : AddsInterfaces (map visited (foreign_interfaces files)) es middle prefix is irs (interfaces_of (in_order (all_items files) places))) (more : AddsWorlds (map visited (foreign_interfaces files)) (map visited (foreign_worlds files)) is middle new (prefix_worlds wprefix) a wrs (worlds_of (in_order (all_items files) places))) where
+  pub contents_made : (named : ForeignItems) (all : List Interface) (ws : List World) → all ≡ is ++ a.inside → ws ≡ a.worlds → named.required_resource_types ≡ irs ++ wrs → named.deps ≡ map (dep files) (foreign_packages files) → named.dep_spans ≡ map (λ v. v.of.span) (foreign_packages files) → named.unknown_type_spans ≡ map (λ t. t.id.span) (first_foreign_uses files) → MakeContents files new all ws named
+  contents_made named all ws interfaces worlds required deps spans unknown = record {
+    made = λ header last legal. made_of_package files (package_with files header new all ws named) legal (rw (interfaces, worlds, required) (files_package files places order names uses es middle new prefix is wprefix a irs wrs foreign added more))
+        (ap (option_map package_of) last) (ap (option_map (λ (h : Header). h.span)) last) refl (deps, spans, unknown);
+  }
 
 module _ (files : List PackageFile) (es : List TypeDef) (is : List Interface) (ws : List World) (adds : AddsForeign files es is ws) where
   -- nothing in front goes by a name
-  pub prefix_index : (by_name : Names) → by_name ≡ [] → IsIndex (resolved_scopes (prefix_of files) is) by_name
-  prefix_index by_name none = rw none (index_prefix (prefix_of files) is (adds.interfaces.count ∙ sym (length-map (foreign_interfaces files) visited)) (visited_foreign (foreign_interfaces files)))
+  pub prefix_index : (by_name : Names) → by_name ≡ [] → IsNameIndex InterfaceNamed (interfaces_at (prefix_of files) is) by_name
+  prefix_index by_name none =
+      let ss = prefix_of files in
+      let all : interfaces_at ss is ≡ ss = ap (interfaces_at ss) (sym (append-nil is)) ∙ interfaces_at-append ss is [] (adds.interfaces.count ∙ sym (length-map (foreign_interfaces files) visited)) ∙ append-nil ss in
+      rw none (subst (λ l. IsNameIndex InterfaceNamed l []) (sym all) (index_prefix InterfaceNamed (λ name. refl) ss (visited_foreign (foreign_interfaces files))))
 
-  pub prefix_worlds_index : IsWorldIndex (worlds_at (others_of files) ws) []
+  pub prefix_worlds_index : IsNameIndex WorldNamed (worlds_at (others_of files) ws) []
   prefix_worlds_index =
       let ss = others_of files in
       let all : worlds_at ss ws ≡ ss = ap (worlds_at ss) (sym (append-nil ws)) ∙ worlds_at-append ss ws [] (adds.worlds.count ∙ sym (length-map (foreign_worlds files) visited)) ∙ append-nil ss in
-      subst (λ l. IsWorldIndex l []) (sym all) (world_index_prefix ss (visited_foreign (foreign_worlds files)))
+      subst (λ l. IsNameIndex WorldNamed l []) (sym all) (index_prefix WorldNamed (λ name. refl) ss (visited_foreign (foreign_worlds files)))
 
   -- they are as many as other packages have
   pub interfaces_enough : length (prefix_of files) ≤ length is
@@ -61,17 +69,22 @@ module _ (files : List PackageFile) (es : List TypeDef) (is : List Interface) (w
 bare : (files : List PackageFile) (vs : List BorrowedVisit) (types : List TypeDef) (a : ForeignArenas) → map foreign_view vs ≡ foreign_items files → types ≡ [] → AreAdded (map foreign_view vs) [] [] a → AreAdded (foreign_items files) [] types a
 bare files vs types a all empty h = subst (λ (ts : List TypeDef). AreAdded (foreign_items files) [] ts a) (sym empty) (subst (λ (l : List ForeignVisit). AreAdded l [] [] a) all h)
 
-module _ (files : List PackageFile) (vs : List BorrowedVisit) (types : List TypeDef) (a : ForeignArenas) (items borrowed : List BorrowedItem) (all : map foreign_view vs ≡ foreign_items files) (empty : types ≡ []) (made : AreAdded (map foreign_view vs) [] [] a) (lent : borrowed ≡ items) (placed : AreItemsPlaced (map visited (foreign_interfaces files)) items) where
-  -- names can be taken from them
-  pub prefix_started : HasUsed types a (λ prefix. AreItemsPlaced prefix borrowed)
-  prefix_started = record {
-    vs = foreign_items files;
-    ts = [];
-    apart = interfaces_differ files;
-    in_use = bare files vs types a all empty made;
-    placed = subst (AreItemsPlaced (map visited (foreign_interfaces files))) (sym lent) placed;
-  }
+module _ (files : List PackageFile) (vs : List BorrowedVisit) (types : List TypeDef) (a : ForeignArenas) (all : map foreign_view vs ≡ foreign_items files) (empty : types ≡ []) (made : AreAdded (map foreign_view vs) [] [] a) where
+  -- the entries of these items
+  pub prefix_entries : AreEntriesOf files a.entries.items
+  prefix_entries = made.entries ∙ ap (entries_after 0 0) all ∙ entries_after-among (foreign_items files) (visits_differ files)
 
-  -- once all are taken, they are what comes first
-  pub prefix_used : (types' : List TypeDef) (a' : ForeignArenas) → map names_view items ≡ map scope_names (all_items files) → ((side : WorldSide) → map (inside_view side) items ≡ map (names_written side) (all_items files)) → ((fs : List PackageFile) → AreAdded (foreign_items fs) [] types a → AreItemsPlaced (addresses_among (foreign_items fs)) borrowed → map names_view borrowed ≡ map scope_names (all_items fs) → ((side : WorldSide) → map (inside_view side) borrowed ≡ map (names_written side) (all_items fs)) → IsPrefix fs types' a') → IsPrefix files types' a'
-  prefix_used types' a' names inside in_use = in_use files (bare files vs types a all empty made) (subst (AreItemsPlaced (map visited (foreign_interfaces files))) (sym lent) placed) (ap (map names_view) lent ∙ names) (λ side. ap (map (inside_view side)) lent ∙ inside side)
+  module _ (items borrowed : List BorrowedItem) (lent : borrowed ≡ items) (are : AreItemsOf files items) where
+    -- names can be taken from them
+    pub prefix_started : HasUsed types a (λ prefix. All (IsItemPlaced prefix) borrowed)
+    prefix_started = record {
+      vs = foreign_items files;
+      ts = [];
+      apart = interfaces_differ files;
+      in_use = bare files vs types a all empty made;
+      placed = subst (All (IsItemPlaced (prefix_of files))) (sym lent) (items_placed files items are);
+    }
+
+    -- once all are taken, they are what comes first
+    pub prefix_used : (types' : List TypeDef) (a' : ForeignArenas) → map item_view items ≡ all_items files → AddsPrefix types a types' a' borrowed → IsPrefix files types' a'
+    prefix_used types' a' view in_use = in_use files (bare files vs types a all empty made) (subst (AreItemsOf files) (sym lent) are) (ap (map item_view) lent ∙ view)

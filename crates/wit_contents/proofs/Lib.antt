@@ -7,7 +7,6 @@ mod InterfaceFaults
 mod WorldFaults
 mod WorldParts
 pub mod Ends
-pub mod FoundBy
 pub mod Walked
 pub mod PathsWalked
 pub mod LinksWalked

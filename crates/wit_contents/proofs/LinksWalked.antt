@@ -1,11 +1,12 @@
 -- The first fault of a link of a world, by the interfaces that are resolved, is that of the walk of files.
 use Rattle.std.proofs.Common.{◌≡◌, ℕ, ◌+◌, suc, Bool, true, false, not, ◌||◌, List, [], ◌∷◌, ◌++◌, nat_eq, Option, Some, None, IsSome, inl, inr, refl, sym, ap, ◌∙◌, arith}
 use Rattle.wit_syntax.proofs.Common.{Address, Fault, Foreign, ForeignNamed, ForeignVisit, Id, InterfaceNamed, Item, Link, Local, PackageFile, PackageName, SideFunction, SideInline, SideItem, SideLink, Target, TopName, UsePath, all_items, cases_Bool, find_at, find_passes, flat_map, foreign_at, foreign_interfaces, foreign_items, if◌then◌else◌, is_none, is_world, is_world_at, item_link, item_named, item_word, items_on, kept_has, leads, linked_twice, list_any, missing_at, option_map, option_map_or, option_or, option_to_list, path_id, path_scope, same_address, same_address-equal, same_address-from, slice_get, slice_get-map, some_of, target_scope, visited, world_there, ◌&&◌}
-use Rattle.wit_walk.proofs.Common.{is_same_link, link_fault, linked_fault as again_fault, lost_fault, metadata_fault, or_assoc, reached_fault, there_fault}
+use Rattle.wit_walk.proofs.Common.{is_same_link, link_fault, linked_fault as again_fault, lost_fault, metadata_fault, or_assoc, reached_fault}
 use Rattle.wit_arena.proofs.Common.{Names, env_of, interfaces_differ, place_at, place_at-found}
 use Rattle.wit_externs.specs.Links.{bare_places}
 use Rattle.wit_items.specs.ForeignAddresses.{prefix_of}
-use Rattle.wit_links.specs.Links.{interface_place, linked_fault, path_place, unresolved_fault}
+use Rattle.wit_items.specs.ResolvedInterfaces.{unresolved_fault}
+use Rattle.wit_links.specs.Links.{interface_place, linked_fault, path_place}
 use Rattle.wit_world_sides.specs.PutFaults.{again_linked}
 
 abbrev wants : ForeignVisit → Bool
@@ -146,10 +147,10 @@ module _ (files : List PackageFile) (by_name : Names) (top : List TopName) (befo
 
   -- by what is there
   abbrev tables_at : Option Bool → Option Fault
-  tables_at o = option_or noted (option_or (option_or (reached_fault o (path_id link.path) lost) (unresolved_fault by_name t)) (option_map_or put placed None))
+  tables_at o = option_or noted (option_or (option_or (reached_fault o (path_id link.path) lost None) (unresolved_fault by_name t)) (option_map_or put placed None))
 
   abbrev files_at : Option Bool → Option Fault
-  files_at o = option_or (option_or noted (there_fault o (path_id link.path) lost (again_fault top before link))) named
+  files_at o = option_or (option_or noted (reached_fault o (path_id link.path) lost (again_fault top before link))) named
 
   by : (o : Option Bool) → is_world_at files t ≡ o → tables_at o ≡ files_at o
   by None is =

@@ -1,34 +1,33 @@
 -- The first fault of what is on the sides of a world: of one that comes next, and of more after some, part by part.
-use Rattle.std.proofs.Common.{◌≡◌, ◌⊎◌, ℕ, List, [], ◌∷◌, ◌++◌, length, map, take, Option, Some, None, refl, sym, ap, ◌∙◌, subst, append_assoc, ◌<◌, ◌+◌, drop, get_or}
-use Rattle.wit_syntax.proofs.Common.{Address, Declared, Fault, Id, IsAllocationFailure, Item, Link, ParseError, ResourceFunc, ScopeName, SideFunction, SideItem, SideLink, SourceFunction, TheInline, TheWorld, TopName, TypeBody, TypeDef, World, WorldItem, about, append-nil, definition_functions, fault_of, flat_map, flat_map-append, functions_items, inline_item, item_function, item_inline, item_name, items_on, map-append, option_map_or, option_or, part_items, resource_function, scope_names, side_items, slice_get, slice_get_read, take_seam, world_part}
-use Rattle.wit_walk.proofs.Common.{Reports, after-append, first_after, function_fault, metadata_fault, none_both, or_none, reports_prefix, reports_same, word_fault}
-use Rattle.wit_arena.proofs.Common.{AddsInterface, Env, env_of}
+use Rattle.std.proofs.Common.{◌≡◌, ℕ, List, [], ◌∷◌, ◌++◌, length, map, take, Option, Some, None, refl, sym, ap, ◌∙◌, subst, append_assoc, ◌<◌, ◌+◌, drop, get_or}
+use Rattle.wit_syntax.proofs.Common.{Declared, Fault, Id, Item, Link, ParseError, ResourceFunc, ScopeName, SideFunction, SideItem, SideLink, SourceFunction, TheInline, TheWorld, TopName, TypeBody, TypeDef, World, WorldItem, about, append-nil, definition_functions, flat_map, flat_map-append, functions_items, inline_item, item_function, item_inline, item_name, items_on, map-append, option_map, option_map_or, option_or, part_items, resource_function, scope_names, side_items, slice_get, slice_get_read, take_seam, world_part, Result}
+use Rattle.wit_walk.proofs.Common.{Reports, after-append, first_after, function_fault, metadata_fault, none_both, or_none, reports_prefix, reports_same, word_fault, Finds, finds_same}
+use Rattle.wit_arena.proofs.Common.{Env, env_of, Interface}
 use Rattle.wit_rules.specs.Signatures.{functions_view}
-use Rattle.wit_signatures.specs.SignatureFaults.{function_fault as signature_function_fault}
-use Rattle.wit_externs.specs.AloneFaults.{EndsIn, IsSafe, signed_by, words_in}
-use Rattle.wit_externs.proofs.AloneFaults.{function_safe, function_same, safe_of}
+use Rattle.wit_signatures.specs.SignatureFaults.{signed_fault}
+use Rattle.wit_externs.specs.AloneFaults.{EndsIn, signed_by, words_in}
+use Rattle.wit_externs.proofs.AloneFaults.{function_same}
+use Rattle.wit_entries.specs.Requiring.{IsExtended}
 use Rattle.wit_files.specs.FileNames.{names_at_top, top_at}
 use Rattle.wit_items.specs.ForeignAddresses.{prefix_of}
 use Rattle.wit_scopes.specs.BorrowedNames.{name_view}
 use Rattle.wit_scopes.specs.PlacedNames.{AreNamesPlaced}
 use Rattle.wit_items.specs.BorrowedItems.{scope_item, declared_view}
-use Rattle.wit_items.specs.InlineNames.{inside_view}
-use Rattle.wit_items.specs.PlacedItems.{AreItemsPlaced}
-use Rattle.wit_items.specs.ResolvedInterfaces.{resolved_scopes_of}
+use Rattle.wit_items.specs.InlineNames.{inside_view, inside_of}
 use Rattle.wit_items.specs.declared.items.InlineInterface.{InlineInterface}
 use Rattle.wit_items.specs.declared.interfaces.Interfaces.{Interfaces}
 use Rattle.wit_items.specs.declared.items.ItemScope.{ItemScope}
-use Rattle.wit_world_sides.specs.PutFaults.{put_fault, put_link_fault}
+use Rattle.wit_world_sides.specs.PutFaults.{put_link_fault}
 use Rattle.wit_links.specs.Links.{IsLinkedTo, linked_fault}
 use Rattle.wit_links.specs.SideCounts.{inline_of, inline_side, seen_on}
-use Rattle.wit_links.proofs.Inlined.{names_own}
+use Rattle.wit_links.proofs.Inlined.{names_own, lent_named, lent_placed}
 use Rattle.wit_item_entries.proofs.FunctionFaults.{words_same}
 use Rattle.wit_world_sides.specs.Members.{AreKeyed}
 use Rattle.wit_contents.specs.declared.walk.Walked.{Walked}
-use Rattle.wit_contents.specs.InterfaceFaults.{IsInterfaceFault, names_of}
-use Rattle.wit_contents.specs.MemberFaults.{AddsFaultless, AreRightMembers, HasNoFaultInside, IsFaultInside, IsFaultlessMember, IsInline, IsMemberFault, IsRightMember, MemberTest, function_member, link_member}
-use Rattle.wit_contents.specs.Walk.{AddsMembers, AddsNext, IsNext, ItemWalk, Stage, lead, next_place, walk_item, resource_items}
-use Rattle.wit_contents.proofs.FileFaults.{or_found}
+use Rattle.wit_contents.specs.InterfaceFaults.{names_of, FindsInterface, IsRightOf}
+use Rattle.wit_contents.specs.MemberFaults.{AreRightMembers, IsRightMember, MemberTest, function_member, link_member, FindsMembers, inline_member}
+use Rattle.wit_contents.specs.Walk.{AddsMembers, AddsNext, IsNext, ItemWalk, Stage, lead, next_place, walk_item, resource_items, stage}
+use Rattle.wit_contents.proofs.InterfaceFaults.{finds_right}
 use Rattle.wit_contents.proofs.Members.{function_there, inline_here, members_none, members_then, next_then}
 use Rattle.wit_type_tree.specs.declared.types.TypeBody.TheVariants as body
 use Rattle.wit_items.proofs.UsableNames.{parts_more}
@@ -46,14 +45,9 @@ module _ (w : ItemWalk) where
   right_one : (wrong : MemberTest) (prefix : List SideItem) (x : SideItem) (a : Stage) → AreKeyed a.walked.members → AreRightMembers wrong w prefix (x ∷ []) a → IsRightMember wrong w prefix x a
   right_one wrong prefix x a keyed right = subst (λ (l : List SideItem). IsRightMember wrong w l x a) (append-nil prefix) (right [] [] x a refl (members_none w prefix a keyed))
 
-  module _ (x : SideItem) (a : Stage) (n : IsNext w (x ∷ []) a.walked) where
-    -- an error reports what is wrong with it
-    pub one_reports : {B : Type 0} (e : ParseError) → IsAllocationFailure e ⊎ B → (B → IsMemberFault w n.prefix x a (fault_of e)) → ReportFirst w n.prefix (x ∷ []) a e
-    one_reports e said fault wrong right = or_found said (λ is. or_none (wrong n.prefix x) ∙ (right_one wrong n.prefix x a n.keyed right).fault (fault_of e) (fault is))
-
-    -- or nothing is
-    pub one_none : (b : Stage) → AddsMembers w n.prefix (x ∷ []) a b → IsFaultlessMember w n.prefix x a b.types → HaveNone w n.prefix (x ∷ []) (x ∷ []) a
-    one_none b adds h wrong right = or_none (wrong n.prefix x) ∙ (right_one wrong n.prefix x a n.keyed right).none b adds h
+  -- what is found of it by each test that is right of it is the first of all
+  pub one_found : {T : Type 0} (r : Result T ParseError) (x : SideItem) (a : Stage) (n : IsNext w (x ∷ []) a.walked) → ((wrong : MemberTest) → IsRightMember wrong w n.prefix x a → Finds (wrong n.prefix x) r) → FindsMembers w n.prefix (x ∷ []) a r
+  one_found r x a n found wrong right = finds_same r (sym (or_none (wrong n.prefix x))) (found wrong (right_one wrong n.prefix x a n.keyed right))
 
   -- of all that come next these were added, and none of them has a fault
   pub record AreDone (all done : List SideItem) (a b : Stage) : Type 0 where
@@ -123,21 +117,23 @@ module _ {w : ItemWalk} {fn : SourceFunction} {m : Walked} (n : IsNext w (SideFu
       ap (λ (l : List SourceFunction). function_fault (signed_by (words_in env) handle (l ++ fn ∷ [])) xs fn) upto
       ∙ ap (λ (word : List SourceFunction → Id → Option Fault). function_fault (signed_by word handle (flat_map item_function n.prefix ++ fn ∷ [])) xs fn) (words_same xs w.walk.turn.now w.walk.scope.names.now n.walk.turn n.walk.listed)
 
-  module _ (es : List TypeDef) where
-    own_none : (handle : Id → Option Fault) → signature_function_fault env es xs fns place fn ≡ None → IsSafe env es handle → function_fault (signed_by (word_fault xs) handle (flat_map item_function n.prefix ++ fn ∷ [])) xs fn ≡ None
-    own_none handle none safe = sym (by_scope handle) ∙ function_safe env es handle xs safe fns place fn function_next none
+  -- itself, by a test of names in handles that is right of the arena once it was resolved
+  abbrev pub by_table : List TypeDef → Option Fault
+  by_table es = function_fault (signed_fault env es (take (place + 1) fns)) xs fn
 
-    -- it is wrong itself, or its name is, or nothing
-    pub function_wrong : (f : Fault) → signature_function_fault env es xs fns place fn ≡ Some f → (handle : Id → Option Fault) → EndsIn env es handle → function_member w n.prefix m.members fn handle ≡ Some f
-    function_wrong f wrong handle ends =
-        let own = function_same env es handle xs ends fns place fn function_next ∙ by_scope handle in
-        ap (λ (o : Option Fault). option_or o (put_fault m.members (SideFunction fn))) (sym own ∙ wrong)
+  abbrev pub by_names : (Id → Option Fault) → Option Fault
+  by_names handle = function_fault (signed_by (word_fault xs) handle (flat_map item_function n.prefix ++ fn ∷ [])) xs fn
 
-    pub function_put : (f : Fault) → signature_function_fault env es xs fns place fn ≡ None → put_fault m.members (SideFunction fn) ≡ Some f → (handle : Id → Option Fault) → EndsIn env es handle → function_member w n.prefix m.members fn handle ≡ Some f
-    function_put f none wrong handle ends = ap (λ (o : Option Fault). option_or o (put_fault m.members (SideFunction fn))) (own_none handle none (safe_of env es handle ends)) ∙ wrong
+  pub function_is : (es : List TypeDef) (handle : Id → Option Fault) → EndsIn env es handle → by_table es ≡ by_names handle
+  function_is es handle ends = function_same env es handle xs ends fns place fn function_next ∙ by_scope handle
 
-    pub function_none : signature_function_fault env es xs fns place fn ≡ None → put_fault m.members (SideFunction fn) ≡ None → (handle : Id → Option Fault) → IsSafe env es handle → function_member w n.prefix m.members fn handle ≡ None
-    function_none none right handle safe = none_both (own_none handle none safe) right
+-- and so of all that is found of it
+pub function_found : {T : Type 0} (r : Result T ParseError) (w : ItemWalk) (fn : SourceFunction) (a : Stage) (n : IsNext w (SideFunction fn ∷ []) a.walked) → ((handle : Id → Option Fault) → ((more : List TypeDef) → EndsIn (env_of w.walk.scope.names.now) (a.types ++ more) handle) → Finds (function_member w n.prefix a.walked.members fn handle) r) → FindsMembers w n.prefix (SideFunction fn ∷ []) a r
+function_found r w fn a n found = one_found w r (SideFunction fn) a n (λ wrong right. finds_same r (sym right.2) (found right.0 right.1))
+
+-- its test is right once it was resolved
+pub function_ends : (env : Env) (old new : List TypeDef) (handle : Id → Option Fault) → ((more : List TypeDef) → EndsIn env (old ++ more) handle) → IsExtended old new → EndsIn env new handle
+function_ends env old new handle from g = subst (λ (es : List TypeDef). EndsIn env es handle) (sym g.is) (from g.more)
 
 -- a link that comes next: its attributes, where its path leads, and its name
 module _ {w : ItemWalk} {link : Link} {m : Walked} (n : IsNext w (SideLink link ∷ []) m) where
@@ -148,8 +144,8 @@ module _ {w : ItemWalk} {link : Link} {m : Walked} (n : IsNext w (SideLink link 
   at_top : top_at resolved.files w.item.place ≡ (walk_item w).top
   at_top = ap names_at_top n.walk.item.filed.file
 
-  pub link_leads : (place id : ℕ) → IsLinkedTo resolved.files resolved.by_name (top_at resolved.files w.item.place) link.path place → id ≡ place → IsLinkedTo resolved.files resolved.by_name (walk_item w).top link.path id
-  link_leads place id leads same = subst (λ (k : ℕ). IsLinkedTo resolved.files resolved.by_name (walk_item w).top link.path k) (sym same) (subst (λ (t : List TopName). IsLinkedTo resolved.files resolved.by_name t link.path place) at_top leads)
+  pub link_leads : (id : ℕ) → IsLinkedTo resolved.files resolved.by_name (top_at resolved.files w.item.place) link.path id → IsLinkedTo resolved.files resolved.by_name (walk_item w).top link.path id
+  link_leads id leads = subst (λ (t : List TopName). IsLinkedTo resolved.files resolved.by_name t link.path id) at_top leads
 
   abbrev lost : List TopName → Option Fault
   lost top = linked_fault resolved.files resolved.by_name top link.path
@@ -170,42 +166,44 @@ module _ {w : ItemWalk} {link : Link} {m : Walked} (n : IsNext w (SideLink link 
       ∙ ap (λ (p : Option ℕ). option_map_or (put_link_fault m.members link) p None) there
       ∙ is
 
+pub link_found : {T : Type 0} (r : Result T ParseError) (w : ItemWalk) (link : Link) (a : Stage) (n : IsNext w (SideLink link ∷ []) a.walked) → Finds (link_member w a.walked.members link) r → FindsMembers w n.prefix (SideLink link ∷ []) a r
+link_found r w link a n found = one_found w r (SideLink link) a n (λ wrong right. finds_same r (sym right) found)
+
 -- an inline interface that comes next, as it is lent
-module _ {w : ItemWalk} {m : Walked} (x : InlineInterface) (n : IsNext w (inline_side x ∷ []) m) (world : x.world.now ≡ item_name (walk_item w)) (place : x.place ≡ (seen_on x.written.now.side m.seen).interfaces) (s : ItemScope) (before : ℕ) (count : before ≡ (seen_on x.written.now.side m.seen).inline) (item : scope_item s ≡ inline_of (walk_item w) x) (named : slice_get (inside_view x.written.now.side w.item) before ≡ Some (map name_view s.names.now)) where
+module _ {w : ItemWalk} {m : Walked} (x : InlineInterface) (n : IsNext w (inline_side x ∷ []) m) (world : x.world.now ≡ item_name (walk_item w)) (place : x.place ≡ (seen_on x.written.now.side m.seen).interfaces) (s : ItemScope) (before : ℕ) (count : before ≡ (seen_on x.written.now.side m.seen).inline) (item : scope_item s ≡ inline_of (walk_item w) x) (own : option_map (λ ns. ns.items) (slice_get (inside_of x.written.now.side w.item) before) ≡ Some s.names.now) where
   names : names_of s ≡ scope_names (inline_of (walk_item w) x)
   names =
       let side = x.written.now.side in
       let i = walk_item w in
       let number : before ≡ length (flat_map item_inline (items_on side n.prefix)) = count ∙ n.seen.inline side in
-      let own : inline_item i x.place (inline_side x) ≡ inline_of i x ∷ [] = ap (λ (world : List _). record { top = i.top; declared = TheInline world x.place x.written.now x.name x.items.now } ∷ []) (sym world) in
-      names_own (inside_view side w.item) i (inline_of i x) n.prefix n.rest x.written.now x.name x.items.now before x.place (map name_view s.names.now) (n.walk.item.written side) n.sides number own named
+      let here : inline_item i x.place (inline_side x) ≡ inline_of i x ∷ [] = ap (λ (world : List _). record { top = i.top; declared = TheInline world x.place x.written.now x.name x.items.now } ∷ []) (sym world) in
+      names_own (inside_view side w.item) i (inline_of i x) n.prefix n.rest x.written.now x.name x.items.now before x.place (map name_view s.names.now) (n.walk.item.written side) n.sides number here (lent_named (inside_of side w.item) before s.names.now own)
 
   pub names_inside : names_of s ≡ scope_names (scope_item s)
   names_inside = names ∙ ap scope_names (sym item)
 
-  module _ (placed : (prefix : List Address) → AreItemsPlaced prefix (w.item ∷ []) → AreNamesPlaced prefix s.names.now) (a : Stage) where
-    abbrev lent : IsInline w n.prefix (inline_side x) s
-    lent = record {
-      item = inline_of (walk_item w) x;
-      next = inline_here (walk_item w) n.prefix x world (place ∙ n.seen.interfaces x.written.now.side);
-      lent = record { item = item; named = names; placed = placed (prefix_of w.walk.interfaces.now.files) n.walk.item.placed };
-    }
+  pub names_placed : AreNamesPlaced (prefix_of w.walk.interfaces.now.files) s.names.now
+  names_placed = lent_placed (prefix_of w.walk.interfaces.now.files) (inside_of x.written.now.side w.item) before s.names.now own (n.walk.item.placed.inside x.written.now.side)
 
-    -- something in it is wrong
-    pub inside_wrong : (f : Fault) → IsInterfaceFault w.walk.interfaces.now (next_place w.walk.interfaces.now a.inside) a.types s f → IsFaultInside w n.prefix (inline_side x) a f
-    inside_wrong f wrong = record { scope = s; inline = lent; wrong = wrong }
+  module _ (old : List TypeDef) (inside : List Interface) where
+    abbrev is : Interfaces
+    is = w.walk.interfaces.now
 
-    -- or nothing is
-    pub inside_none : (new : List TypeDef) → AddsFaultless w.walk.interfaces.now a.types new a.inside s → HasNoFaultInside w n.prefix (inline_side x) a
-    inside_none new h = record {
-      scope = s;
-      inline = lent;
-      types = new;
-      added = h.added;
-      requires = h.requires;
-      adds = subst (λ (i : Item). AddsInterface (resolved_scopes_of w.walk.interfaces.now) (next_place w.walk.interfaces.now a.inside) a.types new h.added h.requires i) item h.adds;
-      none = h.none;
-    }
+    abbrev u : Item
+    u = inline_of (walk_item w) x
+
+    abbrev IsRight : (Item → Option Fault) → Type 0
+    IsRight test = IsRightOf test is old (next_place is inside) u
+
+    -- what is found in it is what a test that is right of it says
+    pub inside_found : {T : Type 0} (q : Result T ParseError) (test : Item → Option Fault) → IsRight test → FindsInterface is (next_place is inside) old s q → Finds (test u) q
+    inside_found q test right found = finds_right q test is old (next_place is inside) u s (record { item = item; named = names; placed = names_placed }) right found
+
+    -- that, and then its name
+    pub inline_found : {T : Type 0} (r : Result T ParseError) → ((test : Item → Option Fault) → IsRight test → Finds (option_or (test u) (inline_member m.members n.prefix (inline_side x))) r) → FindsMembers w n.prefix (inline_side x ∷ []) (stage old inside m) r
+    inline_found r found = one_found w r (inline_side x) (stage old inside m) n (λ wrong right. (
+        let it = right.1 u (inline_here (walk_item w) n.prefix x world (place ∙ n.seen.interfaces x.written.now.side)) in
+        finds_same r (sym it.1) (found right.0 it.0)))
 
 -- what parts of a world are on its sides
 abbrev pub world_sides : List WorldItem → List SideItem

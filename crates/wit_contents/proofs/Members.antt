@@ -1,12 +1,11 @@
 -- What is on the sides of a world, resolved one after another: nothing, more after some, and a function, an interface by its path, or an inline one.
-use Rattle.std.proofs.Common.{◌≡◌, ℕ, ◌+◌, List, [], ◌∷◌, ◌++◌, length, refl, sym, ap, ◌∙◌, subst, append_assoc, arith, Bool, true, false, if◌then◌else◌, map, Some, inl, inr, add-zero, Option}
+use Rattle.std.proofs.Common.{◌≡◌, ℕ, ◌+◌, List, [], ◌∷◌, ◌++◌, length, refl, sym, ap, ◌∙◌, subst, append_assoc, arith, Bool, true, false, if◌then◌else◌, map, Some, inl, inr, add-zero, Option, suc}
 use Rattle.wit_syntax.proofs.Common.{Address, Contains-append_cases, Extern, Id, InterfaceItem, Item, Link, SideFunction, SideInline, SideItem, SideLink, SourceFunction, TheInline, TopName, TypeDef, WorldSide, address, all_handles, append-nil, at_back, at_prefix, filter-append, flat_map, flat_map-append, functions, functions_items, inline_after, inline_after-append, interfaces_on, item_function, item_inline, item_name, item_side, items_on, length-append, length-inline_after, length-map, map-append, option_map_or, option_to_list, path_scope, role_side, same_side, side_items, slice_get, written_types}
-use Rattle.wit_arena.proofs.Common.{AddsFunction, AddsFunctions, AddsInterface, AddsSides, AreSideItems, Function, Interface, Names, Required, ResolvedScope, env_of, function_item, inline_entry, interfaces_at, link_item, put_on}
+use Rattle.wit_arena.proofs.Common.{AddsFunctions, AddsInterface, AddsSides, AreSideItems, Function, Interface, Names, Required, ResolvedScope, env_of, function_item, inline_entry, interfaces_at, link_item, put_on, AreEnded}
 use Rattle.wit_walk.proofs.Common.{Sorted, item_sorted}
 use Rattle.wit_entries.proofs.Requiring.{extended_then}
 use Rattle.wit_refusals.specs.NameScopes.{Name}
 use Rattle.wit_sides.specs.SideNames.{defined_on}
-use Rattle.wit_signatures.specs.ForeignName.{name_of_function, name_of_made}
 use Rattle.wit_externs.specs.Clash.{item_names, names_of_items}
 use Rattle.wit_externs.specs.Links.{bare_place, bare_places}
 use Rattle.wit_externs.specs.Next.{linked_on}
@@ -17,7 +16,6 @@ use Rattle.wit_links.specs.SideCounts.{IsSeen, inline_of, inline_side}
 use Rattle.wit_contents.specs.Walk.{AddsMembers, HasMore, HavePlaces, IsNext, ItemWalk, Stage, lead, next_place, walk_item, AddsInside, stage}
 use Rattle.wit_items.proofs.UsableNames.{contains_one}
 use Rattle.wit_entries.specs.Requiring.{IsExtended, Requires}
-use Rattle.wit_externs.proofs.DoneFunctions.{same_name}
 use Rattle.wit_externs.proofs.Steps.{at_middle, kept_nothing, kept_one}
 use Rattle.wit_items.specs.ForeignAddresses.{prefix_of}
 use Rattle.wit_items.specs.declared.items.InlineInterface.{InlineInterface}
@@ -25,6 +23,24 @@ use Rattle.wit_world_sides.specs.declared.members.Members.{Members}
 use Rattle.wit_contents.specs.declared.walk.Walked.{Walked}
 
 module _ (cs : List ResolvedScope) (count : ℕ) (s : Address) (names : Names) where
+  -- as many interfaces are added as are written there, and as many functions are made
+  pub sides_count : (a b : List TypeDef) (is js : List Interface) (fs : List Function) (rs : List Required) (xs : List SideItem) (us : List Item) → AddsSides cs count s names a b is js fs rs xs us → length js ≡ length is + length (flat_map item_inline xs)
+  sides_count a b is js fs rs [] us h = ap length h.1 ∙ sym (add-zero (length is))
+  sides_count a b is js fs rs (SideFunction fn ∷ xs) us h = sides_count h.0 b is js h.2 h.4 xs us h.9
+  sides_count a b is js fs rs (SideLink link ∷ xs) us h = sides_count a b is js fs rs xs us h
+  sides_count a b is js fs rs (SideInline x name items ∷ xs) [] h = absurd h
+  sides_count a b is js fs rs (SideInline x name items ∷ xs) (u ∷ us) h =
+      let rest = sides_count h.0 b (is ++ h.1 ∷ []) js fs h.3 xs us h.6 in
+      let one = length-append is (h.1 ∷ []) in
+      omega (arith, rest, one)
+
+  sides_made : (a b : List TypeDef) (is js : List Interface) (fs : List Function) (rs : List Required) (xs : List SideItem) (us : List Item) → AddsSides cs count s names a b is js fs rs xs us → length fs ≡ length (flat_map item_function xs)
+  sides_made a b is js fs rs [] us h = ap length h.2
+  sides_made a b is js fs rs (SideFunction fn ∷ xs) us h = ap length h.5 ∙ ap suc (sides_made h.0 b is js h.2 h.4 xs us h.9)
+  sides_made a b is js fs rs (SideLink link ∷ xs) us h = sides_made a b is js fs rs xs us h
+  sides_made a b is js fs rs (SideInline x name items ∷ xs) [] h = absurd h
+  sides_made a b is js fs rs (SideInline x name items ∷ xs) (u ∷ us) h = sides_made h.0 b (is ++ h.1 ∷ []) js fs h.3 xs us h.6
+
   -- nothing adds nothing
   pub sides_none : (a : List TypeDef) (is : List Interface) (us : List Item) → AddsSides cs count s names a a is is [] [] [] us
   sides_none a is us = (refl, refl, refl, refl)
@@ -49,7 +65,8 @@ module _ (cs : List ResolvedScope) (count : ℕ) (s : Address) (names : Names) w
     ap (λ (l : List Function). l ++ gs) h.5,
     ap (λ (l : List Required). l ++ ss) h.6 ∙ append_assoc h.3 h.4 ss,
     h.7,
-    sides_then h.0 b c is js ks h.2 gs h.4 ss xs ys us vs long h.8 k,
+    h.8,
+    sides_then h.0 b c is js ks h.2 gs h.4 ss xs ys us vs long h.9 k,
   )
   sides_then a b c is js ks fs gs rs ss (SideLink link ∷ xs) ys us vs long h k = sides_then a b c is js ks fs gs rs ss xs ys us vs long h k
   sides_then a b c is js ks fs gs rs ss (SideInline x name items ∷ xs) ys [] vs long h k = absurd h
@@ -64,8 +81,8 @@ module _ (cs : List ResolvedScope) (count : ℕ) (s : Address) (names : Names) w
   )
 
   -- one function, one link, and one interface that is written there
-  pub sides_function : (b c : List TypeDef) (js : List Interface) (fn : SourceFunction) (f : Function) (own : List Required) → AddsFunction s names b c fn f own → AddsSides cs count s names b c js js (f ∷ []) own (SideFunction fn ∷ []) []
-  sides_function b c js fn f own adds = (c, f, [], own, [], refl, sym (append-nil own), adds, (refl, refl, refl, refl))
+  pub sides_function : (b c : List TypeDef) (js : List Interface) (fn : SourceFunction) (f : Function) (own : List Required) → AddsFunctions b c s names (fn ∷ []) (f ∷ []) → AreEnded (env_of names) c (all_handles (written_types fn)) own → AddsSides cs count s names b c js js (f ∷ []) own (SideFunction fn ∷ []) []
+  sides_function b c js fn f own adds ended = (c, f, [], own, [], refl, sym (append-nil own), adds, ended, (refl, refl, refl, refl))
 
   pub sides_link : (b : List TypeDef) (js : List Interface) (link : Link) → AddsSides cs count s names b b js js [] [] (SideLink link ∷ []) []
   sides_link b js link = (refl, refl, refl, refl)
@@ -122,8 +139,6 @@ module _ (w : ItemWalk) where
     functions = [];
     adds = record { own = []; list = sym (append-nil a.walked.required.items); holds = λ s. sides_none (resolved_scopes_of w.walk.interfaces.now) (length w.walk.interfaces.now.arena) s w.walk.scope.names.now a.types a.inside [] };
     extended = record { more = []; is = sym (append-nil a.types) };
-    more = sym (add-zero (length a.inside));
-    named = refl;
     seen = λ ys seen. subst (λ (l : List SideItem). IsSeen l a.walked.seen) (sym (append-nil ys)) seen;
     in_use = λ s. sym (append-nil (defined_on s a.walked.members.in_use));
     linked = λ s. sym (append-nil (linked_on s a.walked.members.links));
@@ -153,10 +168,10 @@ module _ (w : ItemWalk) where
     given = length-inline_after item prefix xs
 
     made : length p.functions ≡ length (flat_map item_function xs)
-    made = sym (length-map p.functions name_of_made) ∙ ap length p.named ∙ length-map (flat_map item_function xs) name_of_function
+    made = sides_made (resolved_scopes_of w.walk.interfaces.now) (length w.walk.interfaces.now.arena) (address item) w.walk.scope.names.now a.types b.types a.inside b.inside p.functions p.adds.own xs us (p.adds.holds (address item))
 
-    functions_both : flat_map item_function (xs ++ ys) ≡ flat_map item_function xs ++ flat_map item_function ys
-    functions_both = flat_map-append item_function xs ys
+    count : length b.inside ≡ length a.inside + length (flat_map item_inline xs)
+    count = sides_count (resolved_scopes_of w.walk.interfaces.now) (length w.walk.interfaces.now.arena) (address item) w.walk.scope.names.now a.types b.types a.inside b.inside p.functions p.adds.own xs us (p.adds.holds (address item))
 
     adds_both : (s : Address) → AddsSides (resolved_scopes_of w.walk.interfaces.now) (length w.walk.interfaces.now.arena) s w.walk.scope.names.now a.types c.types a.inside c.inside (p.functions ++ q.functions) (p.adds.own ++ q.adds.own) (xs ++ ys) all_inline
     adds_both s =
@@ -175,14 +190,14 @@ module _ (w : ItemWalk) where
           inline = λ k r at. (
               let there = places.inline (length (map address us) + k) r (ap (λ (l : List Address). slice_get l (length (map address us) + k)) named ∙ at_back (map address us) (map address vs) k r at) in
               let long : length (map address us) ≡ length us = length-map us address in
-              let place : next_place w.walk.interfaces.now a.inside + (length (map address us) + k) ≡ next_place w.walk.interfaces.now b.inside + k = omega (arith, long, given, p.more) in
+              let place : next_place w.walk.interfaces.now a.inside + (length (map address us) + k) ≡ next_place w.walk.interfaces.now b.inside + k = omega (arith, long, given, count) in
               subst (λ (n : ℕ). slice_get all n ≡ Some r) place there);
         }) s in
-        let count : length (map address us) ≡ length (flat_map item_inline xs) = length-map us address ∙ given in
+        let all_given : length (map address us) ≡ length (flat_map item_inline xs) = length-map us address ∙ given in
         record {
           more = first.more ++ second.more;
           put = second.put ∙ ap (λ (l : List Entry). l ++ second.more) first.put ∙ append_assoc _ first.more second.more;
-          are = subst (λ (l : List Address). AreSideItems all item.top s (xs ++ ys) (p.functions ++ q.functions) l (first.more ++ second.more)) (sym named) (items_then all item.top s xs ys p.functions q.functions (map address us) (map address vs) first.more second.more made count first.are second.are);
+          are = subst (λ (l : List Address). AreSideItems all item.top s (xs ++ ys) (p.functions ++ q.functions) l (first.more ++ second.more)) (sym named) (items_then all item.top s xs ys p.functions q.functions (map address us) (map address vs) first.more second.more made all_given first.are second.are);
         }
 
     -- more after some
@@ -191,10 +206,6 @@ module _ (w : ItemWalk) where
       functions = p.functions ++ q.functions;
       adds = record { own = p.adds.own ++ q.adds.own; list = q.adds.list ∙ ap (λ (l : List Required). l ++ q.adds.own) p.adds.list ∙ append_assoc a.walked.required.items p.adds.own q.adds.own; holds = adds_both };
       extended = extended_then a.types b.types c.types p.extended q.extended;
-      more = (
-          let long : length (flat_map item_inline (xs ++ ys)) ≡ length (flat_map item_inline xs) + length (flat_map item_inline ys) = ap length (flat_map-append item_inline xs ys) ∙ length-append (flat_map item_inline xs) (flat_map item_inline ys) in
-          omega (arith, long, p.more, q.more));
-      named = map-append name_of_made p.functions q.functions ∙ ap (λ (l : List Name). l ++ map name_of_made q.functions) p.named ∙ ap (λ (l : List Name). map name_of_function (flat_map item_function xs) ++ l) q.named ∙ sym (map-append name_of_function (flat_map item_function xs) (flat_map item_function ys)) ∙ ap (map name_of_function) (sym functions_both);
       seen = λ zs seen. subst (λ (l : List SideItem). IsSeen l c.walked.seen) (append_assoc zs xs ys) (q.seen (zs ++ xs) (p.seen zs seen));
       in_use = λ s. q.in_use s ∙ ap (λ (l : List Name). l ++ names_of_items (items_on s ys)) (p.in_use s) ∙ append_assoc (defined_on s a.walked.members.in_use) (names_of_items (items_on s xs)) (names_of_items (items_on s ys)) ∙ ap (λ (l : List Name). defined_on s a.walked.members.in_use ++ l) (sym (names_then s xs ys));
       linked = λ s. q.linked s ∙ ap (λ (l : List ℕ). l ++ bare_places (lead w) (items_on s ys)) (p.linked s) ∙ append_assoc (linked_on s a.walked.members.links) (bare_places (lead w) (items_on s xs)) (bare_places (lead w) (items_on s ys)) ∙ ap (λ (l : List ℕ). linked_on s a.walked.members.links ++ l) (sym (places_then s xs ys));
@@ -254,13 +265,11 @@ inline_here i prefix x world place =
 
 module _ (w : ItemWalk) (prefix : List SideItem) (a : Stage) where
   -- a function
-  pub member_function : (fn : SourceFunction) (made : Function) (types : List TypeDef) (m : Walked) → ((s : Address) → AddsFunctions a.types types s w.walk.scope.names.now (fn ∷ []) (made ∷ [])) → (made.name ≡ fn.name) × (made.span ≡ fn.span) → Requires (env_of w.walk.scope.names.now) types (all_handles (written_types fn)) a.walked.required.items m.required.items → IsExtended a.types types → Puts a.walked.members m.members (SideFunction fn) [] (function_item made) → ((ys : List SideItem) → IsSeen ys a.walked.seen → IsSeen (ys ++ SideFunction fn ∷ []) m.seen) → AddsMembers w prefix (SideFunction fn ∷ []) a (stage types a.inside m)
-  member_function fn made types m adds named handled extended put seen = record {
+  pub member_function : (fn : SourceFunction) (made : Function) (types : List TypeDef) (m : Walked) → ((s : Address) → AddsFunctions a.types types s w.walk.scope.names.now (fn ∷ []) (made ∷ [])) → Requires (env_of w.walk.scope.names.now) types (all_handles (written_types fn)) a.walked.required.items m.required.items → IsExtended a.types types → Puts a.walked.members m.members (SideFunction fn) [] (function_item made) → ((ys : List SideItem) → IsSeen ys a.walked.seen → IsSeen (ys ++ SideFunction fn ∷ []) m.seen) → AddsMembers w prefix (SideFunction fn ∷ []) a (stage types a.inside m)
+  member_function fn made types m adds handled extended put seen = record {
     functions = made ∷ [];
-    adds = record { own = handled.list; list = handled.added; holds = λ s. sides_function (resolved_scopes_of w.walk.interfaces.now) (length w.walk.interfaces.now.arena) s w.walk.scope.names.now a.types types a.inside fn made handled.list (record { adds = adds s; ended = handled.ended }) };
+    adds = record { own = handled.list; list = handled.added; holds = λ s. sides_function (resolved_scopes_of w.walk.interfaces.now) (length w.walk.interfaces.now.arena) s w.walk.scope.names.now a.types types a.inside fn made handled.list (adds s) handled.ended };
     extended = extended;
-    more = sym (add-zero (length a.inside));
-    named = ap (λ n. n ∷ []) (same_name made fn named);
     seen = seen;
     in_use = put.in_use;
     linked = λ s. put.linked s ∙ ap (λ (l : List ℕ). linked_on s a.walked.members.links ++ l) (none_either [] (same_side s (item_side (SideFunction fn))) ∙ kept_nothing (bare_place (lead w)) (λ y. same_side s (item_side y)) (SideFunction fn) refl);
@@ -276,8 +285,6 @@ module _ (w : ItemWalk) (prefix : List SideItem) (a : Stage) where
     functions = [];
     adds = record { own = []; list = required ∙ sym (append-nil a.walked.required.items); holds = λ s. sides_link (resolved_scopes_of w.walk.interfaces.now) (length w.walk.interfaces.now.arena) s w.walk.scope.names.now a.types a.inside link };
     extended = record { more = []; is = sym (append-nil a.types) };
-    more = sym (add-zero (length a.inside));
-    named = refl;
     seen = seen;
     in_use = put.in_use;
     linked = λ s. put.linked s ∙ ap (λ (l : List ℕ). linked_on s a.walked.members.links ++ l) (kept_one (bare_place (lead w)) (λ y. same_side s (item_side y)) (SideLink link) (bare_id link.name id) (ap (λ (o : Option ℕ). option_map_or (λ (own : Id). []) link.name (option_to_list o)) leads));
@@ -292,19 +299,17 @@ module _ (w : ItemWalk) (prefix : List SideItem) (a : Stage) where
   member_inline x u types inside m own step put seen = record {
     functions = [];
     adds = record {
-      own = step.appends.own;
-      list = step.appends.list;
+      own = step.2.appends.own;
+      list = step.2.appends.list;
       holds = λ s.
           let cs = resolved_scopes_of w.walk.interfaces.now in
           let count = length w.walk.interfaces.now.arena in
           let names = w.walk.scope.names.now in
-          let one = sides_inline cs count s names a.types types a.inside step.added step.appends.own x.written.now x.name x.items.now u step.appends.holds in
-          subst (λ (us : List Item). AddsSides cs count s names a.types types a.inside inside [] step.appends.own (inline_side x ∷ []) us) (sym own) (
-          subst (λ (l : List Interface). AddsSides cs count s names a.types types a.inside l [] step.appends.own (inline_side x ∷ []) (u ∷ [])) (sym step.last) one);
+          let one = sides_inline cs count s names a.types types a.inside step.0 step.2.appends.own x.written.now x.name x.items.now u step.2.appends.holds in
+          subst (λ (us : List Item). AddsSides cs count s names a.types types a.inside inside [] step.2.appends.own (inline_side x ∷ []) us) (sym own) (
+          subst (λ (l : List Interface). AddsSides cs count s names a.types types a.inside l [] step.2.appends.own (inline_side x ∷ []) (u ∷ [])) (sym step.1) one);
     };
-    extended = step.extended;
-    more = ap length step.last ∙ length-append a.inside (step.added ∷ []);
-    named = refl;
+    extended = step.2.extended;
     seen = seen;
     in_use = put.in_use;
     linked = λ s. put.linked s ∙ ap (λ (l : List ℕ). linked_on s a.walked.members.links ++ l) (none_either [] (same_side s (item_side (inline_side x))) ∙ kept_nothing (bare_place (lead w)) (λ y. same_side s (item_side y)) (inline_side x) refl);

@@ -1,7 +1,7 @@
 -- The walk's fault of what is on the sides of a world is what is found of it, one after another: of its name, and of itself.
-use Rattle.std.proofs.Common.{◌≡◌, ℕ, Bool, List, [], ◌∷◌, ◌++◌, map, Option, None, refl, sym, ap, ◌∙◌, Some, inl, inr, Contains, length}
-use Rattle.wit_syntax.proofs.Common.{Address, Called, Exported, Extern, Fault, Id, Imported, InterfaceItem, Item, Link, PackageFile, ScopeName, SideFunction, SideInline, SideItem, SideLink, SourceFunction, Span, TheInline, TypeDef, WorldSide, about, address, codes, contains_at, filter, flat_map, folded_key, if◌then◌else◌, in_turn, inline_after, inline_item, is_interface, item_called, item_function, item_name, item_side, items_on, kept_at, leads, local_id, local_names, map_map, name_called, names_on, option_or, path_scope, same_side, scope_names, side_items, slice_get}
-use Rattle.wit_walk.proofs.Common.{Known, Sorted, called_fault, clash-made, crossed, external_fault, first_in, folded_clash, folded_fault, function_fault, handle_fault, in-map, inline_fault, is_extern, item_sorted, linked_fault as again_fault, member_fault, or_none_both, own_fault, repeat_of, side_sorted, signed_fault, stability_fault}
+use Rattle.std.proofs.Common.{◌≡◌, ℕ, Bool, List, [], ◌∷◌, ◌++◌, map, Option, None, refl, sym, ap, ◌∙◌, Some, Contains, length}
+use Rattle.wit_syntax.proofs.Common.{Address, Called, Exported, Extern, Fault, Id, Imported, InterfaceItem, Item, Link, PackageFile, ScopeName, SideFunction, SideInline, SideItem, SideLink, SourceFunction, Span, TheInline, TypeDef, WorldSide, about, address, codes, contains_at, filter, flat_map, folded_key, if◌then◌else◌, in_turn, inline_after, inline_item, is_interface, item_called, item_function, item_name, item_side, items_on, kept_at, leads, local_id, local_names, map_map, name_called, names_on, option_or, path_scope, same_side, scope_names, side_items, slice_get, clash, fault_in}
+use Rattle.wit_walk.proofs.Common.{Known, Sorted, called_fault, clash-made, crossed, external_fault, first_in, folded_fault, function_fault, handle_fault, in-map, is_extern, item_sorted, linked_fault as again_fault, member_fault, or_none_both, own_fault, repeat_of, side_sorted, signed_fault, stability_fault, ordered_fault}
 use Rattle.wit_arena.proofs.Common.{Interface, Names, env_of, interfaces_at, names_in, type_imports}
 use Rattle.wit_refusals.specs.NameScopes.{Name}
 use Rattle.wit_signatures.specs.ForeignName.{name_of_id}
@@ -18,21 +18,20 @@ use Rattle.wit_entries.specs.Requiring.{IsExtended}
 use Rattle.wit_entries.proofs.Requiring.{extended_then}
 use Rattle.wit_externs.specs.Links.{bare_places}
 use Rattle.wit_externs.specs.Next.{linked_on}
-use Rattle.wit_externs.proofs.AloneFaults.{safe_of}
 use Rattle.wit_externs.proofs.Steps.{at_middle}
 use Rattle.wit_items.specs.ForeignAddresses.{prefix_of}
 use Rattle.wit_items.specs.declared.interfaces.Interfaces.{Interfaces}
 use Rattle.wit_links.specs.Links.{interface_place, path_place}
 use Rattle.wit_links.proofs.Leading.{called_at}
 use Rattle.wit_contents.specs.InterfaceFaults.{IsRightOf}
-use Rattle.wit_contents.specs.MemberFaults.{AreRightMembers, HasNoFaultInside, IsRightMember, function_member, inline_member, link_member}
+use Rattle.wit_contents.specs.MemberFaults.{AreRightMembers, function_member, inline_member, link_member}
 use Rattle.wit_contents.specs.Walk.{AddsMembers, IsStart, ItemWalk, Stage, lead, next_place, stage, walk_item}
 use Rattle.wit_contents.specs.declared.walk.Walked.{Walked}
 use Rattle.wit_contents.proofs.LinksWalked.{HaveOwnPlaces, IsLeading, again_linked_walked, link_walked}
 
 -- one name after others
 again_walked : (before : List Name) (n : Name) → twice_fault before n ≡ folded_fault (map called before) (called n)
-again_walked before n = sym (clash-made (λ (d : Called). folded_key d.name) folded_clash called before n)
+again_walked before n = sym (clash-made (λ (d : Called). folded_key d.name) (λ (earlier later : Called). fault_in 17 later.span (clash (codes "name") earlier.name later.name)) called before n)
 
 -- those of the same names by the walk
 abbrev spelled_fault : Bool → (List ℕ → Span → Fault) → List Name → Name → Option Fault
@@ -93,7 +92,7 @@ module _ (wk : ItemWalk) (known : Known) (order : List ℕ) (turned : wk.walk.tu
   handle = handle_fault files known.steps (address item)
 
   abbrev inner : Item → Option Fault
-  inner = inline_fault files known
+  inner = ordered_fault files known (λ (v : Item). None)
 
   abbrev member : List SideItem → SideItem → Option Fault
   member = member_fault files known.steps inner item order
@@ -175,29 +174,15 @@ module _ (wk : ItemWalk) (known : Known) (order : List ℕ) (turned : wk.walk.tu
             ∙ ap (option_or (external_fault x.attributes.items)) (sym (put own))
             ∙ sym (ap (λ (o : Option Fault). option_or (option_or o (external_fault x.attributes.items)) (put_fault m own)) stable)
 
-    -- the next one
-    right_member : (done rest : List SideItem) (x : SideItem) (now : Stage) → side_items item ≡ done ++ (x ∷ rest) → AddsMembers wk [] done (stage old inside start) now → IsRightMember member wk done x now
-    right_member done rest (SideFunction fn) now split adds = record {
-      fault = λ f wrong. sym (function_walked done now adds fn) ∙ wrong.2 handle (ends wrong.0 (extended_then old now.types wrong.0 adds.extended wrong.1));
-      none = λ b more none. sym (function_walked done now adds fn) ∙ none handle (safe_of (env_of wk.walk.scope.names.now) b.types handle (ends b.types (extended_then old now.types b.types adds.extended more.extended)));
-    }
-    right_member done rest (SideLink link) now split adds =
-        let among = contains_at (side_items item) (length done) (SideLink link) (ap (λ (l : List SideItem). slice_get l (length done)) split ∙ at_middle done (SideLink link) rest) in
-        record {
-          fault = λ f wrong. sym (links_walked done now adds link among) ∙ wrong;
-          none = λ b more none. sym (links_walked done now adds link among) ∙ none;
-        }
-    right_member done rest (SideInline x name items) now split adds = record {
-      fault = λ f wrong. elim wrong [
-        | inl h ↦ wrong_inside done now adds x name items h.inline.item h.inline.next f ((insides done now adds (SideInline x name items) rest split h.inline.item h.inline.next).fault h.scope f h.inline.lent h.wrong)
-        | inr h ↦ nothing_inside h.0 ∙ h.1
-      ];
-      none = λ b more h. nothing_inside h.0 ∙ h.1;
-    }
-      where
-        nothing_inside : HasNoFaultInside wk done (SideInline x name items) now → member done (SideInline x name items) ≡ inline_member now.walked.members done (SideInline x name items)
-        nothing_inside h = none_inside done now adds x name items h.inline.item h.inline.next ((insides done now adds (SideInline x name items) rest split h.inline.item h.inline.next).none h.scope h.types h.added h.requires h.inline.lent h.adds h.none)
+        inside_is : member done own ≡ option_or (inner u) (inline_member m done own)
+        inside_is = by (inner u) refl
+          where
+            by : (o : Option Fault) → inner u ≡ o → member done own ≡ option_or (inner u) (inline_member m done own)
+            by None none = none_inside none ∙ ap (λ (o : Option Fault). option_or o (inline_member m done own)) (sym none)
+            by (Some f) wrong = wrong_inside f wrong ∙ ap (λ (o : Option Fault). option_or o (inline_member m done own)) (sym wrong)
 
-    -- so each of them
+    -- the next one
     pub right_members : AreRightMembers member wk [] (side_items item) (stage old inside start)
-    right_members done rest x now split adds = right_member done rest x now split adds
+    right_members done rest (SideFunction fn) now split adds = (handle, λ more. ends (now.types ++ more) (extended_then old now.types (now.types ++ more) adds.extended (record { more = more; is = refl })), sym (function_walked done now adds fn))
+    right_members done rest (SideLink link) now split adds = sym (links_walked done now adds link (contains_at (side_items item) (length done) (SideLink link) (ap (λ (l : List SideItem). slice_get l (length done)) split ∙ at_middle done (SideLink link) rest)))
+    right_members done rest (SideInline x name items) now split adds = (inner, λ u next. (insides done now adds (SideInline x name items) rest split u next, inside_is done now adds x name items u next))

@@ -1,8 +1,8 @@
 -- Interfaces and worlds that are resolved say of used names and of includes what files do.
 use Rattle.std.proofs.Common.{◌≡◌, ℕ, ◌+◌, true, false, List, ◌++◌, length, map, Option, Some, None, ◌⊎◌, IsSome, inl, inr, refl, sym, ap, ◌∙◌, subst, arith, Contains, ◌<◌, zero, suc, Bool, [], ◌∷◌, take}
 use Rattle.wit_syntax.proofs.Common.{Address, AllDiffer, Attribute, Declared, DefinitionPart, ExternPart, Fault, Foreign, ForeignNamed, ForeignVisit, FunctionPart, Id, Include, IncludePart, InterfaceNamed, IsOrder, Item, Local, PackageFile, PackageName, Part, ScopeName, SourceFunction, Target, TheInline, TheInterface, TheWorld, TypeDef, UseName, UsePart, UsePath, Used, WorldNamed, about, address, all_declared, all_items, at_back, at_contains, at_part, at_prefix, at_split, at_within, bytes_eq, cases_Bool, contains_at, find_passes, find_some, first_named, firsts_has, flat_map_at, flat_map_has, foreign_at, foreign_interfaces, foreign_uses, foreign_worlds, functions, if◌then◌else◌, in_order, include_path, include_paths, includes, interface_there, is_foreign, is_none, is_world, is_world_at, item_at, item_name, item_named, item_rows, item_word, leads, length-map, list_any, local_name, lookup-place, map_at, meaning, missing_at, name_equal, name_itself, option_and_then, option_map, option_map_or, option_or, part_includes, parts, path_id, same_address, same_address-equal, same_foreign_use, scope, scope_names, slice_get, slice_get-map, slice_get_within, some_of, use_of_foreign, visited, worlds_of}
-use Rattle.wit_arena.proofs.Common.{AddsForeign, AreFunctions, AreUsableUses, AreWorldsDone, Def, Interface, InterfacesDone, IsForeignUse, IsFound, IsIndex, IsNoWorld, IsResolvedUse, IsWorldIndex, Names, Ordered, Required, ResolvedScope, Turned, World, WorldArenas, are_interfaces, are_worlds, env_of, foreign_entry, foreign_place, foreign_use_key, free_functions, interface_address, interfaces, item_of, item_scopes, kept_early, keys, named_at, needed_before, option_cases, own_item, own_order, paths_of_world, prefix_resolved_scope, prefix_scopes, resolved_scope, resolved_scope_at, resolved_scopes, resolved_scopes-append, scope_of, unstated, use_of_foreign-equal, use_of_foreign-from, used_listed, visited_foreign, world_address, world_list, worlds, worlds_at, worlds_at-append, worlds_sort}
-use Rattle.wit_walk.proofs.Common.{any_found, any_some, first_in, include_fault, interface_fault, lost_use, stability_fault, unless_meant, use_fault}
+use Rattle.wit_arena.proofs.Common.{AddsForeign, AreFunctions, AreUsableUses, AreWorldsDone, Def, Interface, InterfacesDone, IsForeignUse, IsFound, IsResolvedUse, Names, Ordered, Required, ResolvedScope, Turned, World, WorldArenas, are_interfaces, are_worlds, env_of, foreign_entry, foreign_place, foreign_use_key, free_functions, interface_address, interfaces, item_of, item_scopes, kept_early, keys, named_at, needed_before, option_cases, own_item, own_order, paths_of_world, prefix_resolved_scope, prefix_scopes, resolved_scope, resolved_scope_at, resolved_scopes, resolved_scopes-append, scope_of, unstated, use_of_foreign-equal, use_of_foreign-from, used_listed, visited_foreign, world_address, world_list, worlds, worlds_at, worlds_at-append, worlds_sort, IsNameIndex, interfaces_at}
+use Rattle.wit_walk.proofs.Common.{any_found, any_some, first_in, include_fault, interface_fault, lost_use, stability_fault, use_fault}
 use Rattle.wit_arena.proofs.FreeNames.{free_of, AreStated, free_stated, stated_free, free_names}
 use Rattle.wit_arena.proofs.Members.{resolved_scope_of, DoneScope}
 use Rattle.wit_arena.proofs.ScopesInTurn.{ordered_at, scope_at, entry_of_item}
@@ -12,13 +12,14 @@ use Rattle.wit_scopes.specs.declared.scope_name.UsedName.{UsedName}
 use Rattle.wit_scopes.specs.declared.scope_name.Source.{Source as BorrowedSource}
 use Rattle.wit_scopes.specs.declared.scope_name.Source.TheVariants as borrowed_source
 use Rattle.wit_items.specs.declared.interfaces.Interfaces.{Interfaces}
-use Rattle.wit_item_entries.specs.UseFaults.{asked_fault, interface_of, lost_name, source_fault, used_fault}
-use Rattle.wit_item_entries.proofs.ResolvedScopes.{named_within}
+use Rattle.wit_item_entries.specs.UseFaults.{asked_fault, interface_of, lost_name, used_fault}
+use Rattle.wit_items.proofs.Found.{named_within}
 use Rattle.wit_item_entries.proofs.UseFaults.{found_of, of_function, of_nothing, used_from}
 use Rattle.wit_contents.proofs.Walked.{AreAsWalked}
 use Rattle.wit_model.specs.declared.ast_item.AstItem.TheVariants as entry
-use Rattle.wit_items.specs.ItemPaths.{world_at, world_entry}
-use Rattle.wit_items.proofs.Others.{world_missing}
+use Rattle.wit_items.specs.ItemPaths.{world_at, world_entry, source_target}
+use Rattle.wit_items.specs.ResolvedInterfaces.{unresolved_fault}
+use Rattle.wit_items.proofs.Others.{world_missing, IsNoWorld}
 use Rattle.wit_links.specs.Includes.{included_fault}
 use Rattle.wit_links.specs.declared.worlds.Worlds.{Worlds}
 
@@ -48,7 +49,7 @@ record IsItemAt (files : List PackageFile) (from : Address) (name : List ℕ) (c
 
 -- what files say of a name that is used, by the item at its address
 abbrev said_at : UseName → Option Item → Option Fault
-said_at n o = option_map_or (λ (target : Item). unless_meant (meaning (scope_names target) n.name.name.now) (lost_use target n.name)) o None
+said_at n o = option_map_or (λ (target : Item). if is_none (meaning (scope_names target) n.name.name.now) then Some (lost_use target n.name) else None) o None
 
 asked_same : (files : List PackageFile) (from : Address) (attributes : List Attribute) (n : UseName) (i : Interface) → IsItemAt files from n.name.name.now (resolved_scope_at from i) → asked_fault n.name i ≡ use_fault files (Used from attributes n)
 asked_same files from attributes n i t = by (env_of i.types n.name.name.now) refl ∙ sym (ap (said_at n) t.found)
@@ -56,9 +57,9 @@ asked_same files from attributes n i t = by (env_of i.types n.name.name.now) ref
     lost : lost_name (free_functions i) n.name ≡ lost_use t.item n.name
     lost = lost_same (free_functions i) (free_names t.item) n.name t.free t.stated
 
-    by : (o : Option ℕ) → env_of i.types n.name.name.now ≡ o → unless_found (lost_name (free_functions i) n.name) o ≡ unless_meant (meaning (scope_names t.item) n.name.name.now) (lost_use t.item n.name)
-    by None free = ap Some lost ∙ sym (ap (λ (m : Option ScopeName). unless_meant m (lost_use t.item n.name)) (t.missing free))
-    by (Some place) present = sym (ap (λ (m : Option ScopeName). unless_meant m (lost_use t.item n.name)) (t.meant place present).1)
+    by : (o : Option ℕ) → env_of i.types n.name.name.now ≡ o → unless_found (lost_name (free_functions i) n.name) o ≡ (if is_none (meaning (scope_names t.item) n.name.name.now) then Some (lost_use t.item n.name) else None)
+    by None free = ap Some lost ∙ sym (ap (λ (m : Option ScopeName). if is_none m then Some (lost_use t.item n.name) else None) (t.missing free))
+    by (Some place) present = sym (ap (λ (m : Option ScopeName). if is_none m then Some (lost_use t.item n.name) else None) (t.meant place present).1)
 
 -- no item is where a name leads to another package
 declared_near : (d : Declared) → is_foreign (about d).address ≡ false
@@ -156,7 +157,7 @@ module _ (files : List PackageFile) (places : List ℕ) (order : IsOrder (item_r
           | inr h ↦ asked_same files from attributes n i (item_there n.name.name.now h.0 c h.2)
         ]
 
-    module _ (is : Interfaces) (same_files : is.files ≡ files) (arena : is.arena ≡ prefix ++ own) (index : IsIndex (resolved_scopes ss (prefix ++ own)) is.by_name) where
+    module _ (is : Interfaces) (same_files : is.files ≡ files) (arena : is.arena ≡ prefix ++ own) (index : IsNameIndex InterfaceNamed (interfaces_at ss (prefix ++ own)) is.by_name) where
       -- one of this package has a place by its name
       pub near_has : (from : Address) (name : List ℕ) → IsResolvedUse files places order differ vs from → from ≡ InterfaceNamed name → IsSome (env_of is.by_name name)
       near_has from name u same =
@@ -167,12 +168,12 @@ module _ (files : List PackageFile) (places : List ℕ) (order : IsOrder (item_r
           let place = length (resolved_scopes ss prefix) + u.place in
           let declared : address o.0.item ≡ InterfaceNamed (item_name o.0.item) = interface_address files is_items (are_interfaces files places order differ) u.place o.0.item (d.laid.prefix u.place o.0 o.1) (ap is_world o.2 ∙ u.sort) in
           let called : c.0.address ≡ InterfaceNamed name = ap (λ (x : Turned). x.address) c.2 ∙ declared ∙ ap (λ (i : Item). InterfaceNamed (item_name i)) o.2 ∙ sym u.is ∙ same in
-          index.has place (resolved_scope_of c.0) name (ap (λ (x : List ResolvedScope). slice_get x place) (all_scopes_of own) ∙ at_back (resolved_scopes ss prefix) (map resolved_scope own) u.place (resolved_scope_of c.0) there) called
+          index.has place name (slice_get-map (λ (x : ResolvedScope). x.address) (resolved_scopes ss (prefix ++ own)) place ∙ ap (option_map (λ (x : ResolvedScope). x.address)) (ap (λ (x : List ResolvedScope). slice_get x place) (all_scopes_of own) ∙ at_back (resolved_scopes ss prefix) (map resolved_scope own) u.place (resolved_scope_of c.0) there) ∙ ap Some called)
 
       -- so the interface that a name comes from is resolved
       record IsResolved (from : BorrowedSource) : Type 0 where
         interface : Interface
-        none : source_fault is.by_name from ≡ None
+        none : unresolved_fault is.by_name (source_target from) ≡ None
         at : interface_of is from ≡ Some interface
 
       resolved : (from : BorrowedSource) (n : UseName) → IsPlaced ss from → IsResolvedUse files places order differ vs (source_view from) ⊎ IsForeignUse files (source_view from) n → IsResolved from
@@ -181,7 +182,7 @@ module _ (files : List PackageFile) (places : List ℕ) (order : IsOrder (item_r
           let i = at_within is.arena t.0 (named_within (length (map visited (foreign_interfaces is.files))) is.arena is.by_name path.name.now t.0 is.found t.1) in
           record {
             interface = i.0;
-            none = ap (unless_found (missing_at 7 item_word path)) t.1;
+            none = ap (λ (o : Option ℕ). if is_none o then Some (missing_at 7 item_word path) else None) t.1;
             at = ap (option_and_then (slice_get is.arena)) t.1 ∙ i.1;
           }
       resolved (borrowed_source.Declared path) n placed (inr u) = absurd (
@@ -225,7 +226,7 @@ include_part (UsePart u) j n at = absurd (cc)
 include_part (FunctionPart g) j n at = absurd (cc)
 include_part (ExternPart x) j n at = absurd (cc)
 
-module _ (files : List PackageFile) (places : List ℕ) (order : IsOrder (item_rows files) places) (differ : AllDiffer (map item_name (all_items files))) (es : List TypeDef) (prefix : List Interface) (wprefix : List World) (foreign : AddsForeign files es prefix wprefix) (k p : ℕ) (w : Item) (next : slice_get places k ≡ Some p) (at : slice_get (all_items files) p ≡ Some w) (sort : is_world w ≡ true) (base : List Ordered) (first : List DoneScope) (mid : List TypeDef) (a : WorldArenas) (rs : List Required) (e : AreWorldsDone files (interfaces files places order differ) (worlds files places order differ) wprefix base first (worlds_of (in_order (all_items files) (take k places))) mid a rs) (by_name : Names) (index : IsWorldIndex (worlds_at (map visited (foreign_worlds files)) a.worlds) by_name) (listed : (t : ℕ) (x : Address) → slice_get (worlds_at (map visited (foreign_worlds files)) a.worlds) t ≡ Some x → slice_get (world_list files (worlds files places order differ)) t ≡ Some x) where
+module _ (files : List PackageFile) (places : List ℕ) (order : IsOrder (item_rows files) places) (differ : AllDiffer (map item_name (all_items files))) (es : List TypeDef) (prefix : List Interface) (wprefix : List World) (foreign : AddsForeign files es prefix wprefix) (k p : ℕ) (w : Item) (next : slice_get places k ≡ Some p) (at : slice_get (all_items files) p ≡ Some w) (sort : is_world w ≡ true) (base : List Ordered) (first : List DoneScope) (mid : List TypeDef) (a : WorldArenas) (rs : List Required) (e : AreWorldsDone files (interfaces files places order differ) (worlds files places order differ) wprefix base first (worlds_of (in_order (all_items files) (take k places))) mid a rs) (by_name : Names) (index : IsNameIndex WorldNamed (worlds_at (map visited (foreign_worlds files)) a.worlds) by_name) (listed : (t : ℕ) (x : Address) → slice_get (worlds_at (map visited (foreign_worlds files)) a.worlds) t ≡ Some x → slice_get (world_list files (worlds files places order differ)) t ≡ Some x) where
   abbrev all : List Item
   all = all_items files
 

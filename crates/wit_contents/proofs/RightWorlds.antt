@@ -1,14 +1,13 @@
 -- The walk's fault of each world is what is found of it, once all interfaces and the worlds before it are resolved.
 use Rattle.std.proofs.Common.{◌≡◌, ◌⊎◌, ℕ, ◌+◌, true, false, List, [], ◌∷◌, ◌++◌, length, map, take, Option, Some, None, IsSome, inl, inr, refl, sym, ap, ◌∙◌, subst, Contains, arith}
-use Rattle.wit_syntax.proofs.Common.{Address, AllDiffer, Attribute, Fault, Foreign, ForeignNamed, ForeignVisit, Id, Include, IncludePart, InterfaceNamed, IsBrokenNames, IsOrder, Item, Link, PackageFile, PackageName, ParseError, ScopeName, SideItem, SideLink, TopName, TypeDef, UseName, Used, address, all_items, all_scopes, at_contains, bytes_eq, contains_at, find_at, find_passes, flat_map, foreign_at, foreign_interfaces, in_order, in_turn, includes, inline_after, inline_after-append, inline_interface, inline_items, interfaces_of, is_world, item_inline, item_name, item_named, item_rows, leads, length-inline_after, local_id, name_equal, option_map, parts, rows_of, scope_names, scopes_declared, scopes_inline, side_items, slice_get, slice_get-map, take_seam, visited, worlds_of}
+use Rattle.wit_syntax.proofs.Common.{Address, AllDiffer, Attribute, Fault, Foreign, ForeignNamed, ForeignVisit, Id, Include, IncludePart, InterfaceNamed, IsBrokenNames, IsOrder, Item, Link, PackageFile, PackageName, ParseError, ScopeName, SideItem, SideLink, TopName, TypeDef, UseName, Used, address, all_items, all_scopes, at_contains, bytes_eq, contains_at, find_at, find_passes, flat_map, foreign_at, foreign_interfaces, in_order, in_turn, includes, inline_after, inline_after-append, inline_interface, inline_items, interfaces_of, is_world, item_inline, item_name, item_named, item_rows, leads, length-inline_after, local_id, name_equal, option_map, parts, rows_of, scope_names, scopes_declared, scopes_inline, side_items, slice_get, slice_get-map, take_seam, visited, worlds_of, Row, option_or, WorldNamed}
 use Rattle.wit_types.specs.declared.types.TypeOwner.TheVariants as owner
-use Rattle.wit_arena.proofs.Common.{AddsForeign, AddsInterface, AddsInterfaces, AddsScope, AddsSides, AddsWorlds, AreUsableUses, AreWorldsDone, Interface, InterfacesDone, IsForeignUse, IsIndex, IsResolvedUse, IsWorldIndex, Names, Required, ResolvedScope, World, WorldArenas, are_interfaces, are_worlds, distinct_items, env_of, interface_at, interfaces, interfaces_done, interfaces_sort, kept_prefix, option_cases, prefix_scopes, prefix_worlds, resolved_scopes, used_interface, worlds, worlds_at, worlds_sort}
-use Rattle.wit_walk.proofs.Common.{AreOutcomes, InOrder, Known, Outcome, Reports, all_uses_fault, contents_fault, first_in, handle_fault, include_fault, inline_fault, member_fault, order_of, outcome_one, reports_same}
+use Rattle.wit_arena.proofs.Common.{AddsForeign, AddsInterfaces, AddsScope, AddsSides, AddsWorlds, AreUsableUses, AreWorldsDone, Interface, InterfacesDone, IsForeignUse, IsResolvedUse, Names, Required, ResolvedScope, World, WorldArenas, are_interfaces, are_worlds, distinct_items, env_of, interface_at, interfaces, interfaces_done, interfaces_sort, kept_prefix, option_cases, prefix_scopes, prefix_worlds, resolved_scopes, used_interface, worlds, worlds_at, worlds_sort, IsNameIndex, interfaces_at}
+use Rattle.wit_walk.proofs.Common.{IsOutcome, InOrder, Known, Outcome, Reports, all_uses_fault, contents_fault, first_in, handle_fault, include_fault, member_fault, order_of, outcome_one, reports_same, ordered_fault, first_after, setters_fault}
 use Rattle.wit_arena.proofs.WorldSides.{world_added}
 use Rattle.wit_arena.proofs.Worlds.{worlds_done}
 use Rattle.wit_entries.specs.Requiring.{IsExtended}
-use Rattle.wit_externs.specs.AloneFaults.{EndsIn, IsSafe}
-use Rattle.wit_externs.proofs.AloneFaults.{safe_of}
+use Rattle.wit_externs.specs.AloneFaults.{EndsIn}
 use Rattle.wit_externs.proofs.Steps.{at_middle}
 use Rattle.wit_files.specs.FileNames.{names_at_top}
 use Rattle.wit_scopes.specs.BorrowedNames.{Borrowed, name_view, own_use, source_view}
@@ -22,30 +21,28 @@ use Rattle.wit_items.specs.ResolvedInterfaces.{resolved_scopes_of}
 use Rattle.wit_items.specs.declared.interfaces.Interfaces.{Interfaces}
 use Rattle.wit_items.specs.declared.items.Item.{Item as BorrowedItem}
 use Rattle.wit_items.specs.declared.items.ItemScope.{ItemScope}
-use Rattle.wit_items.proofs.Usable.{filed_item, uses_sound}
+use Rattle.wit_items.proofs.Usable.{filed_item, uses_usable}
 use Rattle.wit_links.specs.Includes.{includes_fault}
 use Rattle.wit_links.specs.declared.worlds.Worlds.{Worlds}
 use Rattle.wit_item_entries.specs.declared.names.ResolvedNames.{ResolvedNames}
-use Rattle.wit_item_entries.proofs.ReachedFaults.{extended_same}
+use Rattle.wit_item_entries.specs.ReachedFaults.{EndsInTurn}
 use Rattle.wit_contents.specs.AddedInterfaces.{IsIndexed, interfaces_in}
-use Rattle.wit_contents.specs.AddedWorlds.{AreIndexed, worlds_in}
+use Rattle.wit_contents.specs.Worlds.{AreIndexed, worlds_in, IsRightOfWorld, AreRightOfWorlds, IsWalkOf}
 use Rattle.wit_contents.specs.InterfaceFaults.{IsLent, IsRightOf}
 use Rattle.wit_contents.specs.MemberFaults.{AreRightMembers}
 use Rattle.wit_contents.specs.Walk.{AddsMembers, IsStart, Stage, next_place, stage, walk_of}
-use Rattle.wit_contents.specs.WorldFaults.{IsRightOfWorld, AreRightOfWorlds}
-use Rattle.wit_contents.specs.WorldWalk.{IsWalkOf}
 use Rattle.wit_contents.specs.declared.walk.Walk.{Walk}
 use Rattle.wit_contents.specs.declared.walk.Walked.{Walked}
-use Rattle.wit_contents.proofs.Ends.{IsEnough, IsReached, inline_ends, inline_safe, named_ends, world_ends}
+use Rattle.wit_contents.proofs.Ends.{IsEnough, inline_ends, named_ends, world_ends}
 use Rattle.wit_contents.proofs.PathsWalked.{includes_walked, near_has, uses_as_walked}
 use Rattle.wit_contents.proofs.Linking.{link_path}
 use Rattle.wit_contents.proofs.LinksWalked.{IsLeading}
+use Rattle.wit_contents.proofs.Members.{sides_count}
 use Rattle.wit_contents.proofs.MembersWalked.{right_members}
 use Rattle.wit_contents.proofs.RightInterfaces.{borrowed_uses, next_kept, placed_uses, right_interface, AreRightFrom, interfaces_right}
-use Rattle.wit_contents.proofs.Walked.{AreAsWalked, head_found, head_walked, walked_head, world_split}
+use Rattle.wit_contents.proofs.Walked.{AreAsWalked, head_walked, world_split}
 use Rattle.wit_contents.specs.FileFaults.{IsRight, fault_after}
 use Rattle.wit_contents.proofs.FileFaults.{interfaces_reported, none_after, worlds_reported}
-use Rattle.wit_contents.proofs.Files.{uses_usable}
 
 -- all interfaces of files are resolved, in an order of their items, after those of other packages
 pub record AreDeclared (files : List PackageFile) (arena : List Interface) (places : List ℕ) (es : List TypeDef) (prefix : List Interface) (wprefix : List World) (middle : List TypeDef) (rs : List Required) : Type 0 where
@@ -56,7 +53,7 @@ pub record AreDeclared (files : List PackageFile) (arena : List Interface) (plac
   pub added : AddsInterfaces (map visited (foreign_interfaces files)) es middle prefix arena rs (interfaces_of (in_order (all_items files) places))
 
 -- the next world
-module _ (ws : Worlds) (places : List ℕ) (es : List TypeDef) (prefix : List Interface) (wprefix : List World) (middle : List TypeDef) (rs : List Required) (g : AreDeclared ws.interfaces.now.files ws.interfaces.now.arena places es prefix wprefix middle rs) (index : IsIndexed ws.interfaces.now) (known : Known) (outcomes : AreOutcomes known.outcome) (enough : (s : Address) → IsEnough ws.interfaces.now.files known.steps s) (count place : ℕ) (i : BorrowedItem) (next : slice_get places count ≡ Some place) (at : slice_get (all_items ws.interfaces.now.files) place ≡ Some (item_view i)) (sort : is_world (item_view i) ≡ true) (lent : IsItemOf ws.interfaces.now.files i) (mid : List TypeDef) (a : WorldArenas) (wrs : List Required) (adds : AddsWorlds (prefix_of ws.interfaces.now.files) (others_of ws.interfaces.now.files) ws.interfaces.now.arena middle mid (prefix_worlds wprefix) a wrs (worlds_of (in_order (all_items ws.interfaces.now.files) (take count places)))) (made : a.worlds ≡ ws.arena) (windex : AreIndexed ws) where
+module _ (ws : Worlds) (places : List ℕ) (es : List TypeDef) (prefix : List Interface) (wprefix : List World) (middle : List TypeDef) (rs : List Required) (g : AreDeclared ws.interfaces.now.files ws.interfaces.now.arena places es prefix wprefix middle rs) (index : IsIndexed ws.interfaces.now) (known : Known) (outcomes : (rs : List Row) → IsOutcome rs (known.outcome rs)) (enough : (s : Address) → IsEnough ws.interfaces.now.files known.steps s) (count place : ℕ) (i : BorrowedItem) (next : slice_get places count ≡ Some place) (at : slice_get (all_items ws.interfaces.now.files) place ≡ Some (item_view i)) (sort : is_world (item_view i) ≡ true) (lent : IsItemOf ws.interfaces.now.files i) (mid : List TypeDef) (a : WorldArenas) (wrs : List Required) (adds : AddsWorlds (prefix_of ws.interfaces.now.files) (others_of ws.interfaces.now.files) ws.interfaces.now.arena middle mid (prefix_worlds wprefix) a wrs (worlds_of (in_order (all_items ws.interfaces.now.files) (take count places)))) (made : a.worlds ≡ ws.arena) (windex : AreIndexed ws) where
   abbrev is : Interfaces
   is = ws.interfaces.now
 
@@ -97,8 +94,8 @@ module _ (ws : Worlds) (places : List ℕ) (es : List TypeDef) (prefix : List In
   scopes_are : resolved_scopes_of is ≡ resolved
   scopes_are = ap (resolved_scopes fore) done.1
 
-  indexed : IsIndex resolved is.by_name
-  indexed = subst (λ (cs : List ResolvedScope). IsIndex cs is.by_name) scopes_are index
+  indexed : IsNameIndex InterfaceNamed (interfaces_at fore (prefix ++ done.0)) is.by_name
+  indexed = subst (λ (cs : List ResolvedScope). IsNameIndex InterfaceNamed (map (λ (c : ResolvedScope). c.address) cs) is.by_name) scopes_are index
 
   before : AreWorldsDone files declared_interfaces declared_worlds wprefix done.2.ordered (prefix_scopes files prefix ++ done.2.scopes) us mid a wrs
   before = worlds_done files declared_interfaces declared_worlds (interfaces_sort (in_order all places)) (worlds_sort (in_order all places)) (are_interfaces files places g.order g.differ) (are_worlds files places g.order g.differ) g.uses es prefix wprefix g.foreign middle done.0 rs done.2 mid a wrs us (λ j v there. kept_prefix is_world all places count j v there) (subst (λ (l : List Interface). AddsWorlds fore (others_of files) l middle mid (prefix_worlds wprefix) a wrs us) done.1 adds)
@@ -123,7 +120,7 @@ module _ (ws : Worlds) (places : List ℕ) (es : List TypeDef) (prefix : List In
 
   -- its own
   walked_uses : AreAsWalked files is (flat_map own_use i.names.items)
-  walked_uses = walked w (scopes_declared files w declared) i.names.items lent.named (lent.placed.each 0 i refl)
+  walked_uses = walked w (scopes_declared files w declared) i.names.items lent.named lent.placed.own
 
   -- its includes
   visits : (n : Include) (m : ℕ) → slice_get (parts w) m ≡ Some (IncludePart n) → (q : PackageName) (id : Id) → leads w.top n.from ≡ Foreign q id → (v : ForeignVisit) × (foreign_at files (ForeignNamed q id.name.now) ≡ Some v)
@@ -133,7 +130,7 @@ module _ (ws : Worlds) (places : List ℕ) (es : List TypeDef) (prefix : List In
 
   included : includes_fault ws w ≡ first_in (include_fault files w.top) (includes w)
   included =
-      let windexed : IsWorldIndex (worlds_at (others_of files) a.worlds) ws.by_name = subst (λ (l : List World). IsWorldIndex (worlds_at (others_of files) l) ws.by_name) (sym made) windex in
+      let windexed : IsNameIndex WorldNamed (worlds_at (others_of files) a.worlds) ws.by_name = subst (λ (l : List World). IsNameIndex WorldNamed (worlds_at (others_of files) l) ws.by_name) (sym made) windex in
       let listed = world_added files declared_interfaces declared_worlds (interfaces_sort (in_order all places)) (worlds_sort (in_order all places)) (are_interfaces files places g.order g.differ) (are_worlds files places g.order g.differ) g.uses es prefix wprefix g.foreign middle done.0 rs done.2 us mid a wrs before w there in
       includes_walked files places g.order g.differ es prefix wprefix g.foreign count place w next at sort done.2.ordered (prefix_scopes files prefix ++ done.2.scopes) mid a wrs before ws.by_name windexed listed ws refl refl visits
 
@@ -153,10 +150,12 @@ module _ (ws : Worlds) (places : List ℕ) (es : List TypeDef) (prefix : List In
   }
 
   -- where names of it end
-  ends : (h : IsReached mid (resolved_scopes_of is) (owner.World (length ws.arena)) w) → EndsIn (env_of h.names) (h.mid ++ h.more) (handle_fault files known.steps (address w))
-  ends = subst (λ (l : List World). (h : IsReached mid (resolved_scopes_of is) (owner.World (length l)) w) → EndsIn (env_of h.names) (h.mid ++ h.more) (handle_fault files known.steps (address w))) made (
-      subst (λ (cs : List ResolvedScope). (h : IsReached mid cs (owner.World (length a.worlds)) w) → EndsIn (env_of h.names) (h.mid ++ h.more) (handle_fault files known.steps (address w))) (sym scopes_are) (λ h.
-      world_ends files declared_interfaces declared_worlds (interfaces_sort (in_order all places)) (worlds_sort (in_order all places)) (are_interfaces files places g.order g.differ) (are_worlds files places g.order g.differ) g.uses es prefix wprefix g.foreign middle done.0 rs done.2 us mid a wrs w there before h known.steps (enough (address w))))
+  abbrev Ends : List ResolvedScope → List World → Type 0
+  Ends cs l = EndsInTurn cs (owner.World (length l)) mid xs outcome (handle_fault files known.steps (address w))
+
+  ends : Ends (resolved_scopes_of is) ws.arena
+  ends = subst (Ends (resolved_scopes_of is)) made (subst (λ (cs : List ResolvedScope). Ends cs a.worlds) (sym scopes_are)
+      (world_ends files declared_interfaces declared_worlds (interfaces_sort (in_order all places)) (worlds_sort (in_order all places)) (are_interfaces files places g.order g.differ) (are_worlds files places g.order g.differ) g.uses es prefix wprefix g.foreign middle done.0 rs done.2 us mid a wrs w there before outcome (outcomes (rows_of xs)) known.steps (enough (address w))))
 
   module _ (types : Names) (named : List TypeDef) (scoped : AddsScope mid named (resolved_scopes_of is) (owner.World (length ws.arena)) xs types) where
     own_scoped : AddsScope mid named resolved (owner.World (length a.worlds)) xs types
@@ -186,12 +185,6 @@ module _ (ws : Worlds) (places : List ℕ) (es : List TypeDef) (prefix : List In
       in_turn_next : slice_get (inline_items w) (length written) ≡ Some u
       in_turn_next = ap (λ (l : List Item). slice_get l (length written)) whole ∙ at_middle written u later
 
-      covered : length now.inside ≡ length a.inside + length written
-      covered =
-          let more : length now.inside ≡ length a.inside + length (flat_map item_inline first) = members.more in
-          let long : length written ≡ length (flat_map item_inline first) = length-inline_after w [] first in
-          omega (arith, more, long)
-
       sides : AddsSides resolved (length (prefix ++ done.0)) (address w) types named now.types a.inside now.inside members.functions members.adds.own first written
       sides =
           subst (λ (ns : Names). AddsSides resolved (length (prefix ++ done.0)) (address w) ns named now.types a.inside now.inside members.functions members.adds.own first written) (own.types ∙ same_types) (
@@ -199,51 +192,56 @@ module _ (ws : Worlds) (places : List ℕ) (es : List TypeDef) (prefix : List In
           subst (λ (cs : List ResolvedScope). AddsSides cs (length is.arena) (address w) walk.scope.names.now named now.types a.inside now.inside members.functions members.adds.own first written) scopes_are (
           subst (λ (js : Interfaces). AddsSides (resolved_scopes_of js) (length js.arena) (address w) walk.scope.names.now named now.types a.inside now.inside members.functions members.adds.own first written) own.interfaces (members.adds.holds (address w)))))
 
+      covered : length now.inside ≡ length a.inside + length written
+      covered =
+          let more : length now.inside ≡ length a.inside + length (flat_map item_inline first) = sides_count resolved (length (prefix ++ done.0)) (address w) types named now.types a.inside now.inside members.functions members.adds.own first written sides in
+          let long : length written ≡ length (flat_map item_inline first) = length-inline_after w [] first in
+          omega (arith, more, long)
+
       abbrev spot : ℕ
       spot = next_place is now.inside
 
-      inner_ends : (h : IsReached now.types (resolved_scopes_of is) (owner.Interface spot) u) → EndsIn (env_of h.names) (h.mid ++ h.more) (handle_fault files known.steps (address u))
-      inner_ends = subst (λ (l : List Interface). (h : IsReached now.types (resolved_scopes_of is) (owner.Interface (length l + length now.inside)) u) → EndsIn (env_of h.names) (h.mid ++ h.more) (handle_fault files known.steps (address u))) (sym done.1) (
-          subst (λ (cs : List ResolvedScope). (h : IsReached now.types cs (owner.Interface (length (prefix ++ done.0) + length now.inside)) u) → EndsIn (env_of h.names) (h.mid ++ h.more) (handle_fault files known.steps (address u))) (sym scopes_are) (λ h.
-          inline_ends files declared_interfaces declared_worlds (interfaces_sort (in_order all places)) (worlds_sort (in_order all places)) (are_interfaces files places g.order g.differ) (are_worlds files places g.order g.differ) g.uses es prefix wprefix g.foreign middle done.0 rs done.2 us mid a wrs w there before types named own_scoped first written (length written) in_front u in_turn_next now.types now.inside members.functions members.adds.own sides covered h known.steps (enough (address u))))
+      abbrev InnerEnds : List ResolvedScope → List Interface → Type 0
+      InnerEnds cs l = EndsInTurn cs (owner.Interface (length l + length now.inside)) now.types (scope_names u) (known.outcome (rows_of (scope_names u))) (handle_fault files known.steps (address u))
 
-      inner_safe : (new : List TypeDef) (added : Interface) (required : List Required) → AddsInterface (resolved_scopes_of is) spot now.types new added required u → IsSafe (env_of added.types) new (handle_fault files known.steps (address u))
-      inner_safe new added required h = inline_safe files declared_interfaces declared_worlds (interfaces_sort (in_order all places)) (worlds_sort (in_order all places)) (are_interfaces files places g.order g.differ) (are_worlds files places g.order g.differ) g.uses es prefix wprefix g.foreign middle done.0 rs done.2 us mid a wrs w there before types named own_scoped first written (length written) in_front u in_turn_next now.types now.inside members.functions members.adds.own sides covered new added required (
-          subst (λ (l : List Interface). AddsInterface resolved (length l + length now.inside) now.types new added required u) done.1 (subst (λ (cs : List ResolvedScope). AddsInterface cs spot now.types new added required u) scopes_are h)) known.steps (enough (address u))
+      inner_ends : InnerEnds (resolved_scopes_of is) is.arena
+      inner_ends = subst (InnerEnds (resolved_scopes_of is)) (sym done.1) (subst (λ (cs : List ResolvedScope). InnerEnds cs (prefix ++ done.0)) (sym scopes_are)
+          (inline_ends files declared_interfaces declared_worlds (interfaces_sort (in_order all places)) (worlds_sort (in_order all places)) (are_interfaces files places g.order g.differ) (are_worlds files places g.order g.differ) g.uses es prefix wprefix g.foreign middle done.0 rs done.2 us mid a wrs w there before types named own_scoped first written (length written) in_front u in_turn_next now.types now.inside members.functions members.adds.own sides covered (known.outcome (rows_of (scope_names u))) (outcomes (rows_of (scope_names u))) known.steps (enough (address u))))
 
       inner_walked : (s : ItemScope) → IsLent s files u → AreAsWalked files is (flat_map own_use s.names.now)
       inner_walked s its = walked u (scopes_inline files w u declared (contains_at (inline_items w) (length written) u in_turn_next)) s.names.now its.named its.placed
 
-      right_inside : IsRightOf (inline_fault files known) is now.types spot u
-      right_inside = right_interface files known outcomes (λ other. None) is now.types spot u (inline_interface w (length written) u in_turn_next) inner_walked inner_ends inner_safe
+      right_inside : IsRightOf (ordered_fault files known (λ (v : Item). None)) is now.types spot u
+      right_inside = right_interface files known outcomes (λ other. None) is now.types spot u (inline_interface w (length written) u in_turn_next) inner_walked inner_ends
 
   -- its members
   abbrev member : List SideItem → SideItem → Option Fault
-  member = member_fault files known.steps (inline_fault files known) w (order_of outcome)
+  member = member_fault files known.steps (ordered_fault files known (λ (v : Item). None)) w (order_of outcome)
 
   module _ (names : ResolvedNames) (named : List TypeDef) (scoped : AddsScope mid named (resolved_scopes_of is) (owner.World (length ws.arena)) xs names.types) (walk : Walk) (start : Walked) (own : IsWalkOf walk i is names) (begun : IsStart (walk_of i walk) start) where
     right_sides : AreRightMembers member (walk_of i walk) [] (side_items w) (stage named a.inside start)
     right_sides =
         let turn = own.walk.turn in
-        let ordered : outcome ≡ InOrder turn.order = outcome_one (rows_of xs) outcome (InOrder turn.order) (outcomes.each (rows_of xs)) turn.least in
-        subst (λ (js : Interfaces). AreRightMembers (member_fault js.files known.steps (inline_fault js.files known) w (order_of outcome)) (walk_of i walk) [] (side_items w) (stage named a.inside start)) own.interfaces (
+        let ordered : outcome ≡ InOrder turn.order = outcome_one (rows_of xs) outcome (InOrder turn.order) (outcomes (rows_of xs)) turn.least in
+        subst (λ (js : Interfaces). AreRightMembers (member_fault js.files known.steps (ordered_fault js.files known (λ (v : Item). None)) w (order_of outcome)) (walk_of i walk) [] (side_items w) (stage named a.inside start)) own.interfaces (
         right_members (walk_of i walk) known (order_of outcome) (turn.are ∙ ap (λ (o : Outcome). map local_id (in_turn xs (order_of o))) (sym ordered)) own.walk.listed start begun named a.inside
         (λ new extended. subst (λ (js : Interfaces). EndsIn (env_of walk.scope.names.now) new (handle_fault js.files known.steps (address w))) (sym own.interfaces) (subst (λ (ns : Names). EndsIn (env_of ns) new (handle_fault files known.steps (address w))) (sym own.types) (all_ends names.types named scoped new extended)))
         (λ link among. subst (λ (js : Interfaces). IsLeading js.files js.by_name (leads w.top link.path)) (sym own.interfaces) (leading link among))
-        (λ first now members x rest split u inner. subst (λ (js : Interfaces). IsRightOf (inline_fault js.files known) js now.types (next_place js now.inside) u) (sym own.interfaces) (right_inside names.types named scoped names refl walk own start first now members x rest split u inner)))
+        (λ first now members x rest split u inner. subst (λ (js : Interfaces). IsRightOf (ordered_fault js.files known (λ (v : Item). None)) js now.types (next_place js now.inside) u) (sym own.interfaces) (right_inside names.types named scoped names refl walk own start first now members x rest split u inner)))
 
   pub right_world : IsRightOfWorld (contents_fault files known) ws mid a.inside i
   right_world = record {
-    head = walked_head files known.steps w outcome;
+    outcome = outcome;
+    handle = handle_fault files known.steps (address w);
     member = member;
-    is = world_split files known.steps (inline_fault files known) w outcome;
-    fault = λ f wrong. head_found files known.steps ws i outcome lent.named walked_uses included mid f (outcomes.each (rows_of xs)) ends wrong;
-    none = λ types named scoped none. sym (head_walked files known.steps ws i outcome lent.named walked_uses included) ∙ none outcome (outcomes.each (rows_of xs)) (handle_fault files known.steps (address w)) (safe_of (env_of types) named (handle_fault files known.steps (address w)) (all_ends types named scoped named (extended_same named)));
-    members = λ names named scoped none walk start own begun. right_sides names named scoped walk start own begun;
+    right = outcomes (rows_of xs);
+    ends = ends;
+    says = world_split files known.steps (ordered_fault files known (λ (v : Item). None)) w outcome ∙ ap (λ (o : Option Fault). option_or o (option_or (first_after member [] (side_items w)) (setters_fault w))) (sym (head_walked files known.steps ws i outcome lent.named walked_uses included));
+    members = λ names named scoped walk start own begun. right_sides names named scoped walk start own begun;
   }
 
 -- each world that comes next
-worlds_right : (is : Interfaces) (places : List ℕ) (es : List TypeDef) (prefix : List Interface) (wprefix : List World) (middle : List TypeDef) (rs : List Required) → AreDeclared is.files is.arena places es prefix wprefix middle rs → IsIndexed is → (items : List BorrowedItem) → map item_view items ≡ all_items is.files → (known : Known) → AreOutcomes known.outcome → ((s : Address) → IsEnough is.files known.steps s) → AreRightOfWorlds (contents_fault is.files known) is wprefix middle items places
+worlds_right : (is : Interfaces) (places : List ℕ) (es : List TypeDef) (prefix : List Interface) (wprefix : List World) (middle : List TypeDef) (rs : List Required) → AreDeclared is.files is.arena places es prefix wprefix middle rs → IsIndexed is → (items : List BorrowedItem) → map item_view items ≡ all_items is.files → (known : Known) → ((rs : List Row) → IsOutcome rs (known.outcome rs)) → ((s : Address) → IsEnough is.files known.steps s) → AreRightOfWorlds (contents_fault is.files known) is wprefix middle items places
 worlds_right is places es prefix wprefix middle rs declared index items view known outcomes enough = record {
   each = λ ws mid a wrs count place i kept next at sort lent adds made windex.
       subst (λ (js : Interfaces). AreDeclared js.files js.arena places es prefix wprefix middle rs → IsIndexed js → map item_view items ≡ all_items js.files → ((s : Address) → IsEnough js.files known.steps s) → IsItemOf js.files i → AddsWorlds (prefix_of js.files) (others_of js.files) js.arena middle mid (prefix_worlds wprefix) a wrs (worlds_of (in_order (map item_view items) (take count places))) → IsRightOfWorld (contents_fault js.files known) ws mid a.inside i) kept (λ g indexed all ends own added.
@@ -258,7 +256,7 @@ module _ (files : List PackageFile) (places : List ℕ) (order : IsOrder (item_r
   test = contents_fault files known
 
   usable : AreUsableUses files (all_items files)
-  usable = uses_usable files (uses_sound files sound)
+  usable = uses_usable files sound
 
   starts : AreRightFrom test fs prefix es items places
   starts = interfaces_right files places order (distinct_items files legal) usable es prefix wprefix foreign known is.outcomes is.enough fs same items view

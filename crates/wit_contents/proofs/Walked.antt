@@ -1,14 +1,14 @@
 -- The first fault of an interface by tables, and that of a world before its members, is that of the walk of files, where the tables say what the files do.
-use Rattle.std.proofs.Common.{◌≡◌, ℕ, zero, suc, Bool, true, false, ◌||◌, List, [], ◌∷◌, ◌++◌, map, Option, Some, None, refl, sym, ap, ◌∙◌, subst, length}
-use Rattle.wit_syntax.proofs.Common.{Called, Declared, Defined, Exported, Fault, ForeignName, Id, Imported, InterfaceItem, Item, PackageFile, ResourceFunc, ScopeName, SideFunction, SideItem, SourceFunction, Span, TheInline, TheInterface, TheWorld, TypeBody, TypeDef, Used, WorldSide, about, address, bytes_eq, cyclic_at, defined, definition_functions, flat_map, flat_map_at, folded_key, free_function, functions, functions_imported, if◌then◌else◌, in_order, in_turn, includes, interface_part, is_world, item_function, items_on, kept_all, kept_none, list_any, local_id, local_name, map-append, map_at, missing_type_at, name_called, name_twice, names_on, on_side, option_or, part_functions, part_includes, resource_function, role_side, rows_of, same_side, scope_names, side_called, side_items, side_items_functions, slice_get, type_word, used}
+use Rattle.std.proofs.Common.{◌≡◌, ℕ, zero, suc, Bool, true, false, ◌||◌, List, [], ◌∷◌, ◌++◌, map, Option, Some, None, refl, sym, ap, ◌∙◌, subst}
+use Rattle.wit_syntax.proofs.Common.{Called, Declared, Defined, Exported, Fault, ForeignName, Id, Imported, InterfaceItem, Item, PackageFile, ResourceFunc, ScopeName, SideFunction, SideItem, SourceFunction, Span, TheInline, TheInterface, TheWorld, TypeBody, Used, WorldSide, about, address, bytes_eq, cyclic_at, defined, definition_functions, flat_map, flat_map_at, folded_key, free_function, functions, functions_imported, if◌then◌else◌, in_order, in_turn, includes, interface_part, is_world, item_function, items_on, kept_all, kept_none, list_any, local_id, local_name, map-append, map_at, missing_type_at, name_called, name_twice, names_on, on_side, option_or, part_functions, part_includes, resource_function, role_side, same_side, scope_names, side_called, side_items, side_items_functions, slice_get, type_word, used, clash, codes, fault_in}
 use Rattle.wit_type_tree.specs.declared.types.TypeBody.TheVariants as body
 use Rattle.wit_type_tree.specs.declared.types.ResourceFunc.TheVariants as resource
 use Rattle.wit_tree.specs.declared.tree.InterfaceItem.TheVariants as interface_item
-use Rattle.wit_walk.proofs.Common.{IsOutcome, Outcome, after-append, called_fault, clash-made, clash-map, crossed, definition_fault, earliest, first_after, first_in, folded_clash, folded_fault, function_fault, handle_fault, include_fault, is_on_side, local_names_fault, member_fault, name_fault, or_assoc, or_none, or_none_both, order_fault, order_of, own_fault, repeat-map, repeat_of, scope_faults, setters_beside, setters_fault, side_setters_fault, side_sorted, signed_fault, stability_fault, use_fault, word_fault}
+use Rattle.wit_walk.proofs.Common.{Outcome, after-append, called_fault, clash-made, clash-map, crossed, definition_fault, earliest, first_after, first_in, folded_fault, function_fault, handle_fault, include_fault, is_on_side, local_names_fault, member_fault, name_fault, or_assoc, or_none, or_none_both, order_fault, order_of, own_fault, repeat-map, repeat_of, scope_faults, setters_fault, side_setters_fault, side_sorted, signed_fault, stability_fault, use_fault, word_fault}
 use Rattle.wit_first.proofs.Repeats.{after_kept}
 use Rattle.wit_refusals.specs.NameScopes.{Name}
 use Rattle.wit_signatures.specs.ForeignName.{name_key, name_of_function, name_of_id}
-use Rattle.wit_externs.specs.AloneFaults.{again, again_fault, alone_fault, alone_faults, defined_fault, lone_setters, EndsIn}
+use Rattle.wit_externs.specs.AloneFaults.{again, again_fault, alone_fault, alone_faults, defined_fault, lone_setters}
 use Rattle.wit_externs.specs.Clash.{names_of_items}
 use Rattle.wit_scopes.specs.BorrowedNames.{own_use, use_view}
 use Rattle.wit_scopes.specs.declared.scope_name.UsedName.{UsedName}
@@ -21,15 +21,11 @@ use Rattle.wit_item_entries.proofs.NameOrder.{all_used, called}
 use Rattle.wit_item_entries.specs.ReachedFaults.{definitions_fault, item_stability, ordered_fault}
 use Rattle.wit_item_entries.specs.ScopeFunctionFaults.{functions_fault}
 use Rattle.wit_contents.specs.InterfaceFaults.{interface_fault, names_of}
-use Rattle.wit_types.specs.declared.types.TypeOwner.TheVariants as owner
-use Rattle.wit_arena.proofs.Common.{env_of}
-use Rattle.wit_items.specs.ResolvedInterfaces.{resolved_scopes_of}
 use Rattle.wit_items.specs.declared.items.Item.{Item as BorrowedItem}
 use Rattle.wit_links.specs.Includes.{includes_fault}
 use Rattle.wit_links.specs.declared.worlds.Worlds.{Worlds}
-use Rattle.wit_contents.specs.WorldFaults.{IsWorldHeadFault, turn_fault, world_head}
-use Rattle.wit_contents.proofs.FoundBy.{found_by}
-use Rattle.wit_contents.proofs.Ends.{IsReached}
+use Rattle.wit_contents.specs.Worlds.{turn_fault, world_head}
+use Rattle.wit_walk.specs.Setters.{setters_beside}
 
 -- an item that is made of another
 any-made : {X Y : Type 0} (p : Y → Bool) (f : X → Y) (xs : List X) → list_any p (map f xs) ≡ list_any (λ (x : X). p (f x)) xs
@@ -90,7 +86,7 @@ pub turn_walked : (ys : List ScopeName) → defined_fault [] (map name_of_id (ma
 turn_walked ys =
     clash-map name_key again name_of_id (map local_id ys)
     ∙ clash-map (λ (id : Id). name_key (name_of_id id)) (λ (x y : Id). again (name_of_id x) (name_of_id y)) local_id ys
-    ∙ sym (clash-map (λ (c : Called). folded_key c.name) folded_clash name_called ys)
+    ∙ sym (clash-map (λ (c : Called). folded_key c.name) (λ (earlier later : Called). fault_in 17 later.span (clash (codes "name") earlier.name later.name)) name_called ys)
 
 -- no function of an interface is what a world imports or exports
 resource_free : (r : Id) (g : ResourceFunc) → is_on_side (resource_function r g).role ≡ false
@@ -173,7 +169,7 @@ module _ (files : List PackageFile) (steps : ℕ) (inside : Item → Option Faul
       let names = taken side ++ names_of_items there in
       let signed : function_fault (signed_fault xs (before ++ fn ∷ []) handle) xs fn ≡ function_fault (signed_fault xs (flat_map item_function (map SideFunction before) ++ fn ∷ []) handle) xs fn = ap (λ (l : List SourceFunction). function_fault (signed_fault xs (l ++ fn ∷ []) handle) xs fn) (sym (functions_back before)) in
       let as_crossed = crossed side (side_sorted side xs there order) in
-      let folded : again_fault names (name_of_function fn) ≡ folded_fault (side_called side xs there order) c = sym (clash-made (λ (d : Called). folded_key d.name) folded_clash called names (name_of_function fn)) ∙ ap (λ (l : List Called). folded_fault l c) (all_used side xs there order ids refl) in
+      let folded : again_fault names (name_of_function fn) ≡ folded_fault (side_called side xs there order) c = sym (clash-made (λ (d : Called). folded_key d.name) (λ (earlier later : Called). fault_in 17 later.span (clash (codes "name") earlier.name later.name)) called names (name_of_function fn)) ∙ ap (λ (l : List Called). folded_fault l c) (all_used side xs there order ids refl) in
       let one : again_fault names (name_of_function fn) ≡ own_fault xs there order (SideFunction fn) = folded ∙ sym (called_free (is_on_side fn.role) as_crossed (side_called side xs there order) c own) ∙ sym (or_none (called_fault (is_on_side fn.role) as_crossed (side_called side xs there order) c)) in
       ap (λ (o : Option Fault). option_or o (again_fault names (name_of_function fn))) signed ∙ ap (option_or (function_fault (signed_fault xs (flat_map item_function (map SideFunction before) ++ fn ∷ []) handle) xs fn)) one
 
@@ -280,7 +276,3 @@ module _ (files : List PackageFile) (steps : ℕ) (ws : Worlds) (i : BorrowedIte
         let names_are : option_or uses twice ≡ names = names_walked files ws.interfaces.now (flat_map own_use i.names.items) listed (uses_viewed i.names.items ∙ ap used named) say in
         let last : option_or stable (option_or (option_or (option_or uses twice) (option_or round definitions)) after) ≡ walked_head files steps w outcome = rw (names_are, included, turn_walked (in_turn listed order)) refl in
         by_tables test ∙ ap (λ (o : Option Fault). option_or stable (option_or o after)) (sym (or_assoc uses twice (option_or round definitions))) ∙ last
-
-    -- so what is found of it there is found by the walk
-    pub head_found : (old : List TypeDef) (f : Fault) → IsOutcome (rows_of listed) outcome → ((h : IsReached old (resolved_scopes_of ws.interfaces.now) (owner.World (length ws.arena)) w) → EndsIn (env_of h.names) (h.mid ++ h.more) test) → IsWorldHeadFault ws old i f → walked_head files steps w outcome ≡ Some f
-    head_found old f right ends wrong = sym head_walked ∙ found_by (resolved_scopes_of ws.interfaces.now) (owner.World (length ws.arena)) old w outcome stable uses (λ h. definitions_fault h (defined (in_order listed (order_of outcome)))) (λ h. after) (world_head ws i outcome) by_tables test f right ends (wrong outcome right)

@@ -1,14 +1,14 @@
 -- The first fault of a world: of its attributes, of its names, of its includes, or of what is on its sides.
 use Rattle.std.proofs.Common.{◌≡◌, ℕ, ◌+◌, Bool, true, List, [], ◌∷◌, ◌++◌, drop, length, map, take, Option, Some, None, refl, sym, ap, ◌∙◌, subst, All, ◌<◌, get_or}
-use Rattle.wit_syntax.proofs.Common.{AllDiffer, Fault, Id, Imported, Include, Item, ParseError, ScopeName, SourceFunction, TypeDef, TypeOwner, append-nil, filter, filter-append, filter_map-append, functions, if◌then◌else◌, in_order, in_turn, includes, kept_next, local_id, option_map, option_or, rows_of, scope_names, side_items, slice_get, slice_get-get_or, slice_get-map, take-append-drop}
+use Rattle.wit_syntax.proofs.Common.{Declared, Fault, Id, Include, Item, PackageFile, ParseError, ScopeName, SourceFunction, TheWorld, TopName, TypeDef, TypeOwner, World, append-nil, filter, filter-append, filter_map-append, functions, if◌then◌else◌, in_order, in_turn, includes, kept_next, local_id, option_map, option_or, rows_of, scope_names, side_items, slice_get, slice_get-get_or, slice_get-map, take-append-drop, Result}
 use Rattle.wit_types.specs.declared.types.TypeOwner.TheVariants as owner
-use Rattle.wit_arena.proofs.Common.{Defines, Interface, ResolvedScope, defines_none, env_of}
-use Rattle.wit_walk.proofs.Common.{IsOutcome, Outcome, Reports, first_after, first_in, in-append, in-more, no_clashes, none_both, order_of, reports_prefix, reports_same, setters_beside, setters_fault}
-use Rattle.wit_refusals.specs.NameScopes.{Name}
-use Rattle.wit_signatures.specs.ForeignName.{name_key, name_of_id}
-use Rattle.wit_externs.specs.AloneFaults.{EndsIn, IsSafe, again, sides_setters}
-use Rattle.wit_externs.proofs.AloneFaults.{safe_of}
-use Rattle.wit_items.specs.BorrowedItems.{item_view, names_view}
+use Rattle.wit_arena.proofs.Common.{Interface, ResolvedScope}
+use Rattle.wit_walk.proofs.Common.{IsOutcome, Outcome, Reports, first_after, first_in, in-append, in-more, order_of, reports_prefix, reports_same, setters_fault, Finds, finds_same, reports_back}
+use Rattle.wit_externs.specs.AloneFaults.{sides_setters}
+use Rattle.wit_files.specs.FileNames.{names_at_top}
+use Rattle.wit_items.specs.BorrowedItems.{declared_view, item_view, names_view}
+use Rattle.wit_items.specs.Gathered.{IsItemOf}
+use Rattle.wit_items.specs.ItemPaths.{item_in}
 use Rattle.wit_items.specs.ResolvedInterfaces.{resolved_scopes_of}
 use Rattle.wit_items.specs.declared.items.Item.{Item as BorrowedItem}
 use Rattle.wit_world_sides.specs.Settled.{none_of}
@@ -17,13 +17,15 @@ use Rattle.wit_links.specs.Includes.{includes_fault}
 use Rattle.wit_links.specs.SideCounts.{IsSeen}
 use Rattle.wit_links.specs.declared.worlds.Worlds.{Worlds}
 use Rattle.wit_item_entries.specs.AddedNames.{AddsTurn}
-use Rattle.wit_item_entries.specs.ReachedFaults.{HaveNames, IsNamesFault, item_stability, names_fault}
+use Rattle.wit_item_entries.specs.ReachedFaults.{item_stability, names_fault, EndsInTurn, FindsNames}
+use Rattle.wit_item_entries.proofs.ReachedFaults.{done, failed}
 use Rattle.wit_item_entries.specs.declared.names.ResolvedNames.{ResolvedNames}
 use Rattle.wit_contents.specs.MemberFaults.{MemberTest}
-use Rattle.wit_contents.specs.Walk.{IsNext, IsStart, IsWalk, ItemWalk, walk_item, walk_of}
-use Rattle.wit_contents.specs.WorldFaults.{AreRightSides, HasNoHeadFault, IsRightOfWorld, IsWorldHeadFault, sides_fault, turn_fault}
-use Rattle.wit_contents.proofs.InterfaceFaults.{all_defined, turned}
+use Rattle.wit_contents.specs.Walk.{IsNext, IsWalk, ItemWalk, walk_item}
+use Rattle.wit_contents.specs.Worlds.{AreRightSides, IsRightOfWorld, sides_fault, turn_fault, world_head}
+use Rattle.wit_contents.proofs.InterfaceFaults.{turned}
 use Rattle.wit_contents.specs.declared.walk.Walked.{Walked}
+use Rattle.wit_walk.specs.Setters.{setters_beside}
 
 -- setters are looked at where a world includes nothing
 setters_by : (i : Item) (ns : List Include) → (if none_of ns then sides_setters (functions i) else None) ≡ setters_beside i ns
@@ -36,11 +38,11 @@ setters_closed i fns are closed same =
     ∙ ap (λ (b : Bool). if b then sides_setters (functions i) else None) same
     ∙ setters_by i (includes i)
 
--- no two of the names that are there at first are one
-pub turn_differs : (w : ItemWalk) (start : Walked) → IsStart w start → turn_fault w.walk.turn.now ≡ None
-turn_differs w start is =
-    let names = map name_of_id w.walk.turn.now in
-    no_clashes name_key again names (subst (λ (l : List Name). AllDiffer (map name_key l)) (is.in_use Imported) (is.keyed.differ Imported))
+-- an item of the files is what is declared in the file at its place
+pub item_here : {files : List PackageFile} (i : BorrowedItem) (world : World) → IsItemOf files i → declared_view i.declared ≡ TheWorld world → item_in files i.place (TheWorld world) ≡ item_view i
+item_here i world own is =
+    ap (λ (top : List TopName). record { top = top; declared = TheWorld world }) (ap names_at_top own.filed.file)
+    ∙ ap (λ (d : Declared). record { top = (item_view i).top; declared = d }) (sym is)
 
 -- at first all of what is on the sides comes next
 abbrev pub next_all : (w : ItemWalk) (m : Walked) → IsWalk w → IsSeen [] m.seen → AreKeyed m.members → IsNext w (side_items (walk_item w)) m
@@ -69,91 +71,46 @@ module _ (ws : Worlds) (i : BorrowedItem) (old : List TypeDef) where
   abbrev names_test : Outcome → (Id → Option Fault) → Option Fault
   names_test outcome handle = names_fault ws.interfaces.now i.names.items outcome handle
 
-  -- its own attributes are wrong
-  pub unstable_first : (f : Fault) → item_stability w ≡ Some f → IsWorldHeadFault ws old i f
-  unstable_first f wrong outcome right = record {
-    count = 0;
-    mid = old;
-    now = [];
-    defines = λ s. defines_none old cs o s [];
-    more = [];
-    is = λ handle ends. ap (λ (x : Option Fault). option_or x (option_or (names_test outcome handle) (after (turned_ids outcome)))) wrong;
-  }
+  -- what a test that is right of it says of it
+  module _ (wrong : Item → Option Fault) (inside : List Interface) (test : IsRightOfWorld wrong ws old inside i) where
+    abbrev rest : Option Fault
+    rest = option_or (first_after test.member [] (side_items w)) (setters_fault w)
 
-  module _ (named : names_view i ≡ scope_names (item_view i)) (stable : item_stability (item_view i) ≡ None) where
-    -- its names are
-    pub names_first : (f : Fault) → IsNamesFault None ws.interfaces.now o old i.names.items f → IsWorldHeadFault ws old i f
-    names_first f h outcome right =
-        let r = h outcome (subst (λ (ys : List ScopeName). IsOutcome (rows_of ys) outcome) (sym named) right) in
-        record {
-          count = r.count;
-          mid = r.mid;
-          now = r.now;
-          defines = λ s. subst (λ (ys : List ScopeName). Defines old r.mid cs o s [] r.now (take r.count (in_turn ys (order_of outcome)))) named (r.defines s);
-          more = r.more;
-          is = λ handle ends. (
-              let names : names_test outcome handle ≡ Some f = r.is handle ends in
-              ap (λ (x : Option Fault). option_or x (option_or (names_test outcome handle) (after (turned_ids outcome)))) stable ∙ ap (λ (x : Option Fault). option_or x (after (turned_ids outcome))) names);
-        }
+    abbrev last : Option Fault
+    last = after (turned_ids test.outcome)
 
-    -- they are resolved, and in the arena
-    module _ (n : ResolvedNames) (mid : List TypeDef) (turn : AddsTurn old mid cs o xs n.types n.turn.items n.required.items) (head : HaveNames None ws.interfaces.now i.names.items n.types mid) where
-      module _ (outcome : Outcome) (right : IsOutcome (rows_of (scope_names (item_view i))) outcome) where
-        turned_is : n.turn.items ≡ turned_ids outcome
-        turned_is = turned old mid cs o xs n.types n.turn.items n.required.items turn outcome right
+    -- its own attributes are wrong
+    pub unstable_first : (e : ParseError) → Reports (item_stability w) e → Reports (wrong (item_view i)) e
+    unstable_first e found = reports_same (sym test.says) (reports_prefix rest (reports_prefix (option_or (names_test test.outcome test.handle) last) found))
 
-        names_none : (handle : Id → Option Fault) → IsSafe (env_of n.types) mid handle → names_test outcome handle ≡ None
-        names_none handle safe = head outcome (subst (λ (ys : List ScopeName). IsOutcome (rows_of ys) outcome) (sym named) right) handle safe
+    module _ (named : names_view i ≡ scope_names (item_view i)) (stable : item_stability (item_view i) ≡ None) where
+      names_found : {T : Type 0} (r : Result T ParseError) → FindsNames None ws.interfaces.now o old i.names.items r → Finds (names_test test.outcome test.handle) r
+      names_found r found = found test.outcome (subst (λ (ys : List ScopeName). IsOutcome (rows_of ys) test.outcome) (sym named) test.right) test.handle (subst (λ (ys : List ScopeName). EndsInTurn cs o old ys test.outcome test.handle) (sym named) test.ends)
 
-      -- so what comes after them is wrong
-      after_first : (f : Fault) → after n.turn.items ≡ Some f → IsWorldHeadFault ws old i f
-      after_first f wrong outcome right = record {
-        count = length (in_turn xs (order_of outcome));
-        mid = mid;
-        now = n.types;
-        defines = all_defined old mid cs o xs n.types n.turn.items n.required.items turn outcome right;
-        more = [];
-        is = λ handle ends. (
-            let now : EndsIn (env_of n.types) mid handle = subst (λ (es : List TypeDef). EndsIn (env_of n.types) es handle) (append-nil mid) ends in
-            let none = names_none outcome right handle (safe_of (env_of n.types) mid handle now) in
-            ap (λ (x : Option Fault). option_or x (option_or (names_test outcome handle) (after (turned_ids outcome)))) stable
-            ∙ ap (λ (x : Option Fault). option_or x (after (turned_ids outcome))) none
-            ∙ ap after (sym (turned_is outcome right))
-            ∙ wrong);
-      }
+      -- its names are
+      pub names_first : (e : ParseError) → FindsNames None ws.interfaces.now o old i.names.items (failed e) → Reports (wrong (item_view i)) e
+      names_first e found = reports_same (sym test.says) (reports_prefix rest (reports_back stable (reports_prefix last (names_found (failed e) found))))
 
-      pub includes_first : (f : Fault) → includes_fault ws (item_view i) ≡ Some f → IsWorldHeadFault ws old i f
-      includes_first f wrong = after_first f (ap (λ (x : Option Fault). option_or x (turn_fault n.turn.items)) wrong)
+      -- they are resolved, and in the arena
+      module _ (n : ResolvedNames) (mid : List TypeDef) (turn : AddsTurn old mid cs o xs n.types n.turn.items n.required.items) (head : FindsNames None ws.interfaces.now o old i.names.items (done n)) where
+        turned_is : n.turn.items ≡ turned_ids test.outcome
+        turned_is = turned old mid cs o xs n.types n.turn.items n.required.items turn test.outcome test.right
 
-      module _ (included : includes_fault ws (item_view i) ≡ None) where
-        -- or nothing is
-        head_none : turn_fault n.turn.items ≡ None → HasNoHeadFault ws i n.types mid
-        head_none differ outcome right handle safe = none_both stable (none_both (names_none outcome right handle safe) (none_both included (ap turn_fault (sym (turned_is outcome right)) ∙ differ)))
+        -- so what comes after them is wrong
+        pub includes_first : (e : ParseError) → Reports (includes_fault ws (item_view i)) e → Reports (wrong (item_view i)) e
+        includes_first e found = reports_same (sym test.says) (reports_prefix rest (reports_back stable (reports_back (names_found (done n) head) (reports_prefix (turn_fault (turned_ids test.outcome)) found))))
 
-        module _ (wrong : Item → Option Fault) (inside : List Interface) (test : IsRightOfWorld wrong ws old inside i) where
-          abbrev rest : Option Fault
-          rest = option_or (first_after test.member [] (side_items w)) (setters_fault w)
+        -- or what is found of its sides is found of it
+        module _ (included : includes_fault ws (item_view i) ≡ None) where
+          head_is : world_head ws i test.outcome test.handle ≡ turn_fault n.turn.items
+          head_is =
+              ap (λ (x : Option Fault). option_or x (option_or (names_test test.outcome test.handle) last)) stable
+              ∙ ap (λ (x : Option Fault). option_or x last) (names_found (done n) head)
+              ∙ ap (λ (x : Option Fault). option_or x (turn_fault (turned_ids test.outcome))) included
+              ∙ ap turn_fault (sym turned_is)
 
-          head_by : (twice : Option Fault) → turn_fault n.turn.items ≡ twice → test.head ≡ twice
-          head_by None differ = test.none n.types mid turn.adds (head_none differ)
-          head_by (Some f) again = test.fault f (after_first f (ap (λ (x : Option Fault). option_or x (turn_fault n.turn.items)) included ∙ again))
-
-          all_first : wrong (item_view i) ≡ sides_fault (item_view i) n.turn.items test.member
-          all_first = test.is ∙ ap (λ (x : Option Fault). option_or x rest) (head_by (turn_fault n.turn.items) refl)
-
-          right_members : AreRightSides test.member i ws.interfaces.now n mid inside
-          right_members v start of begun = test.members n mid turn.adds (head_none (ap turn_fault (sym of.turn) ∙ turn_differs (walk_of i v) start begun)) v start of begun
-
-          -- so what is found of its sides is found of it
-          pub world_reported : (e : ParseError) → ((member : MemberTest) → AreRightSides member i ws.interfaces.now n mid inside → Reports (sides_fault (item_view i) n.turn.items member) e) → Reports (wrong (item_view i)) e
-          world_reported e found = reports_same (sym all_first) (found test.member right_members)
-
-          pub world_none : ((member : MemberTest) → AreRightSides member i ws.interfaces.now n mid inside → sides_fault (item_view i) n.turn.items member ≡ None) → wrong (item_view i) ≡ None
-          world_none found = all_first ∙ found test.member right_members
-
--- a fault of what comes before the members is that of the world
-pub head_fault : (wrong : Item → Option Fault) (ws : Worlds) (old : List TypeDef) (inside : List Interface) (i : BorrowedItem) → IsRightOfWorld wrong ws old inside i → (f : Fault) → IsWorldHeadFault ws old i f → wrong (item_view i) ≡ Some f
-head_fault wrong ws old inside i test f h = test.is ∙ ap (λ (x : Option Fault). option_or x (option_or (first_after test.member [] (side_items (item_view i))) (setters_fault (item_view i)))) (test.fault f h)
+          pub world_found : {T : Type 0} (r : Result T ParseError) → ((member : MemberTest) → AreRightSides member i ws.interfaces.now n mid inside → Finds (sides_fault (item_view i) n.turn.items member) r) → Finds (wrong (item_view i)) r
+          world_found r found = finds_same r (sym (test.says ∙ ap (λ (x : Option Fault). option_or x rest) head_is)) (found test.member (test.members n mid turn.adds))
 
 -- a borrowed item, by its place in an order
 pub record IsAt (items : List BorrowedItem) (places : List ℕ) (k : ℕ) (x : BorrowedItem) : Type 0 where

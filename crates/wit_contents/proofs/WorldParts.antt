@@ -1,7 +1,7 @@
 -- The walk of a world of the files, and what the world adds: after its names what is on its sides, or nothing.
 use Rattle.std.proofs.Common.{◌≡◌, List, map, refl, sym, ap, ◌∙◌, subst, true, ◌+◌, ℕ, ◌∷◌, [], ◌++◌, Some, length, arith, false, None}
-use Rattle.wit_syntax.proofs.Common.{Address, AllDiffer, Declared, Exported, Id, Imported, Include, Item, ScopeName, SideItem, TheWorld, TypeDef, TypeOwner, WorldItem, WorldSide, about, address, and_parts, append-nil, at_back, at_prefix, declared_metadata, eqb-true, flat_map, functions, functions_items, in_turn, in_turn_distinct, includes, inline_after, inline_items, is_ascii_uppercase, item_function, length-inline_after, list_all, list_any, names_on, nil_from_length, part_items, scope_names, side_items, slice_get, world_part}
-use Rattle.wit_walk.proofs.Common.{first_after, no_clashes, none_both, setters_beside, setters_fault}
+use Rattle.wit_syntax.proofs.Common.{Address, AllDiffer, Declared, Exported, Id, Imported, Include, Item, ScopeName, SideItem, TheWorld, TypeDef, TypeOwner, WorldItem, WorldSide, about, address, and_parts, append-nil, at_back, at_prefix, declared_metadata, eqb-true, flat_map, functions, functions_items, in_turn, in_turn_distinct, includes, inline_items, is_ascii_uppercase, item_function, list_all, list_any, names_on, nil_from_length, part_items, scope_names, side_items, slice_get, world_part}
+use Rattle.wit_walk.proofs.Common.{first_after, no_clashes, none_both, setters_fault}
 use Rattle.wit_arena.proofs.Common.{AddsSides, AddsWorld, AreIncludes, AreSideItems, Interface, IsWorld, Names, Required, World, env_of, function_of, interfaces_at, names_in, settled, type_imports, worlds_at}
 use Rattle.wit_rules.specs.BorrowedFunctions.{function_view}
 use Rattle.wit_rules.specs.Signatures.{HaveOwners, functions_view}
@@ -14,15 +14,14 @@ use Rattle.wit_item_entries.specs.declared.names.ResolvedNames.{ResolvedNames}
 use Rattle.wit_item_entries.proofs.FunctionFaults.{all_names, turn_texts}
 use Rattle.wit_item_entries.proofs.Owners.{owners, turn_has}
 use Rattle.wit_contents.specs.declared.walk.Walk.{Walk}
-use Rattle.wit_contents.specs.declared.world.WorldScope.{WorldScope}
-use Rattle.wit_contents.specs.WorldWalk.{IsFunctionScopeOf, IsScopedWorld, IsWalkOf}
+use Rattle.wit_contents.specs.declared.sides.WorldScope.{WorldScope}
+use Rattle.wit_contents.specs.Worlds.{IsFunctionScopeOf, IsScopeOfWorld, IsWalkOf, arenas, sides_fault}
 use Rattle.wit_types.specs.declared.types.TypeOwner.TheVariants as owner
 use Rattle.wit_items.specs.ForeignAddresses.{prefix_of}
 use Rattle.wit_world_sides.specs.Members.{Entry}
 use Rattle.wit_links.proofs.Leading.{addresses_count}
-use Rattle.wit_contents.specs.AddedWorlds.{arenas}
 use Rattle.wit_contents.specs.declared.walk.Walked.{Walked}
-use Rattle.wit_contents.specs.Walk.{AddsAll, HavePlaces, IsWalk, ItemWalk, walk_item, puts_nothing}
+use Rattle.wit_contents.specs.Walk.{HavePlaces, IsWalk, ItemWalk, walk_item, puts_nothing, AddsMembers, IsStart, stage}
 use Rattle.wit_tree.specs.declared.tree.World.{World as Written}
 use Rattle.wit_functions.specs.MaybeFunction.{is_setter}
 use Rattle.wit_functions.proofs.NoSetters.{no_setters}
@@ -32,27 +31,26 @@ use Rattle.wit_externs.specs.AloneFaults.{again, sides_setters}
 use Rattle.wit_item_entries.specs.NameOrder.{IsTurn}
 use Rattle.wit_item_entries.proofs.NoFunctions.{names_alone}
 use Rattle.wit_contents.specs.MemberFaults.{MemberTest}
-use Rattle.wit_contents.specs.WorldFaults.{sides_fault}
 use Rattle.wit_contents.proofs.Members.{sides_none}
 use Rattle.wit_contents.proofs.MemberFaults.{world_sides}
+use Rattle.wit_walk.specs.Setters.{setters_beside}
 
 -- it is that of a world of the files, whose names are resolved, in turn
-pub walk_of_scope : (w : Walk) (i : BorrowedItem) (s : WorldScope) → IsScopedWorld w.interfaces.now i s → IsFunctionScopeOf s w.scope → w.turn.now ≡ s.names.turn.items → IsWalkOf w i w.interfaces.now s.names
+pub walk_of_scope : (w : Walk) (i : BorrowedItem) (s : WorldScope) → IsScopeOfWorld w.interfaces.now i s → IsFunctionScopeOf s w.scope → w.turn.now ≡ s.names.turn.items → IsWalkOf w i w.interfaces.now s.names
 walk_of_scope w i s is fns lent =
     let xs = scope_names (item_view i) in
     let ids = s.names.turn.items in
     let env = env_of w.scope.names.now in
-    let of = is.scope in
-    let own : functions_view w.scope ≡ functions (item_view i) = ap (map function_view) fns.functions ∙ of.functions in
+    let own : functions_view w.scope ≡ functions (item_view i) = ap (map function_view) fns.functions ∙ is.functions in
     let listed : names_in w.scope.names.now ≡ map (λ (id : Id). id.name.now) ids = ap names_in fns.names ∙ s.names.listed in
     record {
       walk = record {
         item = is.world.item;
         sort = is.world.sort;
         functions = own;
-        owners = subst (HaveOwners env) (sym own) (owners (item_view i) env (turn_has xs ids w.scope.names.now of.turn listed));
-        scoped = record { names = all_names xs ids w.scope.names.now of.turn listed; results = rw fns.results of.results };
-        turn = rw lent of.turn;
+        owners = subst (HaveOwners env) (sym own) (owners (item_view i) env (turn_has xs ids w.scope.names.now is.turn listed));
+        scoped = record { names = all_names xs ids w.scope.names.now is.turn listed; results = rw fns.results is.results };
+        turn = rw lent is.turn;
         listed = listed ∙ ap (map (λ (id : Id). id.name.now)) (sym lent);
       };
       interfaces = refl;
@@ -73,7 +71,7 @@ module _ (foreign : List Address) (is inside : List Interface) (ss : List Addres
       ap (slice_get (interfaces_at foreign is ++ (ss ++ us))) place ∙ at_back (interfaces_at foreign is) (ss ++ us) (length ss + k) s (at_back ss us k s at)
 
 -- what a world adds, where its names and what is on its sides were added
-module _ (w : ItemWalk) (others : List Address) (ws : List World) (old middle new : List TypeDef) (inside now : List Interface) (required : List Required) (m : Walked) (is : IsWalk w) (n : AddsTurn old middle (resolved_scopes_of w.walk.interfaces.now) (owner.World (length ws)) (scope_names (walk_item w)) w.walk.scope.names.now w.walk.turn.now required) (all : AddsAll w middle new inside now m) where
+module _ (w : ItemWalk) (others : List Address) (ws : List World) (old middle new : List TypeDef) (inside now : List Interface) (required : List Required) (m : Walked) (is : IsWalk w) (n : AddsTurn old middle (resolved_scopes_of w.walk.interfaces.now) (owner.World (length ws)) (scope_names (walk_item w)) w.walk.scope.names.now w.walk.turn.now required) (start : Walked) (begun : IsStart w start) (adds : AddsMembers w [] (side_items (walk_item w)) (stage middle inside start) (stage new now m)) where
   abbrev item : Item
   item = walk_item w
 
@@ -82,9 +80,6 @@ module _ (w : ItemWalk) (others : List Address) (ws : List World) (old middle ne
 
   abbrev interfaces : List Interface
   interfaces = w.walk.interfaces.now.arena
-
-  pub extended : length now ≡ length inside + length (inline_items item)
-  extended = all.adds.more ∙ ap (λ (k : ℕ). length inside + k) (sym (length-inline_after item [] (side_items item)))
 
   pub content_adds : (added : World) (ss : List Address) → length ss ≡ length inside → IsWorld (about item.declared).id.name.now (about item.declared).id.span (declared_metadata item.declared) added → added.imports ≡ settled (includes item) m.members.sides.imports → added.exports ≡ settled (includes item) m.members.sides.exports → AreIncludes (worlds_at others ws) item added.includes → AddsWorld foreign others interfaces old new (arenas ws inside ss) (arenas (ws ++ added ∷ []) now (ss ++ map address (inline_items item))) (required ++ m.required.items) item
   content_adds added ss known says imports exports included =
@@ -96,9 +91,9 @@ module _ (w : ItemWalk) (others : List Address) (ws : List World) (old middle ne
         interfaces = λ p s at. at_prefix (interfaces_at foreign interfaces) (ss ++ us) p s at;
         inline = inline_present foreign interfaces inside ss item counted known;
       } in
-      let first = all.adds.are_present total places Imported in
-      let second = all.adds.are_present total places Exported in
-      let own : required ++ m.required.items ≡ n.handled.list ++ all.adds.adds.own = ap (λ (l : List Required). l ++ m.required.items) n.handled.added ∙ ap (λ (l : List Required). n.handled.list ++ l) (all.adds.adds.list ∙ ap (λ (l : List Required). l ++ all.adds.adds.own) all.is.required) in
+      let first = adds.are_present total places Imported in
+      let second = adds.are_present total places Exported in
+      let own : required ++ m.required.items ≡ n.handled.list ++ adds.adds.own = ap (λ (l : List Required). l ++ m.required.items) n.handled.added ∙ ap (λ (l : List Required). n.handled.list ++ l) (adds.adds.list ∙ ap (λ (l : List Required). l ++ adds.adds.own) begun.required) in
       record {
         added = added;
         last = refl;
@@ -109,16 +104,12 @@ module _ (w : ItemWalk) (others : List Address) (ws : List World) (old middle ne
         adds = n.adds;
         own = n.handled.list;
         ended = n.handled.ended;
-        functions = all.adds.functions;
-        rest = all.adds.adds.own;
+        functions = adds.functions;
+        rest = adds.adds.own;
         requires = own;
-        sides = all.adds.adds.holds (address item);
-        imported = first.more;
-        are_imported = first.are;
-        imports = imports ∙ ap (settled (includes item)) (first.put ∙ ap (λ (l : List Entry). l ++ first.more) (all.is.imports (in_turn (scope_names item) order) n.turn));
-        exported = second.more;
-        are_exported = second.are;
-        exports = exports ∙ ap (settled (includes item)) (second.put ∙ ap (λ (l : List Entry). l ++ second.more) all.is.exports);
+        sides = adds.adds.holds (address item);
+        imports = (first.more, first.are, imports ∙ ap (settled (includes item)) (first.put ∙ ap (λ (l : List Entry). l ++ first.more) (begun.imports (in_turn (scope_names item) order) n.turn)));
+        exports = (second.more, second.are, exports ∙ ap (settled (includes item)) (second.put ∙ ap (λ (l : List Entry). l ++ second.more) begun.exports));
         includes = included;
       }
 
@@ -162,9 +153,6 @@ module _ (xs : List ScopeName) (ids : List Id) (turn : IsTurn xs ids) (lower : l
 
 -- a world of the files that has nothing on its sides after its names
 module _ (item : Item) (empty : side_items item ≡ []) where
-  pub alone_extended : (count : ℕ) → count ≡ count + length (inline_items item)
-  alone_extended count = let none : length (inline_items item) ≡ 0 = ap (λ (xs : List SideItem). length (inline_after item [] xs)) empty in omega (arith, none)
-
   -- nothing has a fault
   pub alone_none : (ids : List Id) → IsTurn (scope_names item) ids → list_any (λ (id : Id). list_any is_ascii_uppercase id.name.now) ids ≡ false → (member : MemberTest) → sides_fault item ids member ≡ None
   alone_none ids turn lower member = none_both (no_clashes name_key again (map name_of_id ids) (keys_differ (scope_names item) ids turn lower Imported)) (none_both (ap (first_after member []) empty) (setters_none item empty))
@@ -193,11 +181,7 @@ module _ (item : Item) (empty : side_items item ≡ []) where
           rest = [];
           requires = n.handled.added ∙ sym (append-nil n.handled.list);
           sides = subst (λ (xs : List SideItem). AddsSides (resolved_scopes_of is) (length is.arena) (address item) types middle middle inside inside [] [] xs us) (sym empty) (sides_none (resolved_scopes_of is) (length is.arena) (address item) types middle inside us);
-          imported = [];
-          are_imported = none Imported;
-          imports = imported ∙ sym (names_settled (includes item) (in_turn (scope_names item) n.adds.order) types) ∙ ap (settled (includes item)) (sym (append-nil names));
-          exported = [];
-          are_exported = none Exported;
-          exports = exported ∙ sym (names_settled (includes item) [] types);
+          imports = ([], none Imported, imported ∙ sym (names_settled (includes item) (in_turn (scope_names item) n.adds.order) types) ∙ ap (settled (includes item)) (sym (append-nil names)));
+          exports = ([], none Exported, exported ∙ sym (names_settled (includes item) [] types));
           includes = included;
         }

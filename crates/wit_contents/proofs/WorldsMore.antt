@@ -1,15 +1,11 @@
 -- Worlds that are added one after another, with the interfaces that are written in them, and one more.
 use Rattle.std.proofs.Common.{◌≡◌, ◌+◌, List, [], ◌∷◌, ◌++◌, length, map, refl, sym, ap, ◌∙◌, subst, append_assoc, arith}
-use Rattle.wit_syntax.proofs.Common.{Address, Item, TypeDef, address, append-nil, flat_map, flat_map-append, inline_items, length-append, length-map, map-append}
-use Rattle.wit_arena.proofs.Common.{AddsEach, AddsWorld, AddsWorlds, Interface, Required, World, prefix_worlds}
+use Rattle.wit_syntax.proofs.Common.{Address, Item, TypeDef, address, append-nil, flat_map, flat_map-append, inline_items, length-append, length-inline_after, length-map, map-append, side_items}
+use Rattle.wit_arena.proofs.Adding.{adds_append, adds_one}
+use Rattle.wit_arena.proofs.Common.{AddsWorld, AddsWorlds, Interface, Required, World, prefix_worlds, resolved_scopes}
 use Rattle.wit_item_entries.specs.NewRequirements.{Appends}
-use Rattle.wit_contents.specs.AddedWorlds.{arenas}
-
--- what items add, and one after them
-module _ {X : Type 0} (Adds : List TypeDef → List TypeDef → X → X → List Required → Item → Type 0) where
-  each_more : (a b c : List TypeDef) (i j k : X) (rs own : List Required) (ws : List Item) (w : Item) → AddsEach Adds a b i j rs ws → Adds b c j k own w → AddsEach Adds a c i k (rs ++ own) (ws ++ w ∷ [])
-  each_more a b c i j k rs own [] w p q = subst (λ (x : List TypeDef). AddsEach Adds x c i k (rs ++ own) (w ∷ [])) p.0 (subst (λ (x : X). AddsEach Adds b c x k (rs ++ own) (w ∷ [])) p.1 (subst (λ (r : List Required). AddsEach Adds b c j k (r ++ own) (w ∷ [])) (sym p.2) (c, k, own, [], sym (append-nil own), q, (refl, refl, refl))))
-  each_more a b c i j k rs own (v ∷ ws) w p q = (p.0, p.1, p.2, p.3 ++ own, ap (λ (r : List Required). r ++ own) p.4 ∙ append_assoc p.2 p.3 own, p.5, each_more p.0 b c p.1 j k p.3 own ws w p.6 q)
+use Rattle.wit_contents.proofs.Members.{sides_count}
+use Rattle.wit_contents.specs.Worlds.{arenas}
 
 -- the addresses of the interfaces that are written in worlds
 abbrev pub addresses_in : List Item → List Address
@@ -29,19 +25,21 @@ worlds_none foreign others is old prefix inside before bare = record {
   put = sym (ap length bare);
 }
 
-pub worlds_more : (foreign others : List Address) (is : List Interface) (old mid new : List TypeDef) (prefix ws ws' : List World) (inside now : List Interface) (before between after : List Required) (items : List Item) (w : Item) → AreWorldsTo foreign others is old mid prefix ws inside before between items → ((ss : List Address) → length ss ≡ length inside → Appends between after (λ rs. AddsWorld foreign others is mid new (arenas ws inside ss) (arenas ws' now (ss ++ map address (inline_items w))) rs w)) → length now ≡ length inside + length (inline_items w) → AreWorldsTo foreign others is old new prefix ws' now before after (items ++ w ∷ [])
-worlds_more foreign others is old mid new prefix ws ws' inside now before between after items w p adds extended =
+pub worlds_more : (foreign others : List Address) (is : List Interface) (old mid new : List TypeDef) (prefix ws ws' : List World) (inside now : List Interface) (before between after : List Required) (items : List Item) (w : Item) → AreWorldsTo foreign others is old mid prefix ws inside before between items → ((ss : List Address) → length ss ≡ length inside → Appends between after (λ rs. AddsWorld foreign others is mid new (arenas ws inside ss) (arenas ws' now (ss ++ map address (inline_items w))) rs w)) → AreWorldsTo foreign others is old new prefix ws' now before after (items ++ w ∷ [])
+worlds_more foreign others is old mid new prefix ws ws' inside now before between after items w p adds =
     let q = adds (addresses_in items) p.put in
     let more = addresses_more items w in
     record {
       appends = record {
         own = p.appends.own ++ q.own;
         list = q.list ∙ ap (λ (l : List Required). l ++ q.own) p.appends.list ∙ append_assoc before p.appends.own q.own;
-        holds = subst (λ (ss : List Address). AddsWorlds foreign others is old new (prefix_worlds prefix) (arenas ws' now ss) (p.appends.own ++ q.own) (items ++ w ∷ [])) (sym more) (each_more (AddsWorld foreign others is) old mid new (prefix_worlds prefix) (arenas ws inside (addresses_in items)) (arenas ws' now (addresses_in items ++ map address (inline_items w))) p.appends.own q.own items w p.appends.holds q.holds);
+        holds = subst (λ (ss : List Address). AddsWorlds foreign others is old new (prefix_worlds prefix) (arenas ws' now ss) (p.appends.own ++ q.own) (items ++ w ∷ [])) (sym more) (adds_append (AddsWorld foreign others is) old mid new (prefix_worlds prefix) (arenas ws inside (addresses_in items)) (arenas ws' now (addresses_in items ++ map address (inline_items w))) p.appends.own q.own items (w ∷ []) p.appends.holds (adds_one (AddsWorld foreign others is) mid new (arenas ws inside (addresses_in items)) (arenas ws' now (addresses_in items ++ map address (inline_items w))) q.own w q.holds));
       };
       put = (
           let long = ap length more ∙ length-append (addresses_in items) (map address (inline_items w)) in
           let count = length-map (inline_items w) address in
           let before = p.put in
-          omega (arith, long, count, before, extended));
+          let extended = sides_count (resolved_scopes foreign is) (length is) (address w) q.holds.types q.holds.middle new inside now q.holds.functions q.holds.rest (side_items w) (inline_items w) q.holds.sides in
+          let own = length-inline_after w [] (side_items w) in
+          omega (arith, long, count, before, extended, own));
     }

@@ -1,5 +1,5 @@
 -- What an interface adds to the arenas.
-use Rattle.std.specs.Prelude.{◌≡◌, ◌++◌, ◌∷◌, [], ℕ, List, Option, None, map}
+use Rattle.std.specs.Prelude.{◌≡◌, ◌++◌, ℕ, List, Option, None, map}
 use Rattle.wit_values.specs.declared.span.Span.{Span}
 use Rattle.wit_types.specs.declared.types.TypeDef.{TypeDef}
 use Rattle.wit_types.specs.declared.types.TypeOwner.{TypeOwner}
@@ -8,8 +8,8 @@ use Rattle.wit_model.specs.declared.interface.Interface.{Interface}
 use Rattle.wit_syntax.specs.ScopeTables.{in_order, interfaces_of}
 use Rattle.wit_syntax.specs.Source.{Item}
 use Rattle.wit_arena.specs.SourceFunctions.{placed_functions}
-use Rattle.wit_arena.specs.Resolving.{IsIndex, Required, ResolvedScope}
-use Rattle.wit_arena.specs.ResolvedArenas.{AddsDeclared, AddsInterface, AddsInterfaces}
+use Rattle.wit_arena.specs.Resolving.{IsNameIndex, Required, ResolvedScope}
+use Rattle.wit_arena.specs.ResolvedArenas.{AddsDeclared, AddsInterface, AddsInterfaces, interfaces_at}
 use Rattle.wit_entries.specs.Requiring.{IsExtended}
 use Rattle.wit_items.specs.ForeignAddresses.{prefix_of}
 use Rattle.wit_items.specs.ResolvedInterfaces.{resolved_scopes_of}
@@ -20,6 +20,7 @@ use Rattle.wit_item_entries.specs.NewRequirements.{Appends}
 use Rattle.wit_item_entries.specs.Body.{AddsBody, HasTurn}
 use Rattle.wit_item_entries.specs.declared.body.Head.{Head}
 use Rattle.wit_item_entries.specs.declared.names.ResolvedNames.{ResolvedNames}
+use Rattle.wit_syntax.specs.Address.{InterfaceNamed}
 
 -- the interfaces among items, in the order of their places
 abbrev pub interfaces_in : List BorrowedItem → List ℕ → List Item
@@ -44,7 +45,7 @@ pub record AddsAt (is : Interfaces) (place : ℕ) (old new : List TypeDef) (befo
 
 -- each interface is found by its name
 abbrev pub IsIndexed : Interfaces → Type 0
-IsIndexed is = IsIndex (resolved_scopes_of is) is.by_name
+IsIndexed is = IsNameIndex InterfaceNamed (interfaces_at (prefix_of is.files) is.arena) is.by_name
 
 -- interfaces of the same files come after others, which are found, too, and this is said of what they require
 pub record AppendsInterfaces (old new : Interfaces) (before after : List Required) (adds : List Required → Type 0) : Type 0 where
@@ -58,9 +59,3 @@ AddsOne is now old new before after i = AppendsInterfaces is now before after (�
 
 abbrev pub AddsAmong : Interfaces → Interfaces → List TypeDef → List TypeDef → List Required → List Required → List BorrowedItem → List ℕ → Type 0
 AddsAmong is now old new before after items places = AppendsInterfaces is now before after (λ rs. AddsInterfaces (prefix_of is.files) old new is.arena now.arena rs (interfaces_in items places))
-
--- this one was added under its name
-pub record AddsNamed (old new : Interfaces) (one : Interface) : Type 0 where
-  pub files : new.files ≡ old.files
-  pub added : new.arena ≡ old.arena ++ one ∷ []
-  pub index : IsIndexed new

@@ -9,12 +9,13 @@ use Rattle.wit_syntax.specs.NameEnds.{End, EndsAt, shape_end}
 use Rattle.wit_syntax.specs.ScopeTables.{item_rows}
 use Rattle.wit_syntax.specs.Shape.{Word}
 use Rattle.wit_first.specs.First.{Finds}
-use Rattle.wit_walk.specs.Orders.{AreOutcomes}
+use Rattle.wit_walk.specs.Orders.{IsOutcome}
 use Rattle.wit_walk.specs.Walk.{Known, earliest, walk_faults}
+use Rattle.wit_graph.specs.Table.{Row}
 
 -- what is looked up is right: each table has its outcome, and each name that ends ends in so many steps
 pub record IsRight (files : List PackageFile) (known : Known) : Type 0 where
-  pub outcomes : AreOutcomes known.outcome
+  pub outcomes : (rs : List Row) → IsOutcome rs (known.outcome rs)
   pub enough : (s : Address) (id : Id) (end : End) → EndsAt files s id end → shape_end files known.steps s (Word id) ≡ Some end
 
 -- the first fault of files after so many steps of the walk: after one there is a header, and after six there are names

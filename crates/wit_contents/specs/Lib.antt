@@ -1,11 +1,8 @@
 pub mod AddedFiles
 pub mod AddedInterfaces
-pub mod AddedWorlds
 pub mod FileFaults
 pub mod InterfaceFaults
 pub mod MemberFaults
-pub mod Outer
 pub mod Ready
 pub mod Walk
-pub mod WorldFaults
-pub mod WorldWalk
+pub mod Worlds

@@ -1,5 +1,5 @@
 -- The first fault of what is on the sides of a world, one after another, by the interfaces that are resolved and by where names end.
-use Rattle.std.specs.Prelude.{◌≡◌, ◌⊎◌, ◌∷◌, [], ◌++◌, List, None, Option, Result, Some}
+use Rattle.std.specs.Prelude.{◌≡◌, ◌∷◌, [], ◌++◌, List, None, Option, Result}
 use Rattle.std.specs.List.{flat_map}
 use Rattle.std.specs.Option.{option_map_or, option_or}
 use Rattle.wit_type_tree.specs.declared.error.ParseError.{ParseError}
@@ -13,24 +13,17 @@ use Rattle.wit_syntax.specs.Source.{Item, scope_names}
 use Rattle.wit_first.specs.AttributeFaults.{metadata_fault}
 use Rattle.wit_first.specs.First.{Finds, first_after}
 use Rattle.wit_walk.specs.Functions.{function_fault, word_fault}
-use Rattle.wit_arena.specs.Resolving.{Required, env_of}
-use Rattle.wit_arena.specs.ResolvedArenas.{AddsInterface}
-use Rattle.wit_entries.specs.Requiring.{IsExtended}
-use Rattle.wit_externs.specs.AloneFaults.{EndsIn, IsSafe, signed_by}
-use Rattle.wit_items.specs.BorrowedItems.{scope_item}
-use Rattle.wit_items.specs.ResolvedInterfaces.{resolved_scopes_of}
-use Rattle.wit_items.specs.declared.interfaces.Interfaces.{Interfaces}
+use Rattle.wit_arena.specs.Resolving.{env_of}
+use Rattle.wit_externs.specs.AloneFaults.{EndsIn, signed_by}
 use Rattle.wit_items.specs.declared.items.Item.{Item as BorrowedItem}
-use Rattle.wit_items.specs.declared.items.ItemScope.{ItemScope}
-use Rattle.wit_item_entries.specs.ReachedFaults.{FindsAt}
 use Rattle.wit_links.specs.Links.{linked_fault}
 use Rattle.wit_world_sides.specs.PutFaults.{put_fault, put_link_fault}
 use Rattle.wit_world_sides.specs.declared.members.Members.{Members}
-use Rattle.wit_contents.specs.InterfaceFaults.{HasNoFault, IsInterfaceFault, IsLent}
 use Rattle.wit_contents.specs.Walk.{AddsMembers, IsNext, ItemWalk, Stage, lead, next_place, stage, stage_of, walk_item, walk_of}
 use Rattle.wit_contents.specs.declared.walk.Growing.{Growing}
 use Rattle.wit_contents.specs.declared.walk.Walk.{Walk}
 use Rattle.wit_contents.specs.declared.walk.Walked.{Walked}
+use Rattle.wit_contents.specs.InterfaceFaults.{IsRightOf}
 
 -- a test of what is on the sides, after what comes before it
 abbrev pub MemberTest : Type 0
@@ -49,55 +42,13 @@ abbrev pub inline_member : Members → List SideItem → SideItem → Option Fau
 inline_member m before (SideInline x name items) = option_or (metadata_fault x.attributes.items) (put_fault m (SideInline x name items))
 inline_member m before x = None
 
--- the interface that is written next, as it is lent
-pub record IsInline (w : ItemWalk) (before : List SideItem) (x : SideItem) (s : ItemScope) : Type 0 where
-  pub item : Item
-  pub next : inline_after (walk_item w) before (x ∷ []) ≡ item ∷ []
-  pub lent : IsLent s w.walk.interfaces.now.files item
-
--- an interface was added after these, and nothing is wrong in it
-pub record AddsFaultless (is : Interfaces) (old new : List TypeDef) (inside : List Interface) (s : ItemScope) : Type 0 where
-  pub added : Interface
-  pub requires : List Required
-  pub adds : AddsInterface (resolved_scopes_of is) (next_place is inside) old new added requires (scope_item s)
-  pub none : HasNoFault is s new added
-
--- a call does that, or finds what is wrong in it
-abbrev pub FindsInside : {T : Type 0} → Interfaces → List TypeDef → List TypeDef → List Interface → ItemScope → Result T ParseError → Type 0
-FindsInside is old new inside s r = FindsAt (λ _. AddsFaultless is old new inside s) (IsInterfaceFault is (next_place is inside) old s) r
-
--- nothing is wrong in it, once it is resolved
-pub record HasNoFaultInside (w : ItemWalk) (before : List SideItem) (x : SideItem) (a : Stage) : Type 0 where
-  pub scope : ItemScope
-  pub inline : IsInline w before x scope
-  pub types : List TypeDef
-  pub added : Interface
-  pub requires : List Required
-  pub adds : AddsInterface (resolved_scopes_of w.walk.interfaces.now) (next_place w.walk.interfaces.now a.inside) a.types types added requires inline.item
-  pub none : HasNoFault w.walk.interfaces.now scope types added
-
--- something in it is
-pub record IsFaultInside (w : ItemWalk) (before : List SideItem) (x : SideItem) (a : Stage) (f : Fault) : Type 0 where
-  pub scope : ItemScope
-  pub inline : IsInline w before x scope
-  pub wrong : IsInterfaceFault w.walk.interfaces.now (next_place w.walk.interfaces.now a.inside) a.types scope f
-
--- The next one at a stage is wrong. Of a function that is said by each test of names in handles that is right of an arena with more types.
-abbrev pub IsMemberFault : ItemWalk → List SideItem → SideItem → Stage → Fault → Type 0
-IsMemberFault w before (SideFunction fn) a f = (es : List TypeDef) × IsExtended a.types es × ((handle : Id → Option Fault) → EndsIn (env_of w.walk.scope.names.now) es handle → function_member w before a.walked.members fn handle ≡ Some f)
-IsMemberFault w before (SideLink link) a f = link_member w a.walked.members link ≡ Some f
-IsMemberFault w before (SideInline x name items) a f = IsFaultInside w before (SideInline x name items) a f ⊎ (HasNoFaultInside w before (SideInline x name items) a × (inline_member a.walked.members before (SideInline x name items) ≡ Some f))
-
--- it is not, and these are the types after it
-abbrev pub IsFaultlessMember : ItemWalk → List SideItem → SideItem → Stage → List TypeDef → Type 0
-IsFaultlessMember w before (SideFunction fn) a es = (handle : Id → Option Fault) → IsSafe (env_of w.walk.scope.names.now) es handle → function_member w before a.walked.members fn handle ≡ None
-IsFaultlessMember w before (SideLink link) a es = link_member w a.walked.members link ≡ None
-IsFaultlessMember w before (SideInline x name items) a es = HasNoFaultInside w before (SideInline x name items) a × (inline_member a.walked.members before (SideInline x name items) ≡ None)
-
--- a test says of the next one at a stage what is found of it
-pub record IsRightMember (wrong : MemberTest) (w : ItemWalk) (before : List SideItem) (x : SideItem) (a : Stage) : Type 0 where
-  pub fault : (f : Fault) → IsMemberFault w before x a f → wrong before x ≡ Some f
-  pub none : (b : Stage) → AddsMembers w before (x ∷ []) a b → IsFaultlessMember w before x a b.types → wrong before x ≡ None
+-- A test says of the next one at a stage what is found of it: of a function by a test of names in handles that is right of the arena from there
+-- on, of an inline interface by a test of items.
+abbrev pub IsRightMember : MemberTest → ItemWalk → List SideItem → SideItem → Stage → Type 0
+IsRightMember wrong w before (SideFunction fn) a = (handle : Id → Option Fault) × ((more : List TypeDef) → EndsIn (env_of w.walk.scope.names.now) (a.types ++ more) handle) × (wrong before (SideFunction fn) ≡ function_member w before a.walked.members fn handle)
+IsRightMember wrong w before (SideLink link) a = wrong before (SideLink link) ≡ link_member w a.walked.members link
+IsRightMember wrong w before (SideInline x name items) a = (inner : Item → Option Fault) × ((u : Item) → inline_after (walk_item w) before (SideInline x name items ∷ []) ≡ u ∷ []
+    → IsRightOf inner w.walk.interfaces.now a.types (next_place w.walk.interfaces.now a.inside) u × (wrong before (SideInline x name items) ≡ option_or (inner u) (inline_member a.walked.members before (SideInline x name items))))
 
 -- so of each of them, once those before it are on their sides
 abbrev pub AreRightMembers : MemberTest → ItemWalk → List SideItem → List SideItem → Stage → Type 0
@@ -107,12 +58,9 @@ AreRightMembers wrong w prefix xs a = (done rest : List SideItem) (x : SideItem)
 abbrev pub FindsMembers : {T : Type 0} → ItemWalk → List SideItem → List SideItem → Stage → Result T ParseError → Type 0
 FindsMembers w prefix xs a r = (wrong : MemberTest) → AreRightMembers wrong w prefix xs a → Finds (first_after wrong prefix xs) r
 
-abbrev pub FindsNext : {T : Type 0} → ItemWalk → List SideItem → Stage → Result T ParseError → Type 0
-FindsNext w xs a r = (n : IsNext w xs a.walked) → FindsMembers w n.prefix xs a r
-
 abbrev pub FindsItems : {T : Type 0} → BorrowedItem → Walk → List SideItem → Growing → Walked → Result T ParseError → Type 0
-FindsItems i w xs old m r = FindsNext (walk_of i w) xs (stage_of old m) r
+FindsItems i w xs old m r = (n : IsNext (walk_of i w) xs m) → FindsMembers (walk_of i w) n.prefix xs (stage_of old m) r
 
 -- so without inline interfaces, whatever these are so far
 abbrev pub FindsTyped : {T : Type 0} → BorrowedItem → Walk → List SideItem → List TypeDef → Walked → Result T ParseError → Type 0
-FindsTyped i w xs old m r = (inside : List Interface) → FindsNext (walk_of i w) xs (stage old inside m) r
+FindsTyped i w xs old m r = (inside : List Interface) (n : IsNext (walk_of i w) xs m) → FindsMembers (walk_of i w) n.prefix xs (stage old inside m) r

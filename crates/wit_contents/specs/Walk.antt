@@ -3,7 +3,6 @@ use Rattle.std.specs.Prelude.{◌≡◌, ◌+◌, ◌++◌, ◌∷◌, [], ℕ, 
 use Rattle.std.specs.List.{flat_map}
 use Rattle.wit_type_tree.specs.declared.leaves.Id.{Id}
 use Rattle.wit_type_tree.specs.declared.types.ResourceFunc.{ResourceFunc}
-use Rattle.wit_type_tree.specs.declared.types.TypeDef.{TypeDef as SourceType}
 use Rattle.wit_tree.specs.declared.tree.Extern.{Extern}
 use Rattle.wit_tree.specs.declared.tree.InterfaceItem.{InterfaceItem}
 use Rattle.wit_tree.specs.declared.tree.UsePath.{UsePath}
@@ -15,39 +14,34 @@ use Rattle.wit_functions.specs.declared.function.Function.{Function}
 use Rattle.wit_model.specs.declared.interface.Interface.{Interface}
 use Rattle.wit_syntax.specs.Address.{Address}
 use Rattle.wit_syntax.specs.Function.{functions as the_functions, resource_function}
-use Rattle.wit_syntax.specs.ScopeTables.{includes}
-use Rattle.wit_syntax.specs.Sides.{Link, SideFunction, SideInline, SideItem, SideLink, extern_items, inline_after, item_function, item_inline, items_on, names_on, part_items, side_items}
-use Rattle.wit_syntax.specs.Source.{DefinitionPart, Item, ScopeName, address, is_world, item_name, local_id, scope_names, world_part}
+use Rattle.wit_syntax.specs.Sides.{Link, SideFunction, SideInline, SideItem, SideLink, extern_items, inline_after, items_on, names_on, part_items, side_items}
+use Rattle.wit_syntax.specs.Source.{Item, ScopeName, address, is_world, item_name, local_id, scope_names, world_part}
 use Rattle.wit_arena.specs.Resolving.{Required, env_of, names_in}
-use Rattle.wit_arena.specs.ResolvedArenas.{AddsInterface, AddsSides, interfaces_at}
+use Rattle.wit_arena.specs.ResolvedArenas.{AddsSides, interfaces_at}
 use Rattle.wit_arena.specs.SideItems.{AreSideItems}
 use Rattle.wit_arena.specs.Whole.{type_imports}
 use Rattle.wit_walk.specs.Members.{item_sorted}
 use Rattle.wit_entries.specs.Requiring.{IsExtended}
 use Rattle.wit_sides.specs.SideNames.{defined_on}
-use Rattle.wit_rules.specs.BorrowedFunctions.{function_view}
 use Rattle.wit_rules.specs.Signatures.{HaveOwners, IsScopeOf, functions_view}
-use Rattle.wit_rules.specs.declared.borrowed.BorrowedFunction.{BorrowedFunction}
-use Rattle.wit_signatures.specs.ForeignName.{name_of_function, name_of_id, name_of_made}
+use Rattle.wit_signatures.specs.ForeignName.{name_of_id}
 use Rattle.wit_externs.specs.Clash.{names_of_items}
 use Rattle.wit_externs.specs.Links.{bare_places}
 use Rattle.wit_externs.specs.Next.{linked_on}
 use Rattle.wit_items.specs.ForeignAddresses.{prefix_of}
 use Rattle.wit_items.specs.Gathered.{IsItemOf}
 use Rattle.wit_items.specs.ResolvedInterfaces.{resolved_scopes_of}
-use Rattle.wit_items.specs.BorrowedItems.{item_view, scope_item}
+use Rattle.wit_items.specs.BorrowedItems.{item_view}
 use Rattle.wit_items.specs.declared.interfaces.Interfaces.{Interfaces}
 use Rattle.wit_items.specs.declared.items.InlineInterface.{InlineInterface}
 use Rattle.wit_items.specs.declared.items.Item.{Item as BorrowedItem}
-use Rattle.wit_items.specs.declared.items.ItemScope.{ItemScope}
-use Rattle.wit_world_sides.specs.Members.{AreKeyed, Entry, path_link, sorted_on}
-use Rattle.wit_world_sides.specs.declared.members.PathExtern.{PathExtern}
+use Rattle.wit_world_sides.specs.Members.{AreKeyed, Entry, sorted_on}
 use Rattle.wit_world_sides.specs.FilledSides.{entries_of}
-use Rattle.wit_world_sides.specs.Settled.{none_of}
 use Rattle.wit_links.specs.SideCounts.{IsSeen, inline_side, seen_on}
 use Rattle.wit_links.specs.Links.{path_place}
 use Rattle.wit_item_entries.specs.NameOrder.{IsTurn}
 use Rattle.wit_item_entries.specs.NewRequirements.{Appends}
+use Rattle.wit_contents.specs.AddedInterfaces.{AddsAt}
 use Rattle.wit_contents.specs.declared.walk.Growing.{Growing}
 use Rattle.wit_contents.specs.declared.walk.Walk.{Walk}
 use Rattle.wit_contents.specs.declared.walk.Walked.{Walked}
@@ -123,8 +117,6 @@ pub record AddsMembers (w : ItemWalk) (prefix xs : List SideItem) (a b : Stage) 
   pub functions : List Function
   pub adds : Appends a.walked.required.items b.walked.required.items (λ rs. (s : Address) → AddsSides (resolved_scopes_of w.walk.interfaces.now) (length w.walk.interfaces.now.arena) s w.walk.scope.names.now a.types b.types a.inside b.inside functions rs xs (inline_after (walk_item w) prefix xs))
   pub extended : IsExtended a.types b.types
-  pub more : length b.inside ≡ length a.inside + length (flat_map item_inline xs)
-  pub named : map name_of_made functions ≡ map name_of_function (flat_map item_function xs)
   pub seen : (ys : List SideItem) → IsSeen ys a.walked.seen → IsSeen (ys ++ xs) b.walked.seen
   pub in_use : (s : WorldSide) → defined_on s b.walked.members.in_use ≡ defined_on s a.walked.members.in_use ++ names_of_items (items_on s xs)
   pub linked : (s : WorldSide) → linked_on s b.walked.members.links ≡ linked_on s a.walked.members.links ++ bare_places (lead w) (items_on s xs)
@@ -158,25 +150,9 @@ pub record IsStart (w : ItemWalk) (m : Walked) : Type 0 where
   pub imports : (xs : List ScopeName) → w.walk.turn.now ≡ map local_id xs → m.members.sides.imports ≡ type_imports xs w.walk.scope.names.now
   pub exports : m.members.sides.exports ≡ []
 
--- all that is on the sides was added
-pub record AddsAll (w : ItemWalk) (old new : List TypeDef) (inside now : List Interface) (m : Walked) : Type 0 where
-  pub start : Walked
-  pub is : IsStart w start
-  pub adds : AddsMembers w [] (side_items (walk_item w)) (stage old inside start) (stage new now m)
-
-abbrev pub AddsAllOf : BorrowedItem → Walk → Growing → Growing → Walked → Type 0
-AddsAllOf i w old new m = AddsAll (walk_of i w) old.types new.types old.inside new.inside m
-
 -- an inline interface was added after those before it, which come after all declared ones
-pub record AddsInside (is : Interfaces) (old new : List TypeDef) (inside now : List Interface) (before after : List Required) (item : Item) : Type 0 where
-  pub extended : IsExtended old new
-  pub added : Interface
-  pub last : now ≡ inside ++ added ∷ []
-  pub appends : Appends before after (λ rs. AddsInterface (resolved_scopes_of is) (next_place is inside) old new added rs item)
-
--- so of the interface of a scope
-abbrev pub AddsInline : Interfaces → List TypeDef → List TypeDef → List Interface → List Interface → List Required → List Required → ItemScope → Type 0
-AddsInline is old new inside now before after s = AddsInside is old new inside now before after (scope_item s)
+abbrev pub AddsInside : Interfaces → List TypeDef → List TypeDef → List Interface → List Interface → List Required → List Required → Item → Type 0
+AddsInside is old new inside now before after item = (added : Interface) × (now ≡ inside ++ added ∷ []) × AddsAt is (next_place is inside) old new before after item added
 
 -- an inline interface comes next
 pub record IsNextInline (w : ItemWalk) (x : InlineInterface) (m : Walked) : Type 0 where
@@ -189,21 +165,6 @@ pub record IsInlineAt (w : World) (count : ℕ) (written : Extern) (name : Id) (
   pub side : inline_side x ≡ SideInline written name items
   pub world : x.world.now ≡ w.name.name.now
   pub place : x.place ≡ count
-
--- a world is walked over, which is closed where it includes nothing
-pub record IsClosedWalk (w : ItemWalk) (alone : Bool) : Type 0 where
-  pub walk : IsWalk w
-  pub closed : alone ≡ none_of (includes (walk_item w))
-
--- what these are on the sides of a world: a function, an interface by its path, a definition, and the functions of a resource
-abbrev pub function_items : BorrowedFunction → List SideItem
-function_items b = SideFunction (function_view b) ∷ []
-
-abbrev pub link_items : PathExtern → List SideItem
-link_items p = SideLink (path_link p) ∷ []
-
-abbrev pub definition_items : SourceType → List SideItem
-definition_items d = part_items (DefinitionPart d)
 
 abbrev pub resource_items : Id → List ResourceFunc → List SideItem
 resource_items r fs = map SideFunction (map (resource_function r) fs)

@@ -1,7 +1,7 @@
 //! What the files of a package make: its arenas, and what it names of other packages.
 ghost use Rattle.std.specs.Prelude.{◌≡◌, [], IfOk, IfErr};
 ghost use Rattle.wit_type_tree.specs.RefusalText.{IsAllocationFailure};
-ghost use Rattle.wit_contents.specs.AddedFiles.{MakeContents, AddsResolved, AreForeignItems, IsMadeOf, IsResolvedWith};
+ghost use Rattle.wit_contents.specs.AddedFiles.{MakeContents, IsMadeOf};
 ghost use Rattle.wit_contents.specs.FileFaults.{FindsAfter};
 ghost use Rattle.wit_contents.specs.Ready.{Begins};
 
@@ -11,7 +11,7 @@ use std::alloc::{AllocError, Global};
 use wit_entries::entries::Entries;
 use wit_entries::scope::Required;
 use wit_files::FileNames;
-use wit_foreign::foreign_deps;
+use wit_foreign::{Packages, foreign_deps};
 use wit_front::foreign::ForeignArenas;
 use wit_items::files::Files;
 use wit_items::interfaces::Interfaces;
@@ -23,56 +23,63 @@ use wit_tree::{ParseResult, Span};
 use wit_types::{Arena, InterfacePlace, WorldPlace};
 use wit_values::{Row, pair_with};
 
-/// The interfaces and the worlds of files, where types of other packages are first used, and which of
-/// these have to be resources.
+/// The interfaces and the worlds of files, and what they name of other packages.
 #[derive(Drop)]
-struct Resolved {
+struct Made {
     interfaces: Arena<Interface, InterfacePlace>,
     worlds: Arena<World, WorldPlace>,
-    unknown_type_spans: Vec<Span>,
-    required: Vec<Required>,
+    foreign: ForeignItems,
 }
 
-/// These interfaces with those that are written in worlds after them, these worlds, and what first the
-/// interfaces and then the worlds require of types of other packages, which are first used at these spans.
+/// These interfaces with those that are written in worlds after them, these worlds, and what is named of
+/// other packages, whose types are first used at these spans; what they require comes first.
 ///
 /// The error is a failed allocation.
-fn resolved_with(
+fn made_of(
     interfaces: Arena<Interface, InterfacePlace>,
     made: ResolvedWorlds,
     unknown_type_spans: Vec<Span>,
     required: Vec<Required>,
-) -> ParseResult<Resolved>
-    ensures parts { IfOk result (IsResolvedWith interfaces made unknown_type_spans.items required.items) }
+    named: Result<(Packages, Row<Span>), AllocError>,
+) -> ParseResult<Made>
+    ensures made { IfOk result (IsMadeOf interfaces made unknown_type_spans.items required.items named) }
     ensures refused { IfErr result IsAllocationFailure }
 {
+    let (deps, dep_spans) = named?;
     let mut interfaces = interfaces;
     let mut made = made;
     let mut required = required;
     required.append(&mut made.required)?;
     interfaces.append(&mut made.inside)?;
-    Ok(Resolved {
+    let foreign = ForeignItems {
+        deps,
+        dep_spans,
+        unknown_type_spans: Row::from(unknown_type_spans),
+        required_resource_types: Row::from(required),
+    };
+    Ok(Made {
         interfaces,
         worlds: made.worlds,
-        unknown_type_spans,
-        required,
+        foreign,
     })
 }
 
-/// Adds the interfaces and worlds of files with these names, and their types, to nothing.
-fn resolve_files<'f, 'a>(
+/// Adds to no types what files with these names make.
+fn resolve_named<'f, 'a>(
     alloc: Global,
     names: &FileNames<'f, 'a>,
     files: &'f [PackageFile<'a>],
     types: &mut Entries,
-) -> ParseResult<Resolved>
+) -> ParseResult<Made>
     requires { Begins names.now files.now types.old }
-    ensures added { IfOk result (AddsResolved names.now types.new) }
+    ensures made { IfOk result (λ made. MakeContents names.now types.new made.interfaces made.worlds made.foreign) }
     ensures first { FindsAfter 6 names.now result }
 {
     let order = names.item_order();
     let mut prefix = ForeignArenas::of_items(alloc, names.foreign(), order.len())?;
-    let mut items = declared_items(alloc, names, files, &prefix.entries)?;
+    let gathered = Files::of(names, &prefix.entries);
+    let mut items = declared_items(alloc, &gathered, files, order.len())?;
+    drop(gathered);
     let lent: &mut [Item<'_, '_>] = &mut items;
     prefix.add_used_by_items(alloc, types, lent)?;
     let ForeignArenas {
@@ -90,70 +97,8 @@ fn resolve_files<'f, 'a>(
     let mut required = Vec::new(alloc);
     resolve_interfaces(lent, types, &mut required, &mut interfaces, order)?;
     let made = resolve_worlds(lent, types, &interfaces, worlds, order)?;
-    resolved_with(interfaces.arena, made, spans, required)
-}
-
-/// What files with these names name of other packages, whose types are first used at these spans, and
-/// these have to be resources.
-fn foreign_items(
-    alloc: Global,
-    names: &FileNames<'_, '_>,
-    unknown_type_spans: Vec<Span>,
-    required: Vec<Required>,
-) -> Result<ForeignItems, AllocError>
-    ensures { IfOk result (AreForeignItems names.now unknown_type_spans.items required.items) }
-{
-    let (deps, dep_spans) = foreign_deps(alloc, names.foreign_visits())?;
-    Ok(ForeignItems {
-        deps,
-        dep_spans,
-        unknown_type_spans: Row::from(unknown_type_spans),
-        required_resource_types: Row::from(required),
-    })
-}
-
-/// The interfaces and the worlds of files, and what they name of other packages.
-#[derive(Drop)]
-struct Made {
-    interfaces: Arena<Interface, InterfacePlace>,
-    worlds: Arena<World, WorldPlace>,
-    foreign: ForeignItems,
-}
-
-/// These interfaces and worlds, with what is named of other packages, where that is stated.
-///
-/// The error is a failed allocation.
-fn with_foreign(
-    interfaces: Arena<Interface, InterfacePlace>,
-    worlds: Arena<World, WorldPlace>,
-    named: Result<ForeignItems, AllocError>,
-) -> ParseResult<Made>
-    ensures made { IfOk result (IsMadeOf interfaces worlds named) }
-    ensures refused { IfErr result IsAllocationFailure }
-{
-    let (arenas, foreign) = pair_with((interfaces, worlds), named)?;
-    let (interfaces, worlds) = arenas;
-    Ok(Made {
-        interfaces,
-        worlds,
-        foreign,
-    })
-}
-
-/// Adds to no types what files with these names make.
-fn resolve_named<'f, 'a>(
-    alloc: Global,
-    names: &FileNames<'f, 'a>,
-    files: &'f [PackageFile<'a>],
-    types: &mut Entries,
-) -> ParseResult<Made>
-    requires { Begins names.now files.now types.old }
-    ensures made { IfOk result (λ made. MakeContents names.now types.new made.interfaces made.worlds made.foreign) }
-    ensures first { FindsAfter 6 names.now result }
-{
-    let resolved = resolve_files(alloc, names, files, types)?;
-    let named = foreign_items(alloc, names, resolved.unknown_type_spans, resolved.required);
-    with_foreign(resolved.interfaces, resolved.worlds, named)
+    let named = foreign_deps(alloc, names.foreign_visits());
+    made_of(interfaces.arena, made, spans, required, named)
 }
 
 /// Adds to no types what files make.

@@ -1,10 +1,13 @@
 //! Declared interfaces, one after another.
-ghost use Rattle.std.specs.Prelude.{IfErr, OnOk};
+ghost use Rattle.std.specs.Prelude.{◌≡◌, ◌++◌, ◌∷◌, [], IfErr, OnOk, Option, Some, length};
 ghost use Rattle.wit_type_tree.specs.RefusalText.{IsAllocationFailure};
+ghost use Rattle.wit_syntax.specs.Fault.{Fault};
+ghost use Rattle.wit_syntax.specs.Source.{Item as TheItem};
+ghost use Rattle.wit_first.specs.First.{Finds, first_in};
 ghost use Rattle.wit_items.specs.BorrowedItems.{item_view};
-ghost use Rattle.wit_contents.specs.AddedInterfaces.{AddsAmong, AddsOne, AddsNamed};
-ghost use Rattle.wit_contents.specs.InterfaceFaults.{FindsAmong, FindsOne};
-ghost use Rattle.wit_contents.specs.Ready.{AreReady, CanAddInterface, IsNextInterface};
+ghost use Rattle.wit_contents.specs.AddedInterfaces.{AddsAmong, AddsOne, IsIndexed, interfaces_in};
+ghost use Rattle.wit_contents.specs.InterfaceFaults.{AreRightOf, IsRightOf};
+ghost use Rattle.wit_contents.specs.Ready.{AreReady, IsNextInterface};
 
 use crate::interface::interface_of;
 use wit_entries::entries::Entries;
@@ -21,8 +24,8 @@ fn add_interface(
     name: &str,
     interface: Interface,
 ) -> ParseResult<()>
-    requires { CanAddInterface interfaces.old name.now interface }
-    ensures adds { OnOk result (AddsNamed interfaces.old interfaces.new interface) }
+    requires { IsIndexed interfaces.old × (interface.name ≡ Some name.now) }
+    ensures adds { OnOk result ((interfaces.new.files ≡ interfaces.old.files) × (interfaces.new.arena ≡ interfaces.old.arena ++ interface ∷ []) × IsIndexed interfaces.new) }
     ensures refused { IfErr result IsAllocationFailure }
 {
     let alloc = *interfaces.by_name.allocator();
@@ -42,7 +45,7 @@ fn resolve_interface<'f, 'a>(
 ) -> ParseResult<()>
     requires { IsNextInterface interfaces.old item.now }
     ensures adds { OnOk result (AddsOne interfaces.old interfaces.new types.old types.new required.old.items required.new.items item.now) }
-    ensures first { FindsOne interfaces.old types.old (item_view item.now) result }
+    ensures first { (wrong : TheItem → Option Fault) → IsRightOf wrong interfaces.old types.old (length interfaces.old.arena) (item_view item.now) → Finds (wrong (item_view item.now)) result }
 {
     let place = interfaces.arena.next_id();
     let scope = item.scope();
@@ -61,7 +64,7 @@ pub fn resolve_interfaces<'f, 'a>(
 ) -> ParseResult<()>
     requires { AreReady interfaces.old items.now places.now }
     ensures added { OnOk result (AddsAmong interfaces.old interfaces.new types.old types.new required.old.items required.new.items items.now places.now) }
-    ensures first { FindsAmong interfaces.old types.old items.now places.now result }
+    ensures first { (wrong : TheItem → Option Fault) → AreRightOf wrong interfaces.old types.old items.now places.now → Finds (first_in wrong (interfaces_in items.now places.now)) result }
 {
     for place in places {
         let item = &items[*place];

@@ -9,7 +9,7 @@ ghost use Rattle.wit_items.specs.BorrowedItems.{declared_view, scope_item};
 ghost use Rattle.wit_first.specs.First.{Finds};
 ghost use Rattle.wit_arena.specs.Resolving.{env_of};
 ghost use Rattle.wit_externs.specs.AloneFaults.{FindsIn, lone_setters};
-ghost use Rattle.wit_contents.specs.InterfaceFaults.{FindsInterface, rest_fault};
+ghost use Rattle.wit_contents.specs.InterfaceFaults.{rest_fault, FindsInterface};
 ghost use Rattle.wit_contents.specs.AddedInterfaces.{AddsAt, AddsTable, IsInterfaceWith};
 ghost use Rattle.wit_contents.specs.Ready.{IsInterfaceScope, IsNamedScope};
 
@@ -61,7 +61,7 @@ fn functions_of<'a>(
     ensures extended { IsExtended types.old types.new }
     ensures first { FindsIn (env_of names.old.types) types.new (rest_fault item.now names.old.turn.items) result }
 {
-    let own = resolve_item_functions(alloc, item.names, item.declared, types, names)?;
+    let own = resolve_item_functions(item, types, &names.types, &names.turn, &mut names.required)?;
     check_pairs(&own.written, &own.in_use.imports, &names.turn)?;
     drop(own.in_use);
     drop(own.written);
@@ -119,7 +119,7 @@ pub fn interface_of<'f, 'a>(
 ) -> ParseResult<Interface>
     requires { IsInterfaceScope interfaces.now.files item.now }
     ensures adds { IfOk result (AddsAt interfaces.now place types.old types.new required.old.items required.new.items (scope_item item.now)) }
-    ensures first { FindsInterface interfaces.now place types.old types.new item.now result }
+    ensures first { FindsInterface interfaces.now place types.old item.now result }
 {
     let alloc = *interfaces.by_name.allocator();
     let id = declared_name(&item.declared);

@@ -2,12 +2,15 @@
 ghost use Rattle.std.specs.Prelude.{◌≡◌, ◌+◌, ◌∷◌, [], IfOk, List, OnOk, length};
 ghost use Rattle.wit_types.specs.declared.types.TypeDef.{TypeDef as TheType};
 ghost use Rattle.wit_syntax.specs.Function.{side_function};
-ghost use Rattle.wit_syntax.specs.Sides.{side_items};
+ghost use Rattle.wit_syntax.specs.Sides.{side_items, SideFunction, SideLink, part_items};
+ghost use Rattle.wit_syntax.specs.Source.{DefinitionPart};
 ghost use Rattle.wit_rules.specs.BorrowedFunctions.{function_view};
-ghost use Rattle.wit_items.specs.BorrowedItems.{item_view};
+ghost use Rattle.wit_items.specs.BorrowedItems.{item_view, scope_item};
+ghost use Rattle.wit_world_sides.specs.Members.{path_link};
 ghost use Rattle.wit_links.specs.SideCounts.{inline_side};
-ghost use Rattle.wit_contents.specs.MemberFaults.{FindsInside, FindsTyped, FindsItems};
-ghost use Rattle.wit_contents.specs.Walk.{AddsInline, AddsItems, AddsTyped, IsNext, items_of, next_place, resource_items, walk_of, IsInlineAt, IsNextInline, function_items, link_items, definition_items};
+ghost use Rattle.wit_contents.specs.InterfaceFaults.{FindsInterface};
+ghost use Rattle.wit_contents.specs.MemberFaults.{FindsTyped, FindsItems};
+ghost use Rattle.wit_contents.specs.Walk.{AddsItems, AddsTyped, IsNext, items_of, next_place, resource_items, walk_of, IsInlineAt, IsNextInline, AddsInside};
 ghost use Rattle.wit_contents.specs.Ready.{IsInterfaceScope};
 
 use crate::interface::interface_of;
@@ -17,7 +20,7 @@ use wit_entries::scope::Required;
 use wit_items::interfaces::Interfaces;
 use wit_items::items::{InlineInterface, Item, ItemScope};
 use wit_links::inside::{Seen, declared_world, inside_scope};
-use wit_links::links::linked_place;
+use wit_links::links::linked_id;
 use wit_model::Interface;
 use wit_notes::check_metadata;
 use wit_rules::borrowed::BorrowedFunction;
@@ -82,8 +85,8 @@ fn resolve_inline<'f, 'a>(
 ) -> ParseResult<InterfaceId>
     requires { IsInterfaceScope interfaces.now.files scope.now }
     ensures id { IfOk result (λ id. id ≡ next_place interfaces.now inside.old) }
-    ensures adds { OnOk result (AddsInline interfaces.now types.old types.new inside.old inside.new required.old.items required.new.items scope.now) }
-    ensures first { FindsInside interfaces.now types.old types.new inside.old scope.now result }
+    ensures adds { OnOk result (AddsInside interfaces.now types.old types.new inside.old inside.new required.old.items required.new.items (scope_item scope.now)) }
+    ensures first { FindsInterface interfaces.now (next_place interfaces.now inside.old) types.old scope.now result }
 {
     let id = next_inside(interfaces, inside)?;
     let interface = interface_of(scope, types, required, interfaces, id)?;
@@ -101,9 +104,9 @@ fn walk_function<'f, 'a>(
     types: &mut Entries,
     walked: &mut Walked,
 ) -> ParseResult<()>
-    requires { IsNext (walk_of item.now walk.now) (function_items borrowed) walked.old }
-    ensures adds { OnOk result (AddsTyped item.now walk.now (function_items borrowed.entry) types.old types.new walked.old walked.new) }
-    ensures first { FindsTyped item.now walk.now (function_items borrowed.entry) types.old walked.old result }
+    requires { IsNext (walk_of item.now walk.now) (SideFunction (function_view borrowed) ∷ []) walked.old }
+    ensures adds { OnOk result (AddsTyped item.now walk.now (SideFunction (function_view borrowed.entry) ∷ []) types.old types.new walked.old walked.new) }
+    ensures first { FindsTyped item.now walk.now (SideFunction (function_view borrowed.entry) ∷ []) types.old walked.old result }
 {
     let alloc = *walk.interfaces.by_name.allocator();
     let place = walked.seen.functions;
@@ -116,21 +119,20 @@ fn walk_function<'f, 'a>(
 
 /// Checks the next import or export of an interface by its path, and puts it on its side.
 ///
-/// A refusal is E30 to E35, where its attributes break a rule, one of `linked_place`, or of `put_link`.
+/// A refusal is E30 to E35, where its attributes break a rule, one of `linked_id`, or of `put_link`.
 fn walk_link<'f, 'a>(
     item: &Item<'f, 'a>,
     walk: &Walk<'f, 'a, '_, '_, '_>,
     link: PathExtern<'f, 'a>,
     walked: &mut Walked,
 ) -> ParseResult<()>
-    requires { IsNext (walk_of item.now walk.now) (link_items link) walked.old }
-    ensures adds { OnOk result ((ts : List TheType) → AddsTyped item.now walk.now (link_items link.entry) ts ts walked.old walked.new) }
-    ensures first { (ts : List TheType) → FindsTyped item.now walk.now (link_items link.entry) ts walked.old result }
+    requires { IsNext (walk_of item.now walk.now) (SideLink (path_link link) ∷ []) walked.old }
+    ensures adds { OnOk result ((ts : List TheType) → AddsTyped item.now walk.now (SideLink (path_link link.entry) ∷ []) ts ts walked.old walked.new) }
+    ensures first { (ts : List TheType) → FindsTyped item.now walk.now (SideLink (path_link link.entry) ∷ []) ts walked.old result }
 {
     let alloc = *walk.interfaces.by_name.allocator();
     check_metadata(alloc, &link.written.attributes)?;
-    let place = linked_place(alloc, walk.interfaces, item.place, link.path)?;
-    let id = walk.interfaces.arena.id_at(place);
+    let id = linked_id(alloc, walk.interfaces, item.place, link.path)?;
     put_link(alloc, &mut walked.members, link, id)?;
     let seen = walked.seen.with_interface(link.written.side, 0)?;
     walked.seen = seen;
@@ -246,7 +248,7 @@ fn walk_extern<'f, 'a>(
 
 /// The functions of a resource; none of another definition.
 fn resource_functions<'t, 'a>(definition: &'t TypeDef<'a>) -> &'t [ResourceFunc<'a>]
-    ensures { definition_items definition.now ≡ resource_items definition.now.name result.now }
+    ensures { part_items (DefinitionPart definition.now) ≡ resource_items definition.now.name result.now }
 {
     match &definition.body {
         TypeBody::Resource { funcs } => funcs,
@@ -262,9 +264,9 @@ fn walk_definition<'f, 'a>(
     types: &mut Entries,
     walked: &mut Walked,
 ) -> ParseResult<()>
-    requires { IsNext (walk_of item.now walk.now) (definition_items definition.now) walked.old }
-    ensures adds { OnOk result (AddsTyped item.now walk.now (definition_items definition.now) types.old types.new walked.old walked.new) }
-    ensures first { FindsTyped item.now walk.now (definition_items definition.now) types.old walked.old result }
+    requires { IsNext (walk_of item.now walk.now) (part_items (DefinitionPart definition.now)) walked.old }
+    ensures adds { OnOk result (AddsTyped item.now walk.now (part_items (DefinitionPart definition.now)) types.old types.new walked.old walked.new) }
+    ensures first { FindsTyped item.now walk.now (part_items (DefinitionPart definition.now)) types.old walked.old result }
 {
     for function in resource_functions(definition) {
         walk_function(

@@ -1,6 +1,7 @@
 //! Declared worlds.
-ghost use Rattle.std.specs.Prelude.{◌≡◌, List, None, IfOk, IfErr, OnOk, map};
+ghost use Rattle.std.specs.Prelude.{◌≡◌, List, None, IfOk, IfErr, OnOk, map, ◌++◌, ◌∷◌, [], length};
 ghost use Rattle.std.specs.List.{flat_map};
+ghost use Rattle.wit_types.specs.declared.types.TypeOwner.TheVariants.{World as OfWorld};
 ghost use Rattle.wit_type_tree.specs.RefusalText.{IsAllocationFailure};
 ghost use Rattle.wit_syntax.specs.Function.{part_functions};
 ghost use Rattle.wit_syntax.specs.Repeats.{AllDiffer};
@@ -12,15 +13,13 @@ ghost use Rattle.wit_items.specs.BorrowedItems.{item_view};
 ghost use Rattle.wit_items.specs.SourceItems.{metadata_view};
 ghost use Rattle.wit_items.specs.Gathered.{IsItemOf};
 ghost use Rattle.wit_item_entries.specs.NameOrder.{IsTurn};
-ghost use Rattle.wit_item_entries.specs.ReachedFaults.{item_stability};
+ghost use Rattle.wit_item_entries.specs.ReachedFaults.{item_stability, FindsNames};
 ghost use Rattle.wit_world_sides.specs.Members.{AreKeyed};
-ghost use Rattle.wit_contents.specs.AddedWorlds.{AddsContent, AddsNamesOf, AddsWorldsAmong, AddsNamedWorld, AddsNextWorld, AddsWorldOf, HasContent};
-ghost use Rattle.wit_contents.specs.WorldFaults.{FindsNames, FindsSides, FindsWorld, FindsWorlds};
-ghost use Rattle.wit_contents.specs.WorldWalk.{AddsSidesOf, AddsNamesAlone, IsFunctionScopeOf, IsScopedWorld, IsSettled, IsWorldOf};
-ghost use Rattle.wit_contents.specs.Ready.{AreReadyWorlds, CanAddWorld, IsNextWorld};
+ghost use Rattle.wit_contents.specs.Worlds.{AddsContent, AddsNamesOf, AddsWorldsAmong, AddsNextWorld, AddsWorldOf, AreIndexed, HasContent, FindsWorld, FindsWorlds, AddsNamesAlone, IsSettled, IsWorldOf};
+ghost use Rattle.wit_contents.specs.Ready.{AreReadyWorlds};
 
-use crate::sides::{put_nothing, walk_sides};
-use crate::walk::{Growing, Walk, Walked};
+use crate::sides::{WorldScope, put_nothing, walk_sides};
+use crate::walk::{Growing, Walked};
 use std::alloc::{AllocError, Global};
 use std::mem::replace;
 use wit_entries::entries::Entries;
@@ -32,13 +31,12 @@ use wit_item_entries::required::add_required;
 use wit_items::interfaces::Interfaces;
 use wit_items::items::{Declared, Item};
 use wit_items::metadata::{ItemMetadata, item_metadata};
-use wit_links::includes::declared_includes;
+use wit_links::includes::resolve_includes;
 use wit_links::inside::{declared_name, declared_world};
 use wit_links::worlds::Worlds;
 use wit_maps::TextTable;
 use wit_model::{Interface, World, WorldInclude};
 use wit_rules::borrowed::BorrowedFunction;
-use wit_rules::function_scope::FunctionScope;
 use wit_scopes::scope_name::ScopeName;
 use wit_top_names::declaration::world_items;
 use wit_tree::ParseResult;
@@ -70,21 +68,10 @@ pub struct Resolving {
     pub required: Vec<Required>,
 }
 
-/// What the functions of a world are read in: its names, which are resolved, the definitions that are
-/// written as results, and its functions as they are written. Where it includes nothing, it is
-/// `closed`.
-#[derive(Drop)]
-pub struct WorldScope<'f, 'a> {
-    pub names: ResolvedNames<'a>,
-    pub results: TextTable<&'f Type<'a>>,
-    pub functions: Vec<BorrowedFunction<'f, 'a>>,
-    pub closed: bool,
-}
-
 /// Adds a declared world, under its name.
 fn add_world(worlds: &mut Worlds<'_, '_, '_, '_, '_>, name: &str, world: World) -> ParseResult<()>
-    requires { CanAddWorld worlds.old name.now world }
-    ensures adds { OnOk result (AddsNamedWorld worlds.old worlds.new world) }
+    requires { AreIndexed worlds.old × (world.name ≡ name.now) }
+    ensures adds { OnOk result ((worlds.new.interfaces ≡ worlds.old.interfaces) × (worlds.new.arena ≡ worlds.old.arena ++ world ∷ []) × AreIndexed worlds.new) }
     ensures refused { IfErr result IsAllocationFailure }
 {
     let alloc = *worlds.by_name.allocator();
@@ -92,37 +79,6 @@ fn add_world(worlds: &mut Worlds<'_, '_, '_, '_, '_>, name: &str, world: World) 
     let name = String::from_str(alloc, name)?;
     worlds.by_name.put(name, place)?;
     Ok(())
-}
-
-/// What its functions are read in.
-fn function_scope<'s, 'f, 'a>(scope: &'s WorldScope<'f, 'a>) -> FunctionScope<'s, 'f, 'a>
-    ensures { IsFunctionScopeOf scope.now result }
-{
-    FunctionScope {
-        names: &scope.names.types,
-        results: &scope.results,
-        functions: &scope.functions,
-    }
-}
-
-/// What is on the sides of a world, after its names, which are resolved.
-fn walked_sides<'f, 'a>(
-    item: &Item<'f, 'a>,
-    scope: &WorldScope<'f, 'a>,
-    interfaces: &Interfaces<'_, '_, 'f, 'a>,
-    growing: &mut Growing,
-) -> ParseResult<Walked>
-    requires { IsScopedWorld interfaces.now item.now scope.now }
-    ensures adds { IfOk result (AddsSidesOf item.now interfaces.now scope.now.names growing.old growing.new) }
-    ensures first { FindsSides item.now interfaces.now scope.now.names growing.old result }
-{
-    let functions = function_scope(scope);
-    let walk = Walk {
-        turn: &scope.names.turn,
-        scope: functions,
-        interfaces,
-    };
-    walk_sides(item, &walk, growing, scope.closed)
 }
 
 /// The names of a world that comes next, and what is in them.
@@ -133,7 +89,7 @@ fn world_names<'f, 'a>(
 ) -> ParseResult<ResolvedNames<'a>>
     requires { IsItemOf worlds.now.interfaces.now.files item.now }
     ensures adds { IfOk result (AddsNamesOf worlds.now item.now types.old types.new) }
-    ensures first { FindsNames worlds.now item.now types.old types.new result }
+    ensures first { FindsNames None worlds.now.interfaces.now (OfWorld (length worlds.now.arena)) types.old item.now.names.items result }
 {
     let alloc = *worlds.by_name.allocator();
     let owner = TypeOwner::World(worlds.arena.next_id());
@@ -195,8 +151,7 @@ fn settled_content(
 {
     add_required(required, &scope.names.required)?;
     add_required(required, &walked.required)?;
-    let members = walked.members;
-    let sides = settle(alloc, members.sides, scope.closed)?;
+    let sides = settle(alloc, walked.members, scope.closed)?;
     Ok(WorldContent { sides, includes })
 }
 
@@ -212,8 +167,8 @@ fn world_content<'f, 'a>(
 {
     let alloc = *worlds.by_name.allocator();
     let names = world_names(item, &mut resolving.growing.types, worlds)?;
-    let includes = declared_includes(alloc, &item.declared, worlds, item.place)?;
     let world = declared_world(&item.declared);
+    let includes = resolve_includes(alloc, world, worlds, item.place)?;
     if put_nothing(world_items(world)) {
         if !have_upper_case(&names.turn) {
             let sides = sides_of_names(alloc, &names, &mut resolving.required)?;
@@ -228,7 +183,7 @@ fn world_content<'f, 'a>(
         functions: written.functions,
         closed,
     };
-    let walked = walked_sides(item, &scope, worlds.interfaces, &mut resolving.growing)?;
+    let walked = walk_sides(item, &scope, worlds.interfaces, &mut resolving.growing)?;
     settled_content(alloc, &scope, walked, includes, &mut resolving.required)
 }
 
@@ -282,7 +237,7 @@ fn resolve_world<'f, 'a>(
     resolving: &mut Resolving,
     worlds: &mut Worlds<'_, '_, '_, 'f, 'a>,
 ) -> ParseResult<()>
-    requires { IsNextWorld worlds.old item.now }
+    requires { IsWorldOf worlds.old.interfaces.now item.now × AreIndexed worlds.old }
     ensures adds { OnOk result (AddsNextWorld worlds.old worlds.new item.now resolving.old resolving.new) }
     ensures first { FindsWorld worlds.old resolving.old.growing item.now result }
 {

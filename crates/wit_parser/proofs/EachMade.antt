@@ -17,8 +17,7 @@ module _ (made : SourceFunction → Function) where
   members_each P fns each k name f at =
       let it = placed_at (pairs Some) (map named fns) k (name, f) at in
       let fn = map_at named fns it.0 (name, f) it.1 in
-      let same : made fn.0 ≡ f = ap (λ (e : List ℕ × Function). e.1) fn.2 in
-      subst P same (each it.0 fn.0 fn.1)
+      subst P (ap (λ (e : List ℕ × Function). e.1) fn.2) (each it.0 fn.0 fn.1)
 
 module _ (P : Entry → Type 0) where
   abbrev pub Each : List Entry → Type 0

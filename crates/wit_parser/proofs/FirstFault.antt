@@ -1,8 +1,8 @@
 -- What is found of files that have a header is what the walk comes to; and where they have none, that is the fault.
-use Rattle.std.proofs.Common.{◌≡◌, ◌⊎◌, ℕ, ◌≤◌, List, Option, Some, None, inl, inr, refl, sym, ap, ◌∙◌, arith}
-use Rattle.wit_syntax.proofs.Common.{Err, Fault, IfErr, IsAllocationFailure, IsBroken, IsLegal, ItemNotFound, Ok, OnOk, OutOfMemory, PackageFile, ParseError, ParseErrorKind, Refused, Result, Row, Syntax, TypeCycle, Word, cases_lt, fault, fault_of, last_header, option_or}
+use Rattle.std.proofs.Common.{◌≡◌, ◌⊎◌, ℕ, ◌≤◌, List, Option, Some, None, inl, inr, refl, sym, ap, ◌∙◌, arith, is_none}
+use Rattle.wit_syntax.proofs.Common.{Err, Fault, IfErr, IsAllocationFailure, IsBroken, IsLegal, Ok, OnOk, OutOfMemory, PackageFile, ParseError, ParseErrorKind, Refused, Result, Row, Word, cases_lt, fault, fault_of, last_header, option_or, if◌then◌else◌, three_ways}
 use Rattle.wit_tree.specs.declared.tree.PackageName.{PackageName as Header}
-use Rattle.wit_walk.proofs.Common.{AreOutcomes, ComesTo, FindsBy, IsFaultless, IsFirst, Known, Outcome, Reports, header_fault, legal}
+use Rattle.wit_walk.proofs.Common.{IsOutcome, ComesTo, FindsBy, IsFaultless, IsFirst, Known, Outcome, Reports, legal}
 use Rattle.wit_walk.proofs.Broken.{broken}
 use Rattle.wit_walk.proofs.Outcomes.{outcome_of}
 use Rattle.wit_walk.proofs.ScopesLegal.{steps_more}
@@ -11,18 +11,13 @@ use Rattle.wit_contents.specs.FileFaults.{IsRight, fault_after}
 
 -- whether an error is a failed allocation is known
 of_memory : (k : ParseErrorKind) → (k ≡ OutOfMemory) ⊎ (k ≡ OutOfMemory → ⊥)
-of_memory (Syntax span message) = inr (λ same. (let f : ⊥ = cc in f))
-of_memory (ItemNotFound span name kind hint) = inr (λ same. (let f : ⊥ = cc in f))
-of_memory (TypeCycle span name kind) = inr (λ same. (let f : ⊥ = cc in f))
 of_memory OutOfMemory = inl refl
+of_memory _ = inr (λ same. (let f : ⊥ = cc in f))
 
 same_number : (a b : ℕ) → (a ≡ b) ⊎ (a ≡ b → ⊥)
-same_number a b = elim (cases_lt a b) [
+same_number a b = elim (three_ways a b) [
   | inl lt ↦ inr (λ same. omega (arith, lt, same))
-  | inr ge ↦ elim (cases_lt b a) [
-    | inl gt ↦ inr (λ same. omega (arith, gt, same))
-    | inr le ↦ inl (omega (arith, ge, le))
-  ]
+  | inr rest ↦ elim rest [ inl same ↦ inl same | inr gt ↦ inr (λ same. omega (arith, gt, same)) ]
 ]
 
 memory_or_not : (e : ParseError) → IsAllocationFailure e ⊎ (IsAllocationFailure e → ⊥)
@@ -37,8 +32,8 @@ memory_or_not e = elim (of_memory e.kind) [
 abbrev outcome : List Row → Outcome
 outcome rs = (outcome_of rs).0
 
-outcomes : AreOutcomes outcome
-outcomes = record { each = λ rs. (outcome_of rs).1 }
+outcomes : (rs : List Row) → IsOutcome rs (outcome rs)
+outcomes = λ rs. (outcome_of rs).1
 
 abbrev at : ℕ → Known
 at steps = record { outcome = outcome; steps = steps }
@@ -63,7 +58,7 @@ module _ (files : List PackageFile) where
     outcome = outcome;
     outcomes = outcomes;
     enough = 0;
-    is = λ steps le. ap (λ (o : Option Header). option_or (header_fault o) (fault_after 1 files (at steps))) none;
+    is = λ steps le. ap (λ (o : Option Header). option_or (if is_none o then Some (fault 4 (record { start = 0; end = 0 })) else None) (fault_after 1 files (at steps))) none;
   }
 
   module _ (header : Header) (last : last_header files ≡ Some header) where
@@ -72,7 +67,7 @@ module _ (files : List PackageFile) where
       outcome = outcome;
       outcomes = outcomes;
       enough = enough;
-      is = λ steps le. ap (λ (o : Option Header). option_or (header_fault o) (fault_after 1 files (at steps))) last ∙ h steps le;
+      is = λ steps le. ap (λ (o : Option Header). option_or (if is_none o then Some (fault 4 (record { start = 0; end = 0 })) else None) (fault_after 1 files (at steps))) last ∙ h steps le;
     }
 
     pub faultless : ((known : Known) → IsRight files known → fault_after 1 files known ≡ None) → IsFaultless files

@@ -2,7 +2,7 @@
 use Rattle.std.proofs.Common.{◌≡◌, ℕ, zero, suc, List, [], ◌∷◌, ◌++◌, map, Option, Some, None, inl, inr, refl, ap, subst}
 use Rattle.wit_syntax.proofs.Common.{Address, Docs, Exported, FunctionKey, Imported, Item, Link, PackageFile, SourceFunction, Span, Stability, TypeOwner, WorldSide, address, at_split, flat_map, flat_map_at, foreign_interfaces, foreign_worlds, functions, item_link, map_at, option_map_or, path_scope, side_items, slice_get, worlds_of}
 use Rattle.wit_types.specs.declared.types.TypeOwner.TheVariants as owner
-use Rattle.wit_arena.proofs.Common.{Def, Function, HasMarkOf, Interface, Key, Makes, UnresolvedPackage, World, WorldKey, foreign_interface, foreign_world, function_in, functions_of, interface_functions, interface_scopes, item_functions, keyed, link_item, mark_of, names_in_turn, own_interface, own_interfaces, own_world, placed, scope_place, world_functions, world_scopes}
+use Rattle.wit_arena.proofs.Common.{Def, Function, HasMarkOf, Interface, Key, Makes, UnresolvedPackage, World, WorldKey, foreign_interface, foreign_world, function_in, functions_of, interface_functions, interface_scopes, item_functions, keyed, link_item, mark_of, names_in_turn, own_interface, own_interfaces, own_world, scope_place, world_functions, world_scopes}
 use Rattle.wit_model.specs.declared.world.WorldItem.TheVariants as item
 use Rattle.wit_model.specs.declared.world.WorldKey.TheVariants as key
 use Rattle.wit_parser.proofs.EachMade.{Each, Entry, exports_each, imports_each, members_each}
@@ -34,8 +34,7 @@ none_keyed es none place key f at = absurd (let h : ⊥ = cc in h)
 marked_keyed : (side : WorldSide) (es : List (List ℕ × Function)) → AreMarked es → AreKeyed (map (keyed side) es)
 marked_keyed side es marked place key f at =
     let e = map_at (keyed side) es place (key, f) at in
-    let same : e.0.1 ≡ f = ap (λ (x : FunctionKey × Function). x.1) e.2 in
-    subst IsMarkedFunction same (marked place e.0.0 e.0.1 e.1)
+    subst IsMarkedFunction (ap (λ (x : FunctionKey × Function). x.1) e.2) (marked place e.0.0 e.0.1 e.1)
 
 both_keyed : (xs ys : List (FunctionKey × Function)) → AreKeyed xs → AreKeyed ys → AreKeyed (xs ++ ys)
 both_keyed xs ys first second place key f at = elim (at_split xs ys place (key, f) at) [
@@ -57,23 +56,16 @@ entries_marked es each place name f at = (let it = flat_map_at item_functions es
 
 -- the functions of an item, where this gives the places of types
 module _ (id : Key → ℕ) (i : Item) where
-  abbrev made : SourceFunction → Function
-  made = function_in id (address i)
-
-  made_marked : (k : ℕ) (fn : SourceFunction) → slice_get (functions i) k ≡ Some fn → IsMarkedFunction (made fn)
+  made_marked : (k : ℕ) (fn : SourceFunction) → slice_get (functions i) k ≡ Some fn → IsMarkedFunction ((function_in id (address i)) fn)
   made_marked k fn at = written_marked i k fn at (λ of. id (Def (address i) of.name.now))
 
-  -- in an interface, and in a world
-  members_marked : AreMarked (placed Some (map (λ (fn : SourceFunction). (fn.name, made fn)) (functions i)))
-  members_marked = members_each made IsMarkedFunction (functions i) made_marked
-
-  fns_marked : (k : ℕ) (fn : SourceFunction) → slice_get (functions i) k ≡ Some fn → IsMarkedEntry (key.Name fn.name, item.Function (made fn))
-  fns_marked k fn at = one_marked fn.name (made fn) (made_marked k fn at)
+  fns_marked : (k : ℕ) (fn : SourceFunction) → slice_get (functions i) k ≡ Some fn → IsMarkedEntry (key.Name fn.name, item.Function ((function_in id (address i)) fn))
+  fns_marked k fn at = one_marked fn.name ((function_in id (address i)) fn) (made_marked k fn at)
 
   links_marked : (ss : List Address) (k : ℕ) (link : Link) → slice_get (flat_map item_link (side_items i)) k ≡ Some link → IsMarkedEntry (link_item link (scope_place ss (path_scope i.top link.path)))
   links_marked ss k link at = (let e = link_item link (scope_place ss (path_scope i.top link.path)) in no_function e.0 _ _ _ _ _)
 
-  sides_marked : (order : Address → List ℕ) (ss ws : List Address) → AreKeyed (world_functions (own_world id order ss ws i))
+  sides_marked : (order : Item → List ℕ) (ss ws : List Address) → AreKeyed (world_functions (own_world id order ss ws i))
   sides_marked order ss ws =
       let w = own_world id order ss ws i in
       both_keyed (map (keyed Imported) (flat_map item_functions w.imports)) (map (keyed Exported) (flat_map item_functions w.exports))
@@ -82,16 +74,10 @@ module _ (id : Key → ℕ) (i : Item) where
 
 module _ (files : List PackageFile) (p : UnresolvedPackage) (m : Makes files p) where
   interface_marked : (k : ℕ) (i : Interface) → slice_get p.interfaces k ≡ Some i → AreMarked i.functions
-  interface_marked = images_at (foreign_interface files m.id) (own_interface m.id m.order) (foreign_interfaces files) (own_interfaces m.items) p.interfaces m.interfaces (λ k i. AreMarked i.functions) (λ k v at. none_marked [] refl) (λ k i at. members_marked m.id i)
-
-  abbrev ss : List Address
-  ss = interface_scopes files m.items
-
-  abbrev ws : List Address
-  ws = world_scopes files m.items
+  interface_marked = images_at (foreign_interface files m.id) (own_interface m.id m.order) (foreign_interfaces files) (own_interfaces m.items) p.interfaces m.interfaces (λ k i. AreMarked i.functions) (λ k v at. none_marked [] refl) (λ k i at. members_each (function_in m.id (address i)) IsMarkedFunction (functions i) (made_marked m.id i))
 
   world_marked : (k : ℕ) (w : World) → slice_get p.worlds k ≡ Some w → AreKeyed (world_functions w)
-  world_marked = images_at foreign_world (own_world m.id m.order ss ws) (foreign_worlds files) (worlds_of m.items) p.worlds m.worlds (λ k w. AreKeyed (world_functions w)) (λ k v at. none_keyed [] refl) (λ k w at. sides_marked m.id w m.order ss ws)
+  world_marked = images_at foreign_world (own_world m.id m.order (interface_scopes files m.items) (world_scopes files m.items)) (foreign_worlds files) (worlds_of m.items) p.worlds m.worlds (λ k w. AreKeyed (world_functions w)) (λ k v at. none_keyed [] refl) (λ k w at. sides_marked m.id w m.order (interface_scopes files m.items) (world_scopes files m.items))
 
   -- what one of these has, if there is one
   found_marked : {X : Type 0} (of : X → List (FunctionKey × Function)) (o : Option X) → ((x : X) → o ≡ Some x → AreKeyed (of x)) → AreKeyed (option_map_or of o [])

@@ -2,7 +2,7 @@
 use Rattle.std.proofs.Common.{◌≡◌, ◌<◌, ◌≤◌, ℕ, ◌+◌, List, ◌++◌, length, map, take, Option, Some, None, refl, sym, ap, ◌∙◌, subst, arith, inl, inr, length-append}
 use Rattle.wit_syntax.proofs.Common.{Address, Extern, ForeignVisit, Id, IsLegal, Item, Link, PackageFile, PackageName, SourceFunction, Stability, TypeDef, WorldNamed, address, filter, flat_map, foreign_interfaces, foreign_items, foreign_packages, foreign_worlds, functions, includes, inline_items, item_link, kept_at, leads, length-map, local_name, map_at, option_map, option_or, package_of, path_scope, position-Some, same_address, same_package, side_items, slice_get, slice_get_within, target_scope, unwrap_or, visited, worlds_of}
 use Rattle.wit_types.specs.declared.types.TypeOwner.TheVariants as owner
-use Rattle.wit_arena.proofs.Common.{AstItem, Def, GivesPlaces, Interface, IsEntry, IsKeyed, IsSeen, Key, Makes, Occurrence, UnresolvedPackage, Whole, World, WorldInclude, declarations, dep, dep_item, foreign_entry, foreign_interface, foreign_turned, foreign_world, function_in, include_in, inline_entry, interface_scopes, interface_turn, item_turns, keys, kind_of, link_item, link_key, name_exprs, names_in_turn, own_interface, own_interfaces, own_world, owner_at, place_at, scope_place, turn_handles, world_scopes}
+use Rattle.wit_arena.proofs.Common.{AstItem, Def, GivesPlaces, IsEntry, IsKeyed, IsSeen, Key, Makes, Occurrence, UnresolvedPackage, Whole, WorldInclude, declarations, dep, dep_item, foreign_entry, foreign_interface, foreign_turned, foreign_world, function_in, include_in, inline_entry, interface_scopes, interface_turn, item_turns, keys, kind_of, link_item, link_key, name_exprs, names_in_turn, own_interface, own_interfaces, own_world, place_at, scope_place, turn_handles, world_scopes}
 use Rattle.wit_model.specs.declared.world.WorldItem.TheVariants as item
 use Rattle.wit_model.specs.declared.world.WorldKey.TheVariants as key
 use Rattle.wit_arena.proofs.Deps.{entry_of_interface, entry_of_world, item_sort}
@@ -14,7 +14,7 @@ use Rattle.wit_parser.proofs.PartsSeen.{entries_made, made_places}
 use Rattle.wit_parser.proofs.PartsKeys.{ItemPresent, interface_seen, world_seen, foreign_seen}
 use Rattle.wit_parser.proofs.PartsPlaces.{function_in-is, name_places-are, seen_at}
 use Rattle.wit_parser.proofs.PartsScopes.{has_places}
-use Rattle.wit_parser.proofs.PartsSides.{HasPlace, HasPlaces}
+use Rattle.wit_parser.proofs.PartsSides.{HasPlaces}
 use Rattle.wit_parser.proofs.TypeIds.{key_within, parts_within, names_within, function_within, required_within}
 use Rattle.wit_parser.specs.Ids.{IsFunctionWithin, IsKeyWithin, IsItemWithin, IsOwnerWithin, IsTypeWithin, IsInterfaceWithin, IsWorldWithin, IsForeignWithin, AreIdsWithin}
 
@@ -30,15 +30,12 @@ module _ (p : UnresolvedPackage) (ks : List Key) (types : length p.types ≡ len
   owner_of_places None (Some w) first second = second w refl
   owner_of_places None None first second = tt
 
-  owner_within : (s : Address) → IsOwnerWithin p (owner_at is ws s)
-  owner_within s = owner_of_places (place_at is s) (place_at ws s) (λ k at. let within = place_within is s k at in omega (arith, within, interfaces)) (λ k at. let within = place_within ws s k at in omega (arith, within, worlds))
-
   -- an entry of the arena of types
   entry_within : (files : List PackageFile) (i : ℕ) (k : Key) (e : TypeDef) → IsEntry (declarations files is ws) (take i ks) k e → IsTypeWithin p e
   entry_within files i (Def s name) e it =
       record {
         parts = parts_within p ks types (name_exprs s it.1) (kind_of e.kind).parts (all_at_untaken i ks (name_exprs s it.1) (kind_of e.kind).parts it.8);
-        owner = subst (IsOwnerWithin p) (sym it.6) (owner_within s);
+        owner = subst (IsOwnerWithin p) (sym it.6) (owner_of_places (place_at is s) (place_at ws s) (λ k at. let within = place_within is s k at in omega (arith, within, interfaces)) (λ k at. let within = place_within ws s k at in omega (arith, within, worlds)));
       }
   entry_within files i (Whole form parts) e it = record {
     parts = parts_within p ks types parts (kind_of e.kind).parts (all_at_untaken i ks parts (kind_of e.kind).parts it.3);
@@ -71,16 +68,13 @@ link_within p None place within = within
 link_within p (Some id) place within = tt
 
 module _ (files : List PackageFile) (p : UnresolvedPackage) (legal : IsLegal files) (m : Makes files p) where
-  abbrev ks : List Key
-  ks = keys m.seen
-
   abbrev ss : List Address
   ss = interface_scopes files m.items
 
   abbrev ws : List Address
   ws = world_scopes files m.items
 
-  pub as_many_types : length p.types ≡ length ks
+  pub as_many_types : length p.types ≡ length (keys m.seen)
   as_many_types = m.count ∙ sym (length-map m.seen (λ (o : Occurrence). o.key))
 
   interface_count : length p.interfaces ≡ length (foreign_interfaces files) + length (own_interfaces m.items)
@@ -95,27 +89,17 @@ module _ (files : List PackageFile) (p : UnresolvedPackage) (legal : IsLegal fil
   pub as_many_worlds : length p.worlds ≡ length ws
   as_many_worlds = world_count ∙ sym (length_joined visited address (foreign_worlds files) (worlds_of m.items))
 
-  places : GivesPlaces m.id ks
+  places : GivesPlaces m.id (keys m.seen)
   places = made_places files p legal m
 
-  -- what occurs has its place, and so have scopes
-  seen_within : (k : Key) → IsSeen ks k → m.id k < length p.types
-  seen_within k h = key_within p ks as_many_types (m.id k) k (seen_at m.id ks places k h)
-
-  interface_there : (s : Address) → HasPlace ss s → scope_place ss s < length p.interfaces
-  interface_there s h = let within = slice_get_within ss (scope_place ss s) s h in omega (arith, as_many_interfaces, within)
-
-  world_there : (s : Address) → HasPlace ws s → scope_place ws s < length p.worlds
-  world_there s h = let within = slice_get_within ws (scope_place ws s) s h in omega (arith, as_many_worlds, within)
-
   -- the functions of an item, all of whose types occur
-  module _ (i : Item) (h : ItemPresent (IsSeen ks) m.order i) where
+  module _ (i : Item) (h : ItemPresent (IsSeen (keys m.seen)) m.order i) where
     made_within : (k : ℕ) (fn : SourceFunction) → slice_get (functions i) k ≡ Some fn → IsFunctionWithin p (function_in m.id (address i) fn)
-    made_within k fn at = function_within p ks as_many_types (address i) fn (function_in m.id (address i) fn) (function_in-is m.id ks places (address i) fn (h.functions k fn at))
+    made_within k fn at = function_within p (keys m.seen) as_many_types (address i) fn (function_in m.id (address i) fn) (function_in-is m.id (keys m.seen) places (address i) fn (h.functions k fn at))
 
     own_interface_within : IsInterfaceWithin p (own_interface m.id m.order i)
     own_interface_within = record {
-      types = names_within p ks as_many_types (interface_turn m.order i) (own_interface m.id m.order i).types (name_places-are m.id ks places (interface_turn m.order i) h.names);
+      types = names_within p (keys m.seen) as_many_types (interface_turn m.order i) (own_interface m.id m.order i).types (name_places-are m.id (keys m.seen) places (interface_turn m.order i) h.names);
       functions = members_each (function_in m.id (address i)) (IsFunctionWithin p) (functions i) made_within;
       no_package = refl;
       no_source = refl;
@@ -131,25 +115,25 @@ module _ (files : List PackageFile) (p : UnresolvedPackage) (legal : IsLegal fil
       links_within : (k : ℕ) (link : Link) → slice_get (flat_map item_link (side_items i)) k ≡ Some link → IsEntryWithin (link_item link (scope_place ss (path_scope i.top link.path)))
       links_within k link at =
           let s = path_scope i.top link.path in
-          let within = interface_there s (there.links k link at) in
+          let within : scope_place ss s < length p.interfaces = omega (arith, as_many_interfaces, slice_get_within ss (scope_place ss s) s (there.links k link at)) in
           (link_within p link.name (scope_place ss s) within, within)
 
       inside_within : (k : ℕ) (v : Item) → slice_get (inline_items i) k ≡ Some v → (x : Extern) (name : Id) → IsEntryWithin (inline_entry x name (scope_place ss (address v)))
-      inside_within k v at x name = (tt, interface_there (address v) (there.inside k v at))
+      inside_within k v at x name = (tt, (let within = slice_get_within ss (scope_place ss (address v)) (address v) (there.inside k v at) in omega (arith, as_many_interfaces, within)))
 
       own_world_within : IsWorldWithin p (own_world m.id m.order ss ws i)
       own_world_within = record {
-        imports = imports_each IsEntryWithin m.id ss i fns_within links_within inside_within (names_in_turn m.order i) (λ k x at. (tt, seen_within (Def (address i) (local_name x)) (h.names k x at)));
+        imports = imports_each IsEntryWithin m.id ss i fns_within links_within inside_within (names_in_turn m.order i) (λ k x at. (tt, (key_within p (keys m.seen) as_many_types (m.id (Def (address i) (local_name x))) (Def (address i) (local_name x)) (seen_at m.id (keys m.seen) places (Def (address i) (local_name x)) (h.names k x at)))));
         exports = exports_each IsEntryWithin m.id ss i fns_within links_within inside_within;
         includes = λ k n at. (
             let x = map_at (include_in ws i.top) (includes i) k n at in
-            subst (λ (y : WorldInclude). y.id < length p.worlds) x.2 (world_there (target_scope WorldNamed (leads i.top x.0.from)) (there.included k x.0 x.1)));
+            subst (λ (y : WorldInclude). y.id < length p.worlds) x.2 (let within = slice_get_within ws (scope_place ws (target_scope WorldNamed (leads i.top x.0.from))) (target_scope WorldNamed (leads i.top x.0.from)) (there.included k x.0 x.1) in omega (arith, as_many_worlds, within)));
         no_package = refl;
       }
 
   foreign_interface_within : (v : ForeignVisit) → IsInterfaceWithin p (foreign_interface files m.id v)
   foreign_interface_within v = record {
-    types = names_within p ks as_many_types (foreign_turned files v) (foreign_interface files m.id v).types (name_places-are m.id ks places (foreign_turned files v) (foreign_seen files p legal m v));
+    types = names_within p (keys m.seen) as_many_types (foreign_turned files v) (foreign_interface files m.id v).types (name_places-are m.id (keys m.seen) places (foreign_turned files v) (foreign_seen files p legal m v));
     functions = λ k name f at. absurd (let f : ⊥ = cc in f);
     no_package = refl;
     no_source = refl;
@@ -163,12 +147,6 @@ module _ (files : List PackageFile) (p : UnresolvedPackage) (legal : IsLegal fil
     no_package = refl;
   }
 
-  interface_within : (k : ℕ) (i : Interface) → slice_get p.interfaces k ≡ Some i → IsInterfaceWithin p i
-  interface_within = images_at (foreign_interface files m.id) (own_interface m.id m.order) (foreign_interfaces files) (own_interfaces m.items) p.interfaces m.interfaces (λ k. IsInterfaceWithin p) (λ k v at. foreign_interface_within v) (λ k i at. own_interface_within i (interface_seen files p legal m k i at))
-
-  world_within : (k : ℕ) (w : World) → slice_get p.worlds k ≡ Some w → IsWorldWithin p w
-  world_within = images_at foreign_world (own_world m.id m.order ss ws) (foreign_worlds files) (worlds_of m.items) p.worlds m.worlds (λ k. IsWorldWithin p) (λ k v at. foreign_world_within v) (λ k w at. own_world_within w (world_seen files p legal m k w at) (has_places files legal m.items m.in_order k w at))
-
   foreign_within : (k : ℕ) (d : PackageName × List (List ℕ × (AstItem × List Stability))) → slice_get p.foreign_deps k ≡ Some d → (j : ℕ) (x : List ℕ × (AstItem × List Stability)) → slice_get d.1 j ≡ Some x → IsForeignWithin p x.1.0
   foreign_within k d at j x there =
       let v = map_at (dep files) (foreign_packages files) k d (ap (λ l. slice_get l k) (sym m.deps) ∙ at) in
@@ -178,9 +156,9 @@ module _ (files : List PackageFile) (p : UnresolvedPackage) (legal : IsLegal fil
 
   pub ids_within : AreIdsWithin p
   ids_within = record {
-    types = entries_within p ks as_many_types ss ws as_many_interfaces as_many_worlds files (entries_made files p legal m).keyed;
-    interfaces = interface_within;
-    worlds = world_within;
+    types = entries_within p (keys m.seen) as_many_types ss ws as_many_interfaces as_many_worlds files (entries_made files p legal m).keyed;
+    interfaces = images_at (foreign_interface files m.id) (own_interface m.id m.order) (foreign_interfaces files) (own_interfaces m.items) p.interfaces m.interfaces (λ k. IsInterfaceWithin p) (λ k v at. foreign_interface_within v) (λ k i at. own_interface_within i (interface_seen files p legal m k i at));
+    worlds = images_at foreign_world (own_world m.id m.order ss ws) (foreign_worlds files) (worlds_of m.items) p.worlds m.worlds (λ k. IsWorldWithin p) (λ k v at. foreign_world_within v) (λ k w at. own_world_within w (world_seen files p legal m k w at) (has_places files legal m.items m.in_order k w at));
     foreign = foreign_within;
-    required = required_within p ks as_many_types files (flat_map turn_handles (item_turns m.order m.items)) p.required_resource_types m.required;
+    required = required_within p (keys m.seen) as_many_types files (flat_map turn_handles (item_turns m.order m.items)) p.required_resource_types m.required;
   }

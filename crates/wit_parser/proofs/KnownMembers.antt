@@ -6,7 +6,7 @@ use Rattle.wit_arena.specs.Resolving.{all_seen, seen}
 use Rattle.wit_arena.proofs.DoneScopes.{seen_in_turn}
 use Rattle.wit_parser.proofs.KnownScopes.{IsKnown}
 use Rattle.wit_parser.proofs.KnownTurns.{scopes, known_at, interface_resolved_scope, turn_part}
-use Rattle.wit_arena.proofs.Occurrence.{has_either}
+use Rattle.wit_arena.proofs.Occurrence.{has_either, has_from}
 use Rattle.wit_arena.proofs.Members.{DoneScope, IsNameOf, IsInSignatureOf, IsWholeOf, IsPresent}
 use Rattle.wit_arena.proofs.ForeignUses.{used_from, in_use_has}
 use Rattle.wit_arena.proofs.UsePart.{lookup-listed}
@@ -14,39 +14,17 @@ use Rattle.wit_arena.proofs.Wholes.{whole_in_names, whole_in_turn}
 use Rattle.wit_parser.proofs.Images.{first_at}
 use Rattle.wit_parser.proofs.PartsSeen.{collects, entries_made}
 
--- a name that occurs in what is taken is taken
-foreign_use_of : (ts : List ForeignUse) (s : Address) (name : List ℕ) → Has (keys (map foreign_use_occurrence ts)) (Def s name) → (j : ℕ) × (t : ForeignUse) × (slice_get ts j ≡ Some t) × (foreign_use_key t ≡ Def s name)
-foreign_use_of [] s name h = absurd h
-foreign_use_of (t ∷ ts) s name h = elim h [ inl here ↦ (0, t, refl, here) | inr rest ↦ (let it = foreign_use_of ts s name rest in (suc it.0, it.1, it.2, it.3)) ]
-
--- nothing unnamed is taken
-no_whole_used : (ts : List ForeignUse) (form : Form) (parts : Exprs) → Has (keys (map foreign_use_occurrence ts)) (Whole form parts) → ⊥
-no_whole_used [] form parts h = h
-no_whole_used (t ∷ ts) form parts h = elim h [ inl here ↦ (let f : ⊥ = cc in f) | inr rest ↦ no_whole_used ts form parts rest ]
-
--- what occurs in scopes occurs in one of them
-turn_of_occurrence : (ts : List Turned) (k : Key) → Has (keys (occurrences ts)) k → (i : ℕ) × (t : Turned) × (slice_get ts i ≡ Some t) × Has (keys (turn_occurrences t)) k
-turn_of_occurrence [] k h = absurd h
-turn_of_occurrence (t ∷ ts) k h = elim (has_either (keys (turn_occurrences t)) (keys (occurrences ts)) k (subst (λ (l : List Key). Has l k) (keys-append (turn_occurrences t) (occurrences ts)) h)) [
-  | inl here ↦ (0, t, refl, here)
-  | inr rest ↦ (let it = turn_of_occurrence ts k rest in (suc it.0, it.1, it.2, it.3))
-]
+-- a key that occurs in what is taken is that of a name that is taken
+foreign_use_of : (ts : List ForeignUse) (k : Key) → Has (keys (map foreign_use_occurrence ts)) k → (j : ℕ) × (t : ForeignUse) × (slice_get ts j ≡ Some t) × (foreign_use_key t ≡ k)
+foreign_use_of [] k h = absurd h
+foreign_use_of (t ∷ ts) k h = elim h [ inl here ↦ (0, t, refl, here) | inr rest ↦ (let it = foreign_use_of ts k rest in (suc it.0, it.1, it.2, it.3)) ]
 
 module _ (files : List PackageFile) (p : UnresolvedPackage) (legal : IsLegal files) (m : Makes files p) where
   abbrev turns : List Turned
   turns = item_turns m.order m.items
 
-  abbrev ks : List Key
-  ks = keys m.seen
-
-  abbrev interfaces : List Address
-  interfaces = interface_scopes files m.items
-
-  abbrev worlds : List Address
-  worlds = world_scopes files m.items
-
   abbrev pub decls : Decls
-  decls = declarations files interfaces worlds
+  decls = declarations files (interface_scopes files m.items) (world_scopes files m.items)
 
   abbrev cs : List DoneScope
   cs = scopes files p legal m
@@ -55,7 +33,7 @@ module _ (files : List PackageFile) (p : UnresolvedPackage) (legal : IsLegal fil
   written = all_occurrences files (turns)
 
   abbrev Known : DoneScope → Type 0
-  Known c = IsKnown files p ks interfaces worlds c
+  Known c = IsKnown files p (keys m.seen) (interface_scopes files m.items) (world_scopes files m.items) c
 
   pub known : (t : ℕ) (c : DoneScope) → slice_get cs t ≡ Some c → Known c
   known = known_at files p legal m
@@ -67,7 +45,7 @@ module _ (files : List PackageFile) (p : UnresolvedPackage) (legal : IsLegal fil
   -- a name that is taken is one of the scope that it is taken from
   used_name : (s : Address) (name : List ℕ) → Has (keys (map foreign_use_occurrence (foreign_uses files))) (Def s name) → IsNameOf cs s name
   used_name s name has =
-      let t = foreign_use_of (foreign_uses files) s name has in
+      let t = foreign_use_of (foreign_uses files) (Def s name) has in
       let v = used_from files (uses_lead files legal) t.0 t.1 t.2 in
       let from : t.1.from ≡ s = (let same = t.3 in cc) in
       let u = firsts_has same_foreign_use foreign_use_key use_of_foreign-from use_of_foreign-equal (foreign_uses files) t.0 t.1 t.2 in
@@ -75,7 +53,7 @@ module _ (files : List PackageFile) (p : UnresolvedPackage) (legal : IsLegal fil
       let there : u.1.from ≡ s = cc in
       let called : u.1.id.name.now ≡ name = cc in
       let k = in_use_has files (visited v.1) u.0 u.1 u.2 (there ∙ sym from ∙ sym v.3) in
-      let c = interface_resolved_scope files p legal m v.0 (visited v.1) (first_at visited address (foreign_interfaces files) (own_interfaces m.items) interfaces refl v.0 v.1 v.2) in
+      let c = interface_resolved_scope files p legal m v.0 (visited v.1) (first_at visited address (foreign_interfaces files) (own_interfaces m.items) (interface_scopes files m.items) refl v.0 v.1 v.2) in
       let x : ScopeName = ForeignName u.1.attributes u.1.id in
       let q = (known c.place c.resolved_scope c.at).done.turn.has k.0 x (ap (λ (a : Address). slice_get (scope files a) k.0) c.scope ∙ k.1) in
       record { place = c.place; resolved_scope = c.resolved_scope; at = c.at; scope = c.scope ∙ v.3 ∙ from; index = q.0; x = x; among = q.1; called = called }
@@ -83,22 +61,22 @@ module _ (files : List PackageFile) (p : UnresolvedPackage) (legal : IsLegal fil
   -- a name that is in a scope is one of it
   own_name : (s : Address) (name : List ℕ) → Has (keys (occurrences (turns))) (Def s name) → IsNameOf cs s name
   own_name s name has =
-      let t = turn_of_occurrence (turns) (Def s name) has in
+      let t = has_from turn_occurrences turns (Def s name) has in
       let it = name_seen_in t.1.address t.1.names s name (seen_in_turn t.1.address t.1.names t.1.functions s name t.3) in
       let c = turn_part files p legal m t.0 t.1 t.2 in
       let q = c.names it.1.0 it.1.1 it.1.2 in
       record { place = c.place; resolved_scope = c.resolved_scope; at = c.at; scope = c.scope ∙ sym it.0; index = q.0; x = it.1.1; among = q.1; called = it.1.3 }
 
-  pub before : (j : ℕ) (s : Address) (name : List ℕ) → slice_get ks j ≡ Some (Def s name) → IsNameOf cs s name
+  pub before : (j : ℕ) (s : Address) (name : List ℕ) → slice_get (keys m.seen) j ≡ Some (Def s name) → IsNameOf cs s name
   before j s name at = elim (collects_from written [] m.seen (collects files p legal m) j (Def s name) at) [
-    | inl none ↦ absurd (let wrong = none.1 in let f : ⊥ = cc in f)
+    | inl none ↦ cc none.1
     | inr has ↦ elim (written_either (Def s name) has) [ inl in_use ↦ used_name s name in_use | inr own ↦ own_name s name own ]
   ]
 
   -- an unnamed type is written in a name of a scope, or in one of its functions
   own_whole : (form : Form) (parts : Exprs) → Has (keys (occurrences (turns))) (Whole form parts) → IsWholeOf cs form parts ⊎ IsInSignatureOf cs form parts
   own_whole form parts has =
-      let t = turn_of_occurrence (turns) (Whole form parts) has in
+      let t = has_from turn_occurrences turns (Whole form parts) has in
       let c = turn_part files p legal m t.0 t.1 t.2 in
       elim (whole_in_turn t.1.address t.1.names t.1.functions form parts t.3) [
         | inl named ↦ (
@@ -117,7 +95,7 @@ module _ (files : List PackageFile) (p : UnresolvedPackage) (legal : IsLegal fil
 
   pub wholes : (form : Form) (parts : Exprs) → Has (keys written) (Whole form parts) → IsWholeOf cs form parts ⊎ IsInSignatureOf cs form parts
   wholes form parts has = elim (written_either (Whole form parts) has) [
-    | inl in_use ↦ absurd (no_whole_used (foreign_uses files) form parts in_use)
+    | inl in_use ↦ (let t = foreign_use_of (foreign_uses files) (Whole form parts) in_use in cc t.3)
     | inr own ↦ own_whole form parts own
   ]
 
@@ -126,10 +104,10 @@ module _ (files : List PackageFile) (p : UnresolvedPackage) (legal : IsLegal fil
   same_types t j c b at there same =
       let own = known t c at in
       let other = known j b there in
-      let whose : b.owner ≡ c.owner = sym other.whose ∙ ap (owner_at interfaces worlds) same ∙ own.whose in
+      let whose : b.owner ≡ c.owner = sym other.whose ∙ ap (owner_at (interface_scopes files m.items) (world_scopes files m.items)) same ∙ own.whose in
       sym other.names ∙ ap (names_of p) whose ∙ own.names
 
-  pub are_present : (t : ℕ) (c : DoneScope) → slice_get cs t ≡ Some c → AreNames ks c.address (env_of c.types)
+  pub are_present : (t : ℕ) (c : DoneScope) → slice_get cs t ≡ Some c → AreNames (keys m.seen) c.address (env_of c.types)
   are_present t c at = record {
     present = λ name id found. (let k = lookup-place c.types name id found in (known t c at).types.places k.0 name id k.1);
     has = λ j name key. (

@@ -1,9 +1,15 @@
 -- At each address of a package is a scope that it knows by its place.
-use Rattle.std.proofs.Common.{◌≡◌, ℕ, ◌+◌, List, [], length, Option, Some, None, inl, inr, refl, sym, ap, ◌∙◌, subst, arith}
-use Rattle.wit_syntax.proofs.Common.{Address, IsLegal, Item, PackageFile, SourceFunction, TypeOwner, about, address, at_back, at_prefix, at_split, flat_map, flat_map_at, foreign_interfaces, foreign_worlds, functions_items, includes, inline_interface, inline_items, interfaces_of, item_name, length-map, map, option_or, side_items, slice_get, visited, worlds_of}
-use Rattle.wit_arena.proofs.Common.{Makes, UnresolvedPackage, World, foreign_interface, interface_address, interface_scopes, interfaces_sort, keys, names_in_turn, own_interface, own_interfaces, own_world, world_address, world_functions, world_scopes, world_types, worlds_sort}
+use Rattle.std.proofs.Common.{◌≡◌, ℕ, ◌+◌, List, length, Some, None, inl, inr, refl, sym, ap, ◌∙◌, eqb-true, eq-eqb, [], Option, subst, arith}
+use Rattle.wit_syntax.proofs.Common.{Address, InlineAt, IsLegal, Item, PackageFile, WorldSide, about, address, find_at, find_passes, find_some, flat_map, flat_map_at, flat_map_has, foreign_worlds, includes, inline_inside, inline_items, inline_items_at, interfaces_on, is_inside, item_name, map, nat_eq, option_map, side_items, slice_get, take, visited, worlds_of, SourceFunction, TypeOwner, at_back, at_prefix, at_split, foreign_interfaces, functions_items, inline_interface, interfaces_of, length-map, option_or, option_map_or}
+use Rattle.wit_arena.proofs.Common.{Makes, UnresolvedPackage, World, foreign_world, interface_scopes, names_in_turn, own_world, world_scopes, world_types, foreign_interface, interface_address, interfaces_sort, keys, own_interface, own_interfaces, world_address, world_functions, worlds_sort}
+use Rattle.wit_arena.specs.UnfoldedTypes.{world_interfaces, inline_owner}
+use Rattle.wit_arena.proofs.InlineOwners.{IsInlineEntry, world_entries, world_entry}
+use Rattle.wit_parser.proofs.Images.{images_at}
+use Rattle.wit_parser.proofs.KnownScopes.{own_world_at, HasScope, named_world-label, interface_owner, world_owner, own_interface_at, foreign_interface_known, foreign_world_known, own_interface_known}
+use Rattle.wit_parser.proofs.PartsOrders.{no_two, are_interfaces, interface_listed, ord, world_item, world_listed}
+use Rattle.wit_parser.proofs.PartsWorlds.{world_sides, world_typed}
+use Rattle.wit_arena.proofs.Places.{same_some}
 use Rattle.wit_types.specs.declared.types.TypeOwner.TheVariants as owner
-use Rattle.wit_arena.specs.UnfoldedTypes.{inline_owner}
 use Rattle.wit_arena.proofs.Deps.{foreign_interface-none}
 use Rattle.wit_arena.proofs.FreeNames.{AreStated}
 use Rattle.wit_arena.proofs.Interfaces.{declared_called, world_owner_at}
@@ -11,27 +17,71 @@ use Rattle.wit_arena.proofs.KnownItems.{functions_apart, functions_are, turn_is}
 use Rattle.wit_arena.proofs.Prefix.{interface_scope, world_scope}
 use Rattle.wit_arena.proofs.ScopesInTurn.{laid_scope}
 use Rattle.wit_arena.proofs.Stating.{stated_settled}
-use Rattle.wit_parser.proofs.Images.{images_at}
-use Rattle.wit_parser.proofs.KnownInline.{inline_known, written_at}
-use Rattle.wit_parser.proofs.KnownScopes.{HasScope, named_world-label, interface_owner, world_owner, world_names, world_states, own_interface_at, own_world_at, foreign_interface_known, foreign_world_known, own_interface_known}
-use Rattle.wit_parser.proofs.PartsOrders.{are_interfaces, interface_listed, no_two, ord, world_item, world_listed}
-use Rattle.wit_parser.proofs.PartsWorlds.{world_sides, world_typed}
+
+-- it is written in a world at a place, and has no name
+pub record IsWrittenAt (w i : Item) : Type 0 where
+  pub side : WorldSide
+  pub place : ℕ
+  pub present : address i ≡ InlineAt (item_name w) side place
+  pub unnamed : (about i.declared).called ≡ None
+
+pub written_at : (w : Item) (k : ℕ) (i : Item) → slice_get (inline_items w) k ≡ Some i → IsWrittenAt w i
+written_at w k i at =
+    let it = inline_items_at w k i at in
+    record {
+      side = it.x.side;
+      place = length (interfaces_on it.x.side (take it.place (side_items w)));
+      present = ap address (sym it.is);
+      unnamed = ap (λ (v : Item). (about v.declared).called) (sym it.is);
+    }
 
 module _ (files : List PackageFile) (p : UnresolvedPackage) (legal : IsLegal files) (m : Makes files p) where
   abbrev interfaces : List Address
   interfaces = interface_scopes files m.items
 
-  abbrev worlds : List Address
-  worlds = world_scopes files m.items
+  abbrev made_world : Item → World
+  made_world w = own_world m.id m.order interfaces (world_scopes files m.items) w
 
+  -- each entry of an interface on a side means it, or for one that is written in no world
+  of_world : (k : ℕ) (w : Item) → slice_get (worlds_of m.items) k ≡ Some w → (j : ℕ) (e : ℕ × Address) → slice_get (world_interfaces (made_world w)) j ≡ Some e → IsInlineEntry interfaces e
+  of_world k w at j e there =
+      let s = world_sides files p legal m k w at in
+      world_entries interfaces w (made_world w) refl (names_in_turn m.order w) (world_types (made_world w)) (includes w) s.imports.0 s.exports.0 s.imports.2 s.exports.2 s.functions s.imports.1 s.exports.1 j e there
+
+  all_listed : (j : ℕ) (e : ℕ × Address) → slice_get (flat_map world_interfaces p.worlds) j ≡ Some e → IsInlineEntry interfaces e
+  all_listed j e at =
+      let it = flat_map_at world_interfaces p.worlds j e at in
+      images_at foreign_world made_world (foreign_worlds files) (worlds_of m.items) p.worlds m.worlds (λ (k : ℕ) (w : World). slice_get (world_interfaces w) it.3.0 ≡ Some e → IsInlineEntry interfaces e) (λ k v v_at some. cc some) (λ k w w_at. of_world k w w_at it.3.0 e) it.0 it.1 it.2 it.3.1
+
+  -- each that is written in a world has one
+  has_listed : (k : ℕ) (w : Item) (n : ℕ) (i : Item) → slice_get (worlds_of m.items) k ≡ Some w → slice_get (inline_items w) n ≡ Some i → (j : ℕ) × (place : ℕ) × (slice_get (flat_map world_interfaces p.worlds) j ≡ Some (place, address i)) × (slice_get interfaces place ≡ Some (address i))
+  has_listed k w n i at inside =
+      let s = world_sides files p legal m k w at in
+      let spot = written_at w n i inside in
+      let it = world_entry interfaces w (made_world w) refl (names_in_turn m.order w) (world_types (made_world w)) (includes w) s.imports.0 s.exports.0 s.imports.2 s.exports.2 s.functions s.imports.1 s.exports.1 n i spot.side spot.place inside spot.present in
+      let q = flat_map_has world_interfaces p.worlds (length (map visited (foreign_worlds files)) + k) it.0 (made_world w) (it.1, address i) (own_world_at files p legal m k w at) it.2 in
+      (q.0, it.1, q.1, it.3)
+
+  -- so the package knows it by its place
+  pub inline_known : (k : ℕ) (w : Item) (n : ℕ) (i : Item) (place : ℕ) → slice_get (worlds_of m.items) k ≡ Some w → slice_get (inline_items w) n ≡ Some i → slice_get interfaces place ≡ Some (address i) → inline_owner p place ≡ Some (address i)
+  inline_known k w n i place at inside present =
+      let test = λ (e : ℕ × Address). nat_eq e.0 place in
+      let it = has_listed k w n i at inside in
+      let same : it.1 ≡ place = (no_two files p legal m).interfaces.differ it.1 place (address i) it.3 present in
+      let found = find_some test (flat_map world_interfaces p.worlds) it.0 (it.1, address i) it.2 (eq-eqb it.1 place same) in
+      let there = find_at test (flat_map world_interfaces p.worlds) found.0 found.1 in
+      let here : found.0.0 ≡ place = eqb-true found.0.0 place (find_passes test (flat_map world_interfaces p.worlds) found.0 found.1) in
+      elim (all_listed there.0 found.0 there.1) [
+        | inl own ↦ ap (option_map (λ (x : ℕ × Address). x.1)) found.1 ∙ sym own ∙ ap (slice_get interfaces) here ∙ present
+        | inr other ↦ cc (sym other.2 ∙ ap is_inside (same_some (sym other.1 ∙ ap (slice_get interfaces) here ∙ present)) ∙ inline_inside w n i inside)
+      ]
+
+module _ (files : List PackageFile) (p : UnresolvedPackage) (legal : IsLegal files) (m : Makes files p) where
   abbrev ss : List Address
   ss = map visited (foreign_interfaces files)
 
-  abbrev others : List Address
-  others = map visited (foreign_worlds files)
-
   abbrev Has : TypeOwner → Address → Type 0
-  Has o s = HasScope files p (keys m.seen) interfaces worlds o s
+  Has o s = HasScope files p (keys m.seen) (interface_scopes files m.items) (world_scopes files m.items) o s
 
   -- a declared interface goes by its name
   declared : (k : ℕ) (i : Item) → slice_get (interfaces_of m.items) k ≡ Some i → Has (owner.Interface (length ss + k)) (address i)
@@ -63,8 +113,8 @@ module _ (files : List PackageFile) (p : UnresolvedPackage) (legal : IsLegal fil
     | inr inside ↦ subst (λ (n : ℕ). Has (owner.Interface (length ss + n)) (address i)) (sym inside.1) (written inside.0 i inside.2)
   ]
 
-  pub has_interface : (t : ℕ) (s : Address) → slice_get interfaces t ≡ Some s → Has (owner.Interface t) s
-  has_interface = images_at visited address (foreign_interfaces files) (own_interfaces m.items) interfaces refl (λ t. Has (owner.Interface t)) (λ t v at. record {
+  pub has_interface : (t : ℕ) (s : Address) → slice_get (interface_scopes files m.items) t ≡ Some s → Has (owner.Interface t) s
+  has_interface = images_at visited address (foreign_interfaces files) (own_interfaces m.items) (interface_scopes files m.items) refl (λ t. Has (owner.Interface t)) (λ t v at. record {
     scope = interface_scope files t v (foreign_interface files m.id v);
     address = refl;
     owner = refl;
@@ -72,33 +122,33 @@ module _ (files : List PackageFile) (p : UnresolvedPackage) (legal : IsLegal fil
   }) own_has
 
   -- and each world
-  own_world_known : (k : ℕ) (w : Item) → slice_get (worlds_of m.items) k ≡ Some w → Has (owner.World (length others + k)) (address w)
+  own_world_known : (k : ℕ) (w : Item) → slice_get (worlds_of m.items) k ≡ Some w → Has (owner.World (length (map visited (foreign_worlds files)) + k)) (address w)
   own_world_known k w at =
-      let place = length others + k in
+      let place = length (map visited (foreign_worlds files)) + k in
       let o = ord files p legal m w in
-      let x : World = own_world m.id m.order interfaces worlds w in
+      let x : World = own_world m.id m.order (interface_scopes files m.items) (world_scopes files m.items) w in
       let it = world_item files p legal m k w at in
       let typed = world_typed files p legal m k w at in
       let s = world_sides files p legal m k w at in
       let here = own_world_at files p legal m k w at in
       let id = (about w.declared).id in
       let sort = (worlds_sort m.items).each k w at in
-      let stated = subst (λ (l : List SourceFunction). AreStated l s.functions (world_functions x)) (sym (functions_items w)) (stated_settled interfaces w.top (names_in_turn m.order w) (world_types x) (side_items w) s.functions (map address (inline_items w)) (includes w) s.imports.0 s.exports.0 x s.imports.2 s.exports.2 s.imports.1 s.exports.1) in
+      let stated = subst (λ (l : List SourceFunction). AreStated l s.functions (world_functions x)) (sym (functions_items w)) (stated_settled (interface_scopes files m.items) w.top (names_in_turn m.order w) (world_types x) (side_items w) s.functions (map address (inline_items w)) (includes w) s.imports.0 s.exports.0 x s.imports.2 s.exports.2 s.imports.1 s.exports.1) in
       record {
         scope = laid_scope (owner.World place) o (world_types x) s.functions (world_functions x) [];
         address = refl;
         owner = refl;
         known = record {
           done = record { turn = turn_is files legal o it; listed = typed.names; functions = sym (functions_are files legal o it); stated = stated };
-          whose = world_owner_at interfaces worlds (no_two files p legal m) place (address w) (world_listed files p legal m k w at);
+          whose = world_owner_at (interface_scopes files m.items) (world_scopes files m.items) (no_two files p legal m) place (address w) (world_listed files p legal m k w at);
           types = typed;
           made = s.are;
           apart = functions_apart files legal o it;
           called = world_owner p place x id.name.now here refl ∙ named_world-label p place id.name.now id.label ∙ ap (λ (a : Address). Some a) (sym (world_address w sort));
-          names = world_names p place x here;
-          stated = world_states p place x here;
+          names = ap (λ (o : Option World). option_map_or world_types o []) here;
+          stated = ap (λ (o : Option World). option_map_or world_functions o []) here;
         };
       }
 
-  pub has_world : (t : ℕ) (s : Address) → slice_get worlds t ≡ Some s → Has (owner.World t) s
-  has_world = images_at visited address (foreign_worlds files) (worlds_of m.items) worlds refl (λ t. Has (owner.World t)) (λ t v at. record { scope = world_scope t v; address = refl; owner = refl; known = foreign_world_known files p legal m t v at }) own_world_known
+  pub has_world : (t : ℕ) (s : Address) → slice_get (world_scopes files m.items) t ≡ Some s → Has (owner.World t) s
+  has_world = images_at visited address (foreign_worlds files) (worlds_of m.items) (world_scopes files m.items) refl (λ t. Has (owner.World t)) (λ t v at. record { scope = world_scope t v; address = refl; owner = refl; known = foreign_world_known files p legal m t v at }) own_world_known

@@ -1,7 +1,11 @@
 -- The scopes of a package: each has its names in turn and its functions, and the package knows it by an owner.
-use Rattle.std.proofs.Common.{◌≡◌, ℕ, ◌+◌, true, false, List, [], ◌∷◌, length, Option, Some, None, refl, sym, ap, ◌∙◌}
-use Rattle.wit_syntax.proofs.Common.{Address, AllDiffer, ForeignVisit, IsLegal, Item, PackageFile, TypeOwner, WorldNamed, address, differ_none, foreign_interfaces, foreign_worlds, function_key, functions, functions_imported, is_label, is_world, map, option_and_then, option_map_or, option_or, slice_get, visited, worlds_of}
-use Rattle.wit_arena.proofs.Common.{AreFunctions, HasTypes, Interface, Key, Makes, UnresolvedPackage, World, foreign_interface, foreign_world, functions_of, interface_functions, interface_scopes, keys, names_of, own_interface, own_interfaces, own_world, owner_at, owner_of, uses_lead, world_functions, world_scopes, world_types}
+use Rattle.std.proofs.Common.{◌≡◌, ℕ, List, Some, refl, sym, ap, ◌+◌, true, false, [], ◌∷◌, length, Option, None, ◌∙◌}
+use Rattle.wit_syntax.proofs.Common.{ForeignVisit, IsLegal, Item, PackageFile, address, functions, map, map_map, slice_get, Address, AllDiffer, TypeOwner, WorldNamed, differ_none, foreign_interfaces, foreign_worlds, function_key, functions_imported, is_label, is_world, option_and_then, option_map_or, option_or, visited, worlds_of}
+use Rattle.wit_arena.proofs.Common.{IsForeignInterface, IsResolvedInterface, Makes, UnresolvedPackage, by_name, foreign_interface, foreign_turned, function_in, keys, own_interface, own_interfaces, placed, turned, AreFunctions, HasTypes, Interface, Key, World, foreign_world, functions_of, interface_functions, interface_scopes, names_of, own_world, owner_at, owner_of, uses_lead, world_functions, world_scopes, world_types}
+use Rattle.wit_parser.proofs.PartsKeys.{foreign_seen, interface_seen}
+use Rattle.wit_parser.proofs.PartsOrders.{ord, interface_item, interface_listed, no_two}
+use Rattle.wit_parser.proofs.PartsPlaces.{functions_in-are, name_places-are}
+use Rattle.wit_parser.proofs.PartsSeen.{made_places}
 use Rattle.wit_types.specs.declared.types.TypeOwner.TheVariants as owner
 use Rattle.wit_arena.specs.UnfoldedTypes.{inline_owner, named_interface, named_world}
 use Rattle.wit_arena.proofs.Deps.{foreign_interface_owner, foreign_world_owner}
@@ -12,8 +16,21 @@ use Rattle.wit_arena.proofs.ScopesInTurn.{laid_scope}
 use Rattle.wit_arena.proofs.Members.{DoneScope, turn_of, IsDoneScope}
 use Rattle.wit_arena.proofs.Stating.{stated_placed}
 use Rattle.wit_parser.proofs.Images.{first_at, second_at}
-use Rattle.wit_parser.proofs.PartsInterfaces.{foreign_interface-is, own_interface-is}
-use Rattle.wit_parser.proofs.PartsOrders.{interface_item, interface_listed, no_two, ord}
+
+module _ (files : List PackageFile) (p : UnresolvedPackage) (legal : IsLegal files) (m : Makes files p) where
+  pub foreign_interface-is : (v : ForeignVisit) → IsForeignInterface files (keys m.seen) v (foreign_interface files m.id v)
+  foreign_interface-is v = ((refl, refl, refl, refl, refl, refl), name_places-are m.id (keys m.seen) (made_places files p legal m) (foreign_turned files v) (foreign_seen files p legal m v), refl)
+
+  pub own_interface-is : (k : ℕ) (i : Item) → slice_get (own_interfaces m.items) k ≡ Some i → IsResolvedInterface (keys m.seen) (ord files p legal m i) (own_interface m.id m.order i)
+  own_interface-is k i at =
+      let places = made_places files p legal m in
+      let it = interface_seen files p legal m k i at in
+      let fns = functions i in
+      record {
+        says = (refl, refl, refl, refl, refl, refl);
+        types = name_places-are m.id (keys m.seen) places (turned (ord files p legal m i)) it.names;
+        functions = (map (function_in m.id (address i)) fns, functions_in-are m.id (keys m.seen) places (address i) fns it.functions, ap (placed Some) (sym (map_map by_name (function_in m.id (address i)) fns)));
+      }
 
 -- a scope that is done, and that the package knows by its owner, where the interfaces have these addresses and the worlds those
 pub record IsKnown (files : List PackageFile) (p : UnresolvedPackage) (ks : List Key) (interfaces worlds : List Address) (c : DoneScope) : Type 0 where
@@ -43,25 +60,10 @@ module _ (p : UnresolvedPackage) (t : ℕ) where
   pub interface_owner : (i : Interface) (name : Option (List ℕ)) → slice_get p.interfaces t ≡ Some i → i.name ≡ name → owner_of p (owner.Interface t) ≡ named_interface p t name
   interface_owner i name at is = ap (λ (o : Option Interface). option_and_then (λ (x : Interface). named_interface p t x.name) o) at ∙ ap (named_interface p t) is
 
-  interface_names : (i : Interface) → slice_get p.interfaces t ≡ Some i → names_of p (owner.Interface t) ≡ i.types
-  interface_names i at = ap (λ (o : Option Interface). option_map_or (λ (x : Interface). x.types) o []) at
-
-  interface_states : (i : Interface) → slice_get p.interfaces t ≡ Some i → functions_of p (owner.Interface t) ≡ interface_functions i
-  interface_states i at = ap (λ (o : Option Interface). option_map_or interface_functions o []) at
-
   pub world_owner : (w : World) (name : List ℕ) → slice_get p.worlds t ≡ Some w → w.name ≡ name → owner_of p (owner.World t) ≡ named_world p t name
   world_owner w name at is = ap (λ (o : Option World). option_and_then (λ (x : World). named_world p t x.name) o) at ∙ ap (named_world p t) is
 
-  pub world_names : (w : World) → slice_get p.worlds t ≡ Some w → names_of p (owner.World t) ≡ world_types w
-  world_names w at = ap (λ (o : Option World). option_map_or world_types o []) at
-
-  pub world_states : (w : World) → slice_get p.worlds t ≡ Some w → functions_of p (owner.World t) ≡ world_functions w
-  world_states w at = ap (λ (o : Option World). option_map_or world_functions o []) at
-
 module _ (files : List PackageFile) (p : UnresolvedPackage) (legal : IsLegal files) (m : Makes files p) where
-  abbrev ks : List Key
-  ks = keys m.seen
-
   abbrev interfaces : List Address
   interfaces = interface_scopes files m.items
 
@@ -71,20 +73,17 @@ module _ (files : List PackageFile) (p : UnresolvedPackage) (legal : IsLegal fil
   abbrev ss : List Address
   ss = map visited (foreign_interfaces files)
 
-  abbrev others : List Address
-  others = map visited (foreign_worlds files)
-
   abbrev Known : DoneScope → Type 0
-  Known c = IsKnown files p ks interfaces worlds c
+  Known c = IsKnown files p (keys m.seen) interfaces worlds c
 
   abbrev Has : TypeOwner → Address → Type 0
-  Has o s = HasScope files p ks interfaces worlds o s
+  Has o s = HasScope files p (keys m.seen) interfaces worlds o s
 
   -- the entries of the files come after those of other packages
   pub own_interface_at : (k : ℕ) (i : Item) → slice_get (own_interfaces m.items) k ≡ Some i → slice_get p.interfaces (length ss + k) ≡ Some (own_interface m.id m.order i)
   own_interface_at = second_at (foreign_interface files m.id) (own_interface m.id m.order) (foreign_interfaces files) (own_interfaces m.items) p.interfaces m.interfaces visited
 
-  pub own_world_at : (k : ℕ) (w : Item) → slice_get (worlds_of m.items) k ≡ Some w → slice_get p.worlds (length others + k) ≡ Some (own_world m.id m.order interfaces worlds w)
+  pub own_world_at : (k : ℕ) (w : Item) → slice_get (worlds_of m.items) k ≡ Some w → slice_get p.worlds (length (map visited (foreign_worlds files)) + k) ≡ Some (own_world m.id m.order interfaces worlds w)
   own_world_at = second_at foreign_world (own_world m.id m.order interfaces worlds) (foreign_worlds files) (worlds_of m.items) p.worlds m.worlds visited
 
   -- the scope of an interface of another package, and of a world
@@ -95,14 +94,14 @@ module _ (files : List PackageFile) (p : UnresolvedPackage) (legal : IsLegal fil
       let present = first_at visited address (foreign_interfaces files) (own_interfaces m.items) interfaces refl t v at in
       let here = first_at (foreign_interface files m.id) (own_interface m.id m.order) (foreign_interfaces files) (own_interfaces m.items) p.interfaces m.interfaces t v at in
       record {
-        done = prefix_interface_done files ks t v i is;
+        done = prefix_interface_done files (keys m.seen) t v i is;
         whose = interface_owner_at interfaces worlds (no_two files p legal m) t (visited v) present;
         types = is.1;
-        made = no_functions ks (visited v);
+        made = no_functions (keys m.seen) (visited v);
         apart = differ_none;
         called = interface_owner p t i None here refl ∙ ap (λ (x : Option Address). option_or x (inline_owner p t)) (foreign_interface_owner files p m.deps t v at);
-        names = interface_names p t i here;
-        stated = interface_states p t i here;
+        names = ap (λ (o : Option Interface). option_map_or (λ (x : Interface). x.types) o []) here;
+        stated = ap (λ (o : Option Interface). option_map_or interface_functions o []) here;
       }
 
   pub foreign_world_known : (t : ℕ) (v : ForeignVisit) → slice_get (foreign_worlds files) t ≡ Some v → Known (world_scope t v)
@@ -114,11 +113,11 @@ module _ (files : List PackageFile) (p : UnresolvedPackage) (legal : IsLegal fil
         done = prefix_world_done files (uses_lead files legal) t v at;
         whose = world_owner_at interfaces worlds (no_two files p legal m) t (visited v) present;
         types = record { names = refl; places = λ k name id k_at. absurd (let f : ⊥ = cc in f) };
-        made = no_functions ks (visited v);
+        made = no_functions (keys m.seen) (visited v);
         apart = differ_none;
         called = world_owner p t w [] here refl ∙ foreign_world_owner files p m.deps t v at;
-        names = world_names p t w here;
-        stated = world_states p t w here;
+        names = ap (λ (o : Option World). option_map_or world_types o []) here;
+        stated = ap (λ (o : Option World). option_map_or world_functions o []) here;
       }
 
   -- the scope of an interface of the files, where the package calls it by its address
@@ -140,7 +139,7 @@ module _ (files : List PackageFile) (p : UnresolvedPackage) (legal : IsLegal fil
           made = is.functions.1;
           apart = functions_apart files legal o it;
           called = called;
-          names = interface_names p (length ss + k) x here;
-          stated = interface_states p (length ss + k) x here;
+          names = ap (λ (o : Option Interface). option_map_or (λ (x : Interface). x.types) o []) here;
+          stated = ap (λ (o : Option Interface). option_map_or interface_functions o []) here;
         };
       }

@@ -1,7 +1,7 @@
 -- The scopes of a package are those that its interfaces and worlds are resolved as, one after another.
 use Rattle.std.proofs.Common.{◌≡◌, ℕ, zero, suc, ◌+◌, List, [], ◌∷◌, ◌++◌, length, Some, inl, inr, refl, ap, ◌∙◌, subst}
 use Rattle.wit_syntax.proofs.Common.{Address, IsLegal, Item, PackageFile, ScopeName, SideFunction, SideInline, SideItem, SideLink, SourceFunction, TypeOwner, address, after_one, at_back, at_part, at_prefix, flat_map, flat_map_at, flat_map_has, foreign_interfaces, foreign_worlds, functions, functions_items, inline_items, interfaces_of, item_function, map, map_at, scope, side_items, slice_get, visited, worlds_of}
-use Rattle.wit_arena.proofs.Common.{IsItem, Key, Makes, Turned, UnresolvedPackage, interface_scopes, interface_turn, item_turns, keys, names_in_turn, names_turn, own_interfaces, turns_of_world, turns_on_sides, world_scopes}
+use Rattle.wit_arena.proofs.Common.{IsItem, Makes, Turned, UnresolvedPackage, interface_scopes, interface_turn, item_turns, keys, names_in_turn, names_turn, own_interfaces, turns_of_world, turns_on_sides, world_scopes}
 use Rattle.wit_types.specs.declared.types.TypeOwner.TheVariants as owner
 use Rattle.wit_arena.specs.Whole.{functions_at}
 use Rattle.wit_arena.proofs.Faithful.{IsOwnerOf}
@@ -55,7 +55,7 @@ function_part cs t j g there h = record { place = h.place; resolved_scope = h.re
     only (suc k) fn at = absurd (let f : ⊥ = cc in f)
 
 -- what holds of functions and of interfaces that are written in a world holds of all that is on its sides
-side_parts : (P : Turned → Type 0) (order : Address → List ℕ) (s : Address) (xs : List SideItem) (is : List Item) → ((k : ℕ) (fn : SourceFunction) → slice_get (flat_map item_function xs) k ≡ Some fn → P (function_turn s fn)) → ((k : ℕ) (i : Item) → slice_get is k ≡ Some i → P (interface_turn order i)) → (k : ℕ) (t : Turned) → slice_get (turns_on_sides order s xs is) k ≡ Some t → P t
+side_parts : (P : Turned → Type 0) (order : Item → List ℕ) (s : Address) (xs : List SideItem) (is : List Item) → ((k : ℕ) (fn : SourceFunction) → slice_get (flat_map item_function xs) k ≡ Some fn → P (function_turn s fn)) → ((k : ℕ) (i : Item) → slice_get is k ≡ Some i → P (interface_turn order i)) → (k : ℕ) (t : Turned) → slice_get (turns_on_sides order s xs is) k ≡ Some t → P t
 side_parts P order s [] is fns inner k t at = absurd (let f : ⊥ = cc in f)
 side_parts P order s (SideFunction fn ∷ xs) is fns inner zero t at = subst P (let same : function_turn s fn ≡ t = cc in same) (fns 0 fn refl)
 side_parts P order s (SideFunction fn ∷ xs) is fns inner (suc k) t at = side_parts P order s xs is (λ j. fns (suc j)) inner k t at
@@ -65,27 +65,18 @@ side_parts P order s (SideInline x name items ∷ xs) (i ∷ is) fns inner zero 
 side_parts P order s (SideInline x name items ∷ xs) (i ∷ is) fns inner (suc k) t at = side_parts P order s xs is fns (λ j. inner (suc j)) k t at
 
 module _ (files : List PackageFile) (p : UnresolvedPackage) (legal : IsLegal files) (m : Makes files p) where
-  abbrev ks : List Key
-  ks = keys m.seen
-
-  abbrev interfaces : List Address
-  interfaces = interface_scopes files m.items
-
-  abbrev worlds : List Address
-  worlds = world_scopes files m.items
-
   abbrev pub Known : DoneScope → Type 0
-  Known c = IsKnown files p ks interfaces worlds c
+  Known c = IsKnown files p (keys m.seen) (interface_scopes files m.items) (world_scopes files m.items) c
 
   abbrev pub KnownAs : (ℕ → TypeOwner) → ℕ → Address → DoneScope → Type 0
   KnownAs of k s c = (c.address ≡ s) × (c.owner ≡ of k) × Known c
 
   -- the scopes at the addresses of interfaces, and at those of worlds
-  pub of_interfaces : AreChosen (KnownAs owner.Interface) interfaces
-  of_interfaces = chosen (KnownAs owner.Interface) interfaces (λ k s at. (let it = has_interface files p legal m k s at in (it.scope, (it.address, it.owner, it.known))))
+  pub of_interfaces : AreChosen (KnownAs owner.Interface) (interface_scopes files m.items)
+  of_interfaces = chosen (KnownAs owner.Interface) (interface_scopes files m.items) (λ k s at. (let it = has_interface files p legal m k s at in (it.scope, (it.address, it.owner, it.known))))
 
-  pub of_worlds : AreChosen (KnownAs owner.World) worlds
-  of_worlds = chosen (KnownAs owner.World) worlds (λ k s at. (let it = has_world files p legal m k s at in (it.scope, (it.address, it.owner, it.known))))
+  pub of_worlds : AreChosen (KnownAs owner.World) (world_scopes files m.items)
+  of_worlds = chosen (KnownAs owner.World) (world_scopes files m.items) (λ k s at. (let it = has_world files p legal m k s at in (it.scope, (it.address, it.owner, it.known))))
 
   abbrev pub scopes : List DoneScope
   scopes = of_interfaces.all ++ of_worlds.all
@@ -96,10 +87,10 @@ module _ (files : List PackageFile) (p : UnresolvedPackage) (legal : IsLegal fil
     | inr b ↦ (of_worlds.at b.0 c b.1).1.2
   ]
 
-  pub interface_resolved_scope : (t : ℕ) (s : Address) → slice_get interfaces t ≡ Some s → IsOwnerOf scopes (owner.Interface t) s
+  pub interface_resolved_scope : (t : ℕ) (s : Address) → slice_get (interface_scopes files m.items) t ≡ Some s → IsOwnerOf scopes (owner.Interface t) s
   interface_resolved_scope t s at = let c = of_interfaces.has t s at in record { place = t; resolved_scope = c.0; at = at_prefix of_interfaces.all of_worlds.all t c.0 c.1; whose = c.2.1; scope = c.2.0 }
 
-  pub world_resolved_scope : (t : ℕ) (s : Address) → slice_get worlds t ≡ Some s → IsOwnerOf scopes (owner.World t) s
+  pub world_resolved_scope : (t : ℕ) (s : Address) → slice_get (world_scopes files m.items) t ≡ Some s → IsOwnerOf scopes (owner.World t) s
   world_resolved_scope t s at = let c = of_worlds.has t s at in record { place = length of_interfaces.all + t; resolved_scope = c.0; at = at_back of_interfaces.all of_worlds.all t c.0 c.1; whose = c.2.1; scope = c.2.0 }
 
   -- an item is resolved as the scope at its address

@@ -3,13 +3,10 @@ use Rattle.std.proofs.Common.{◌≡◌, ℕ, true, false, List, [], ◌∷◌, 
 use Rattle.wit_syntax.proofs.Common.{PackageFile, at_either, at_prefix, at_seam, is_some, last_header, last_header-append, option_and_then, option_or, slice_get}
 use Rattle.wit_tree.specs.declared.tree.PackageName.{PackageName as Header}
 use Rattle.wit_items.specs.FileHeaders.{header_at}
+use Rattle.wit_arena.proofs.Common.{option_cases}
 
 abbrev of_file : Option PackageFile → Option Header
 of_file o = option_and_then (λ (f : PackageFile). f.package_id) o
-
-option_cases : {X : Type 0} (o : Option X) (R : Type 0) → ((x : X) → o ≡ Some x → R) → (o ≡ None → R) → R
-option_cases None R some none = none refl
-option_cases (Some x) R some none = some x refl
 
 pub some_is : (o : Option Header) → is_some o ≡ true → (h : Header) × (o ≡ Some h)
 some_is None h = absurd (let f : ⊥ = cc in f)
@@ -31,7 +28,7 @@ header_kept fs f last own is =
     (λ g at. ap of_file (at_prefix fs (f ∷ []) last g at) ∙ sym (ap of_file at) ∙ is ∙ sym goal)
     (λ none. option_cases (slice_get (fs ++ f ∷ []) last) (header_at (fs ++ f ∷ []) last ≡ last_header (fs ++ f ∷ []))
     (λ g at. elim (at_either fs f last g at) [
-      | inl old ↦ absurd (let wrong : None ≡ Some g = sym none ∙ old in let x : ⊥ = cc in x)
+      | inl old ↦ cc (sym none ∙ old)
       | inr new ↦ ap of_file at ∙ ap (λ (x : PackageFile). x.package_id) new.1 ∙ own ∙ sym (ap of_file none) ∙ is ∙ sym goal
     ])
     (λ free. ap of_file free ∙ sym (ap of_file none) ∙ is ∙ sym goal))

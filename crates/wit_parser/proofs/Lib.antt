@@ -1,7 +1,8 @@
 mod LastHeader
-mod WrittenMarks
+mod SamePackage
 mod Images
 mod EachMade
+mod WrittenMarks
 mod FunctionMarks
 mod TypeIds
 mod PartsPlaces
@@ -12,12 +13,9 @@ mod PartsTurns
 mod PartsItems
 mod PartsOrders
 mod PartsSeen
-mod PartsFunctions
-mod PartsInterfaces
 mod PartsWorlds
 mod PartsKeys
 mod KnownScopes
-mod KnownInline
 mod KnownOwners
 mod KnownTurns
 mod KnownMembers

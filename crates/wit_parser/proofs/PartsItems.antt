@@ -1,10 +1,10 @@
 -- What occurs in all items of files occurs in an order in which the parts of each come before it.
 use Rattle.std.proofs.Common.{◌≡◌, ◌≤◌, ℕ, ◌+◌, zero, suc, Bool, true, false, not, List, [], ◌∷◌, ◌++◌, length, take, Option, Some, None, ◌⊎◌, inl, inr, refl, sym, ap, ◌∙◌, subst, arith, append-nil}
-use Rattle.wit_syntax.proofs.Common.{Address, AllDiffer, Attribute, Contains, ForeignNamed, InlineAt, InterfaceNamed, IsLegal, IsOrder, Item, MissingName, Names, OfFunction, OfNothing, PackageFile, ScopeName, SideFunction, SideInline, SideItem, SideLink, SourceFunction, UseName, Used, WorldNamed, address, all_declared, all_items, all_scopes, at_contains, at_within, bytes_eq, cases_Bool, find_at, find_passes, flat_map, flat_map-append, foreign_uses, function_used, functions, functions_items, in_order, in_order_at, inline_items, interfaces_of, is_foreign, is_world, item_at, item_function, item_name, item_rows, kept_at, kept_early, kept_has, kept_next, kept_past, local_name, map, meaning, missing_at, name_equal, name_word, option_map, role_names, scope, scope_item_at, scope_names, side_items, slice_get, slice_get-map, take_all, with_inline, worlds_of}
-use Rattle.wit_arena.proofs.Common.{AreNamesInOrder, Def, Has, IsForeignUse, IsItem, Key, Occurrence, Ordered, Turned, all_function_occurrences, distinct_items, foreign_use_occurrence, interface_turn, item_index, item_turns, items_within, keys, name_exprs, name_occurrences, named_found, ordered_names, own_interface_address, scope_among, turn_occurrences, turns_of_world, turns_on_sides, used_before, used_interface, used_name_at, uses_lead}
+use Rattle.wit_syntax.proofs.Common.{Address, AllDiffer, Attribute, Contains, ForeignNamed, InterfaceNamed, IsLegal, IsOrder, Item, MissingName, Names, OfFunction, OfNothing, PackageFile, ScopeName, SideFunction, SideInline, SideItem, SideLink, SourceFunction, UseName, Used, address, all_declared, all_items, all_scopes, at_contains, bytes_eq, find_at, find_passes, flat_map, flat_map-append, foreign_uses, function_used, functions, functions_items, in_order, in_order_at, inline_items, interfaces_of, is_foreign, is_world, item_at, item_function, item_name, item_rows, kept_at, kept_early, kept_has, local_name, map, meaning, missing_at, name_equal, name_word, option_map, role_names, scope, scope_item_at, scope_names, side_items, slice_get, slice_get-map, take_all, worlds_of, rows_of, not-true, flat_map-map}
+use Rattle.wit_arena.proofs.Common.{Def, Has, IsForeignUse, IsItem, Key, Occurrence, Ordered, Turned, all_function_occurrences, distinct_items, foreign_use_occurrence, interface_turn, item_index, item_turns, items_within, keys, name_exprs, name_occurrences, named_found, ordered_names, own_interface_address, scope_among, turn_occurrences, turns_of_world, turns_on_sides, used_before, used_interface, used_name_at, uses_lead}
 use Rattle.wit_parser.proofs.PartsPlaces.{AllPresent}
 use Rattle.wit_parser.proofs.PartsReady.{After, Ready, has_prefix, has_of, ready_append, functions_ready}
-use Rattle.wit_parser.proofs.PartsTurns.{UsesPresent, NamesPresent, names_seen, names_ready, signature_known, turn_names, turn_ready}
+use Rattle.wit_parser.proofs.PartsTurns.{UsesPresent, NamesPresent, names_seen, names_ready, signature_known, turn_names, turn_ready, one_at, ready_kept}
 
 -- what is in a list occurs in it
 pub has_at : (ms : List Occurrence) (i : ℕ) (m : Occurrence) → slice_get ms i ≡ Some m → Has (keys ms) m.key
@@ -19,9 +19,7 @@ no_parts files (ForeignNamed p name) x a foreign among =
     let i = at_contains (scope files s) x among in
     let it = used_name_at files s i.0 x i.1 in
     subst (λ (y : ScopeName). AllPresent a (name_exprs s y)) (sym it.4) tt
-no_parts files (InterfaceNamed name) x a foreign among = absurd (let f : ⊥ = cc in f)
-no_parts files (WorldNamed name) x a foreign among = absurd (let f : ⊥ = cc in f)
-no_parts files (InlineAt world side place) x a foreign among = absurd (let f : ⊥ = cc in f)
+no_parts files _ x a foreign among = absurd (let f : ⊥ = cc in f)
 
 -- lists of turns, one after another
 turns_ready : {X : Type 0} (names : Address → List ScopeName) (f : X → List Turned) (xs : List X) (a : Key → Type 0) → ((k : ℕ) (x : X) → slice_get xs k ≡ Some x → (b : Key → Type 0) → ((q : Key) → a q → b q) → Ready names b (flat_map turn_occurrences (f x))) → Ready names a (flat_map turn_occurrences (flat_map f xs))
@@ -31,11 +29,7 @@ turns_ready names f (x ∷ xs) a each =
     let rest = flat_map turn_occurrences (flat_map f xs) in
     subst (λ l. Ready names a l) (sym (flat_map-append turn_occurrences (f x) (flat_map f xs))) (ready_append names first rest a (each 0 x refl a (λ q p. p)) (turns_ready names f xs (After a first) (λ k y at b wider. each (suc k) y at b (λ q p. wider q (inl p)))))
 
-flat_map-map : {X Y Z : Type 0} (g : Y → List Z) (f : X → Y) (xs : List X) → flat_map g (map f xs) ≡ flat_map (λ x. g (f x)) xs
-flat_map-map g f [] = refl
-flat_map-map g f (x ∷ xs) = ap (λ l. g (f x) ++ l) (flat_map-map g f xs)
-
-module _ (files : List PackageFile) (legal : IsLegal files) (order : Address → List ℕ) (orders : AreNamesInOrder files order) where
+module _ (files : List PackageFile) (legal : IsLegal files) (order : Item → List ℕ) (orders : ((i : Item) → Contains (all_scopes files) i → IsOrder (rows_of (scope_names i)) (order i))) where
   abbrev names : Address → List ScopeName
   names = scope files
 
@@ -47,12 +41,12 @@ module _ (files : List PackageFile) (legal : IsLegal files) (order : Address →
 
   -- an item with its order
   abbrev pub own : Item → Ordered
-  own i = record { item = i; order = order (address i) }
+  own i = record { item = i; order = order i }
 
   pub found_item : (i : Item) → item_at (all_scopes files) (address i) ≡ Some i → IsItem files (own i)
   found_item i found = record { found = found; least = orders i (scope_among files legal (address i) i found) }
 
-  pub with_item : (p j : ℕ) (w i : Item) → slice_get all p ≡ Some w → slice_get (with_inline w) j ≡ Some i → IsItem files (own i)
+  pub with_item : (p j : ℕ) (w i : Item) → slice_get all p ≡ Some w → slice_get (w ∷ inline_items w) j ≡ Some i → IsItem files (own i)
   with_item p j w i at inside = found_item i (scope_item_at all w j i (all_declared files) (named_found all p w differ at) inside)
 
   pub declared_item : (p : ℕ) (w : Item) → slice_get all p ≡ Some w → IsItem files (own w)
@@ -107,23 +101,8 @@ module _ (files : List PackageFile) (legal : IsLegal files) (order : Address →
         | inr u ↦ inl (first (Def from n'.name.name.now) (foreign_known from n' u))
       ]
 
-      interfaces_one : (n p : ℕ) (w : Item) → slice_get places n ≡ Some p → slice_get all p ≡ Some w → Ready names a (flat_map interface_collects (early n)) → Ready names a (flat_map interface_collects (early (n + 1)))
-      interfaces_one n p w next at ready = elim (cases_Bool (is_world w)) [
-        | inl world ↦ subst (λ (l : List Item). Ready names a (flat_map interface_collects l)) (sym (kept_past interface_test all places n p w next at (ap not world))) ready
-        | inr other ↦ (
-            let before = flat_map interface_collects (early n) in
-            let here : Ready names (After a before) (interface_collects w) = turn_ready files legal (own w) (declared_item p w at) (After a before) (before_known n p w other next at) in
-            let last : Ready names (After a before) (interface_collects w ++ []) = subst (λ l. Ready names (After a before) l) (sym (append-nil (interface_collects w))) here in
-            subst (λ (l : List Item). Ready names a (flat_map interface_collects l)) (sym (kept_next interface_test all places n p w next at (ap not other))) (subst (λ l. Ready names a l) (sym (flat_map-append interface_collects (early n) (w ∷ []))) (ready_append names before (interface_collects w ++ []) a ready last)))
-      ]
-
       interfaces_ready : (n : ℕ) → n ≤ length places → Ready names a (flat_map interface_collects (early n))
-      interfaces_ready zero le = tt
-      interfaces_ready (suc n) le =
-          let p = at_within places n (omega (arith, le)) in
-          let w = at_within all p.0 (items_within files places least n p.0 p.1) in
-          let next : suc n ≡ n + 1 = omega arith in
-          subst (λ (m : ℕ). Ready names a (flat_map interface_collects (early m))) (sym next) (interfaces_one n p.0 w.0 p.1 w.1 (interfaces_ready n (omega (arith, le))))
+      interfaces_ready = ready_kept names interface_collects interface_test all places a (items_within files places least) (λ n p w passes next at. turn_ready files legal (own w) (declared_item p w at) (After a (flat_map interface_collects (early n))) (before_known n p w (not-true (is_world w) passes) next at))
 
     abbrev pub items : List Item
     items = in_order all places
@@ -152,12 +131,8 @@ module _ (files : List PackageFile) (legal : IsLegal files) (order : Address →
         let here = all_function_occurrences (address w) (fn ∷ []) in
         let q = among 0 fn refl in
         ready_append names here (flat_map turn_occurrences (turns_on_sides order (address w) xs is)) b (functions_ready names (address w) (fn ∷ []) b (λ k g at j x there i id is_word. (
-        let same : fn ≡ g = one_of k g at in
+        let same = one_at fn g k at in
         signature_known files legal (own w) it b known q.0 g (q.1 ∙ ap Some same) j x there i id is_word))) (sides_ready w it xs is (After b here) (λ k p. inl (wider k p)) (λ p x at. inl (known p x at)) (λ k. among (suc k)) inside)
-      where
-        one_of : (k : ℕ) (g : SourceFunction) → slice_get (fn ∷ []) k ≡ Some g → fn ≡ g
-        one_of zero g at = cc
-        one_of (suc k) g at = absurd (let f : ⊥ = cc in f)
     sides_ready w it (SideLink link ∷ xs) is b wider known among inside = sides_ready w it xs is b wider known among inside
     sides_ready w it (SideInline x name parts ∷ xs) [] b wider known among inside = sides_ready w it xs [] b wider known among inside
     sides_ready w it (SideInline x name parts ∷ xs) (i ∷ is) b wider known among inside =

@@ -1,22 +1,54 @@
 -- All that an item names occurs, and all that is taken from another package.
-use Rattle.std.proofs.Common.{◌≡◌, ℕ, zero, suc, ◌+◌, List, [], ◌∷◌, length, Some, inl, inr, refl, sym, ap, ◌∙◌, subst, arith}
-use Rattle.wit_syntax.proofs.Common.{Address, ForeignVisit, IsLegal, Item, PackageFile, ScopeName, SideFunction, SideInline, SideItem, SideLink, SourceFunction, Unknown, address, at_back, at_part, at_prefix, firsts_at, flat_map, flat_map_at, flat_map_has, foreign_uses, functions, functions_items, inline_items, interfaces_of, item_function, item_inline, length-inline_after, local_name, map, option_map, same_foreign_use, scope, side_items, signature, slice_get, slice_get-map, visited, worlds_of}
-use Rattle.wit_arena.proofs.Common.{Def, Has, IsItem, IsSeen, Key, Makes, Occurrence, Turned, UnresolvedPackage, all_function_occurrences, all_occurrences, foreign_use_occurrence, interface_turn, item_turns, keys, name_occurrences, names_in_turn, names_turn, own_interfaces, shape_occurrences, turn_occurrences, turns_of_world, turns_on_sides, used_name_at}
+use Rattle.std.proofs.Common.{◌≡◌, ℕ, zero, Some, refl, subst, suc, ◌+◌, List, [], ◌∷◌, length, inl, inr, sym, ap, ◌∙◌, arith}
+use Rattle.wit_syntax.proofs.Common.{Address, Defined, DefinitionPart, ExternPart, FunctionPart, Id, Item, Of, Part, Prim, ResourceFunc, ScopeName, Shape, SourceFunction, TypeBody, Unknown, Word, definition_functions, extern_at, flat_map, flat_map_at, flat_map_has, free_function, functions, local_name, map_at, part_functions, part_names, parts, resource_function, scope_names, signature, slice_get, words, ForeignVisit, IsLegal, PackageFile, SideFunction, SideInline, SideItem, SideLink, address, at_back, at_part, at_prefix, firsts_at, foreign_uses, functions_items, inline_items, interfaces_of, item_function, item_inline, length-inline_after, map, option_map, same_foreign_use, scope, side_items, slice_get-map, visited, worlds_of}
+use Rattle.wit_type_tree.specs.declared.types.TypeBody.TheVariants as body
+use Rattle.wit_type_tree.specs.declared.types.ResourceFunc.TheVariants as resource
+use Rattle.wit_arena.proofs.Common.{Def, Has, Key, Whole, expr_of, exprs_of, keys, shape_occurrences, shapes_occurrences, IsItem, IsSeen, Makes, Turned, UnresolvedPackage, all_function_occurrences, all_occurrences, foreign_use_occurrence, interface_turn, item_turns, name_occurrences, names_in_turn, names_turn, own_interfaces, turn_occurrences, turns_of_world, turns_on_sides, used_name_at}
+use Rattle.wit_parser.proofs.PartsPlaces.{IsPresent, RolePresent, FunctionPresent}
+use Rattle.wit_parser.proofs.PartsReady.{has_last, has_of, has_back, has_prefix}
 use Rattle.wit_arena.proofs.Turns.{function_turn as turn_of_function}
-use Rattle.wit_parser.proofs.PartsFunctions.{role_present, signature_present}
 use Rattle.wit_parser.proofs.PartsItems.{has_at}
 use Rattle.wit_parser.proofs.PartsSeen.{collects, collects_has}
 use Rattle.wit_parser.proofs.PartsOrders.{ord, declared_item, inline_item, world_item}
-use Rattle.wit_parser.proofs.PartsPlaces.{FunctionPresent}
-use Rattle.wit_parser.proofs.PartsReady.{has_back, has_prefix, has_of}
 use Rattle.wit_parser.proofs.PartsTurns.{NamesPresent, name_has, names_seen, signature_known}
 
+module _ (i : Item) (s : Address) (a : Key → Type 0) (known : (p : ℕ) (x : ScopeName) → slice_get (scope_names i) p ≡ Some x → a (Def s (local_name x))) where
+  of_resource : (r : Id) → a (Def s r.name.now) → (f : ResourceFunc) → RolePresent a s (resource_function r f).role
+  of_resource r h (resource.Method f) = h
+  of_resource r h _ = h
+
+  of_body : (r : Id) → a (Def s r.name.now) → (b : TypeBody) (j : ℕ) (fn : SourceFunction) → slice_get (definition_functions r b) j ≡ Some fn → RolePresent a s fn.role
+  of_body r h (body.Resource funcs) j fn at = let f = map_at (resource_function r) funcs.items j fn at in subst (λ (g : SourceFunction). RolePresent a s g.role) f.2 (of_resource r h f.0)
+  of_body r h _ j fn at = absurd (let f : ⊥ = cc in f)
+
+  of_part : (m : ℕ) (p : Part) → slice_get (parts i) m ≡ Some p → (j : ℕ) (fn : SourceFunction) → slice_get (part_functions p) j ≡ Some fn → RolePresent a s fn.role
+  of_part m (DefinitionPart d) there j fn at =
+      let p = flat_map_has (part_names i.top) (parts i) m 0 (DefinitionPart d) (Defined d) there refl in
+      of_body d.name (known p.0 (Defined d) p.1) d.body j fn at
+  of_part m (FunctionPart g) there zero fn at = (let same : free_function g ≡ fn = cc in subst (λ (f : SourceFunction). RolePresent a s f.role) same tt)
+  of_part m (ExternPart x) there j fn at = (let it = extern_at x x.kind j fn at in subst (λ (g : SourceFunction). RolePresent a s g.role) it.2 tt)
+  of_part m _ there j fn at = absurd (let f : ⊥ = cc in f)
+
+  -- the resource of a function is a name of its item
+  pub role_present : (k : ℕ) (fn : SourceFunction) → slice_get (functions i) k ≡ Some fn → RolePresent a s fn.role
+  role_present k fn at = let it = flat_map_at part_functions (parts i) k fn at in of_part it.0 it.1 it.2 it.3.0 fn it.3.1
+
+-- a type that is written occurs in its occurrences, where its words are known
+shape_has : (s : Address) (x : Shape) (a : Key → Type 0) → ((k : ℕ) (id : Id) → slice_get (words x) k ≡ Some id → a (Def s id.name.now)) → ((k : Key) → Has (keys (shape_occurrences s Unknown x)) k → a k) → IsPresent a (expr_of s x)
+shape_has s (Prim p) a known seen = tt
+shape_has s (Word id) a known seen = known 0 id refl
+shape_has s (Of span form parts) a known seen = seen (Whole form (exprs_of s parts)) (has_last (shapes_occurrences s Unknown parts) (record { key = Whole form (exprs_of s parts); span = span; given = Unknown }))
+
+-- and so are those of a function
+pub signature_present : (s : Address) (fn : SourceFunction) (a : Key → Type 0) → ((j : ℕ) (x : Shape) → slice_get (signature fn) j ≡ Some x → (k : ℕ) (id : Id) → slice_get (words x) k ≡ Some id → a (Def s id.name.now)) → ((k : Key) → Has (keys (flat_map (shape_occurrences s Unknown) (signature fn))) k → a k) → (j : ℕ) (x : Shape) → slice_get (signature fn) j ≡ Some x → IsPresent a (expr_of s x)
+signature_present s fn a known seen j x at = shape_has s x a (known j x at) (λ k has. seen k (has_of (shape_occurrences s Unknown) (signature fn) j x k at has))
+
 -- among some are the names of a scope in turn, and all that its functions name
-pub record ItemPresent (a : Key → Type 0) (order : Address → List ℕ) (i : Item) : Type 0 where
+pub record ItemPresent (a : Key → Type 0) (order : Item → List ℕ) (i : Item) : Type 0 where
   pub names : (k : ℕ) (x : ScopeName) → slice_get (names_in_turn order i) k ≡ Some x → a (Def (address i) (local_name x))
   pub functions : (k : ℕ) (fn : SourceFunction) → slice_get (functions i) k ≡ Some fn → FunctionPresent a (address i) fn
 
-module _ (order : Address → List ℕ) (s : Address) where
+module _ (order : Item → List ℕ) (s : Address) where
   -- a function of the sides of a world has a turn there
   function_turn : (xs : List SideItem) (is : List Item) (k : ℕ) (fn : SourceFunction) → slice_get (flat_map item_function xs) k ≡ Some fn → (j : ℕ) × (slice_get (turns_on_sides order s xs is) j ≡ Some (record { address = s; names = []; functions = fn ∷ [] }))
   function_turn [] is k fn at = absurd (let f : ⊥ = cc in f)
@@ -29,12 +61,11 @@ module _ (order : Address → List ℕ) (s : Address) where
   -- and so has an interface that is written there
   inline_turn : (xs : List SideItem) (is : List Item) → length (flat_map item_inline xs) ≡ length is → (k : ℕ) (i : Item) → slice_get is k ≡ Some i → (j : ℕ) × (slice_get (turns_on_sides order s xs is) j ≡ Some (interface_turn order i))
   inline_turn [] [] count k i at = absurd (let f : ⊥ = cc in f)
-  inline_turn [] (v ∷ is) count k i at = absurd (let f : ⊥ = omega (arith, count) in f)
   inline_turn (SideFunction g ∷ xs) is count k i at = (let it = inline_turn xs is count k i at in (suc it.0, it.1))
   inline_turn (SideLink link ∷ xs) is count k i at = inline_turn xs is count k i at
-  inline_turn (SideInline x name items ∷ xs) [] count k i at = absurd (let f : ⊥ = omega (arith, count) in f)
   inline_turn (SideInline x name items ∷ xs) (v ∷ is) count zero i at = (let same : v ≡ i = cc in (0, ap (λ (w : Item). Some (interface_turn order w)) same))
   inline_turn (SideInline x name items ∷ xs) (v ∷ is) count (suc k) i at = (let it = inline_turn xs is (omega (arith, count)) k i at in (suc it.0, it.1))
+  inline_turn _ is count k i at = absurd (let f : ⊥ = omega (arith, count) in f)
 
 -- each name of another package's interface is taken
 pub used_present : (files : List PackageFile) (a : Key → Type 0) → ((k : Key) → Has (keys (map foreign_use_occurrence (foreign_uses files))) k → a k) → (v : ForeignVisit) (k : ℕ) (x : ScopeName) → slice_get (scope files (visited v)) k ≡ Some x → a (Def (visited v) (local_name x))
@@ -44,9 +75,8 @@ used_present files a first v k x at =
     let t = it.1 in
     let p = firsts_at same_foreign_use (foreign_uses files) it.0 t it.2 in
     let has = has_at (map foreign_use_occurrence (foreign_uses files)) p.0 (foreign_use_occurrence t) (slice_get-map foreign_use_occurrence (foreign_uses files) p.0 ∙ ap (option_map foreign_use_occurrence) p.1) in
-    let from : Def t.from t.id.name.now ≡ Def s t.id.name.now = ap (λ (q : Address). Def q t.id.name.now) it.3 in
-    let called : t.id.name.now ≡ local_name x = sym (ap local_name it.4) in
-    subst a (from ∙ ap (Def s) called) (first (Def t.from t.id.name.now) has)
+    let key : Def t.from t.id.name.now ≡ Def s (local_name x) = cc (it.3, ap local_name it.4) in
+    subst a key (first (Def t.from t.id.name.now) has)
 
 -- so all occurs that an item of the package that files make names
 module _ (files : List PackageFile) (p : UnresolvedPackage) (legal : IsLegal files) (m : Makes files p) where
@@ -56,15 +86,9 @@ module _ (files : List PackageFile) (p : UnresolvedPackage) (legal : IsLegal fil
   abbrev turns : List Turned
   turns = item_turns m.order m.items
 
-  abbrev in_use : List Occurrence
-  in_use = map foreign_use_occurrence (foreign_uses files)
-
-  made_has : (k : Key) → Has (keys (all_occurrences files turns)) k → IsSeen ks k
-  made_has k has = collects_has (all_occurrences files turns) [] m.seen (collects files p legal m) k has
-
   -- what occurs in a turn
   turn_seen : (j : ℕ) (t : Turned) → slice_get turns j ≡ Some t → (k : Key) → Has (keys (turn_occurrences t)) k → IsSeen ks k
-  turn_seen j t at k has = made_has k (has_back in_use (flat_map turn_occurrences turns) k (has_of turn_occurrences turns j t k at has))
+  turn_seen j t at k has = collects_has (all_occurrences files turns) [] m.seen (collects files p legal m) k (has_back (map foreign_use_occurrence (foreign_uses files)) (flat_map turn_occurrences turns) k (has_of turn_occurrences turns j t k at has))
 
   -- an item is, where its names and the types of its functions occur
   item_seen : (i : Item) → IsItem files (ord files p legal m i) → ((k : Key) → Has (keys (flat_map (name_occurrences (address i)) (names_in_turn m.order i))) k → IsSeen ks k)
@@ -89,20 +113,14 @@ module _ (files : List PackageFile) (p : UnresolvedPackage) (legal : IsLegal fil
       let seen = turn_seen j (interface_turn m.order i) at in
       item_seen i it (λ k has. seen k (has_prefix names types k has)) (λ n fn there k has. seen k (has_back names types k (has_of (λ (g : SourceFunction). flat_map (shape_occurrences s Unknown) (signature g)) (functions i) n fn k there has)))
 
-  abbrev declared : List Turned
-  declared = map (interface_turn m.order) (interfaces_of m.items)
-
-  abbrev rest : List Turned
-  rest = flat_map (turns_of_world m.order) (worlds_of m.items)
-
   -- where a turn of a world is among all
   world_turn : (n j : ℕ) (w : Item) (t : Turned) → slice_get (worlds_of m.items) n ≡ Some w → slice_get (turns_of_world m.order w) j ≡ Some t → (k : ℕ) × (slice_get turns k ≡ Some t)
   world_turn n j w t at there =
       let it = flat_map_has (turns_of_world m.order) (worlds_of m.items) n j w t at there in
-      (length declared + it.0, at_back declared rest it.0 t it.1)
+      (length (map (interface_turn m.order) (interfaces_of m.items)) + it.0, at_back (map (interface_turn m.order) (interfaces_of m.items)) (flat_map (turns_of_world m.order) (worlds_of m.items)) it.0 t it.1)
 
   declared_seen : (n : ℕ) (i : Item) → slice_get (interfaces_of m.items) n ≡ Some i → ItemPresent (IsSeen ks) m.order i
-  declared_seen n i at = whole_seen i (declared_item files p legal m n i at) n (at_prefix declared rest n (interface_turn m.order i) (slice_get-map (interface_turn m.order) (interfaces_of m.items) n ∙ ap (option_map (interface_turn m.order)) at))
+  declared_seen n i at = whole_seen i (declared_item files p legal m n i at) n (at_prefix (map (interface_turn m.order) (interfaces_of m.items)) (flat_map (turns_of_world m.order) (worlds_of m.items)) n (interface_turn m.order i) (slice_get-map (interface_turn m.order) (interfaces_of m.items) n ∙ ap (option_map (interface_turn m.order)) at))
 
   inline_seen : (n : ℕ) (i : Item) → slice_get (flat_map inline_items (worlds_of m.items)) n ≡ Some i → ItemPresent (IsSeen ks) m.order i
   inline_seen n i at =
@@ -126,4 +144,4 @@ module _ (files : List PackageFile) (p : UnresolvedPackage) (legal : IsLegal fil
       turn_seen one.0 (turn_of_function s fn) one.1 k (has_prefix (flat_map (shape_occurrences s Unknown) (signature fn)) [] k has)))
 
   pub foreign_seen : (v : ForeignVisit) (k : ℕ) (x : ScopeName) → slice_get (scope files (visited v)) k ≡ Some x → IsSeen ks (Def (visited v) (local_name x))
-  foreign_seen v = used_present files (IsSeen ks) (λ k has. made_has k (has_prefix in_use (flat_map turn_occurrences turns) k has)) v
+  foreign_seen v = used_present files (IsSeen ks) (λ k has. (collects_has (all_occurrences files turns) [] m.seen (collects files p legal m) k (has_prefix (map foreign_use_occurrence (foreign_uses files)) (flat_map turn_occurrences turns) k has))) v

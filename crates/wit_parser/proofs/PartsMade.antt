@@ -1,10 +1,8 @@
 -- What else holds of a package, from its being the one that legal files make.
 use Rattle.std.proofs.Common.{◌≡◌, ℕ, List, length, Option, Some, None, refl, sym, ap, ◌∙◌, arith}
-use Rattle.wit_syntax.proofs.Common.{Address, AllDiffer, IsLegal, PackageFile, Place, TypeOwner, at_within, first_foreign_uses, function_key, length-map, map, option_and_then, slice_get, slice_get_within}
-use Rattle.wit_arena.proofs.Common.{HasArena, Interface, IsAt, IsFaithful, Makes, UnresolvedPackage, World, expr_of, interface_scopes, item_turns, keys, occurrences, owner_of, world_scopes}
-use Rattle.wit_types.specs.declared.types.«Type».{«Type» as Ty}
+use Rattle.wit_syntax.proofs.Common.{Address, AllDiffer, IsLegal, PackageFile, TypeOwner, at_within, first_foreign_uses, function_key, length-map, map, option_and_then, slice_get, slice_get_within}
+use Rattle.wit_arena.proofs.Common.{HasArena, Interface, IsFaithful, Makes, UnresolvedPackage, World, expr_of, interface_scopes, item_turns, keys, occurrences, owner_of, world_scopes}
 use Rattle.wit_types.specs.declared.types.TypeOwner.TheVariants as owner
-use Rattle.wit_arena.specs.Faithful.{HasType}
 use Rattle.wit_arena.specs.UnfoldedTypes.{named_interface, named_world}
 use Rattle.wit_arena.proofs.Faithful.{IsOwnerOf, AreOwners, name_at, type_at, faithful}
 use Rattle.wit_arena.proofs.Members.{DoneScope}
@@ -15,17 +13,15 @@ use Rattle.wit_parser.proofs.KnownMembers.{decls, present, wholes, written}
 use Rattle.wit_parser.proofs.KnownTurns.{scopes, known_at, interface_resolved_scope, world_resolved_scope}
 use Rattle.wit_parser.proofs.PartsSeen.{collects, made_places}
 use Rattle.wit_parser.proofs.TypeIds.{type_within}
+use Rattle.wit_arena.proofs.Places.{same_some}
 
 module _ (files : List PackageFile) (p : UnresolvedPackage) (legal : IsLegal files) (m : Makes files p) where
   abbrev cs : List DoneScope
   cs = scopes files p legal m
 
-  one_address : (s t : Address) → Some s ≡ Some t → s ≡ t
-  one_address s t same = cc
-
   -- an owner at an address is that of the scope there
   owned : (o : TypeOwner) (s a : Address) → owner_of p o ≡ Some s → IsOwnerOf cs o a → IsOwnerOf cs o s
-  owned o s a called c = record { place = c.place; resolved_scope = c.resolved_scope; at = c.at; whose = c.whose; scope = one_address c.resolved_scope.address s (sym (known_at files p legal m c.place c.resolved_scope c.at).called ∙ ap (owner_of p) c.whose ∙ called) }
+  owned o s a called c = record { place = c.place; resolved_scope = c.resolved_scope; at = c.at; whose = c.whose; scope = same_some (sym (known_at files p legal m c.place c.resolved_scope c.at).called ∙ ap (owner_of p) c.whose ∙ called) }
 
   interface_owned : (t : ℕ) (s : Address) (o : Option Interface) → slice_get p.interfaces t ≡ o → option_and_then (λ (x : Interface). named_interface p t x.name) o ≡ Some s → IsOwnerOf cs (owner.Interface t) s
   interface_owned t s None there called = absurd (let f : ⊥ = cc in f)
@@ -59,16 +55,13 @@ module _ (files : List PackageFile) (p : UnresolvedPackage) (legal : IsLegal fil
   apart : (t : ℕ) (c : DoneScope) → slice_get cs t ≡ Some c → AllDiffer (map function_key c.functions)
   apart t c at = (known_at files p legal m t c at).apart
 
-  at_position : (x : Place) (ty : Ty) → HasType files p x ty → IsAt (keys m.seen) (expr_of x.0 x.1) ty
-  at_position = type_at files (decls files p legal m) (written files p legal m) cs p (present files p legal m) owners (wholes files p legal m) apart
-
   -- its arena is what is first seen in the files
   pub arena_of_made : HasArena files p
   arena_of_made = record {
     made = m;
     names = name_at files (decls files p legal m) (written files p legal m) cs p (present files p legal m) owners (wholes files p legal m);
     positions = λ x ty has. (
-        let at = at_position x ty has in
+        let at = (type_at files (decls files p legal m) (written files p legal m) cs p (present files p legal m) owners (wholes files p legal m) apart) x ty has in
         (at-type_of m.id (keys m.seen) (made_places files p legal m) (expr_of x.0 x.1) ty at, type_within p (keys m.seen) (as_many_types files p legal m) (expr_of x.0 x.1) ty at));
   }
 

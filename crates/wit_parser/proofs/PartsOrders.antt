@@ -11,7 +11,7 @@ use Rattle.wit_parser.proofs.PartsItems.{found_item}
 module _ (files : List PackageFile) (p : UnresolvedPackage) (legal : IsLegal files) (m : Makes files p) where
   -- an item with its order
   abbrev pub ord : Item → Ordered
-  ord i = record { item = i; order = m.order (address i) }
+  ord i = record { item = i; order = m.order i }
 
   are_all : AreItems files m.items
   are_all = subst (AreItems files) (sym m.in_order.2) (are_items files m.in_order.0 m.in_order.1 (distinct_items files (λ f broken. legal f (Names broken))))

@@ -3,6 +3,7 @@ use Rattle.std.proofs.Common.{◌≡◌, ℕ, List, [], ◌∷◌, ◌+◌, leng
 use Rattle.wit_syntax.proofs.Common.{Address, Constructor, Freestanding, Id, Method, OnSide, Role, ScopeName, Shape, SourceFunction, SourceParam, Static, all_params, at_back, at_prefix, length-map, local_name, map, map_at, map_map, option_map, option_to_list, signature, slice_get, slice_get-map}
 use Rattle.wit_types.specs.declared.types.«Type».{«Type» as Ty}
 use Rattle.wit_arena.proofs.Common.{AreAt, Def, End, Expr, Exprs, GivesPlaces, HasTypes, IsAt, IsFunction, IsKind, IsParam, IsSeen, Key, More, Of, OneByOne, Param, Prim, Turned, Use, Whole, expr_of, function_in, name_places, role_kind, type_of, types_of}
+use Rattle.wit_arena.proofs.Places.{same_some}
 
 -- what an expression means is among some keys, and so is each of these
 abbrev pub IsPresent : (Key → Type 0) → Expr → Type 0
@@ -31,10 +32,7 @@ pub record FunctionPresent (among : Key → Type 0) (s : Address) (fn : SourceFu
 pub one_by_one-mapped : {X Y : Type 0} (Holds : X → Y → Type 0) (f : X → Y) (xs : List X) → ((k : ℕ) (x : X) → slice_get xs k ≡ Some x → Holds x (f x)) → OneByOne Holds xs (map f xs)
 one_by_one-mapped Holds f xs as_stated = record {
   count = length-map xs f;
-  each = λ k x y at there. (
-      let both : Some (f x) ≡ Some y = sym (slice_get-map f xs k ∙ ap (option_map f) at) ∙ there in
-      let one : f x ≡ y = cc in
-      subst (Holds x) one (as_stated k x at));
+  each = λ k x y at there. subst (Holds x) (same_some (sym (slice_get-map f xs k ∙ ap (option_map f) at) ∙ there)) (as_stated k x at);
 }
 
 module _ (id : Key → ℕ) (ks : List Key) (gives : GivesPlaces id ks) where
@@ -52,11 +50,10 @@ module _ (id : Key → ℕ) (ks : List Key) (gives : GivesPlaces id ks) where
   types_of-at (More e es) h = (type_of-at e h.0, types_of-at es h.1)
 
   role-kind : (s : Address) (role : Role) → RolePresent (IsSeen ks) s role → IsKind ks s role (role_kind (λ (of : Id). id (Def s of.name.now)) role)
-  role-kind s (Freestanding of form) h = refl
   role-kind s (Method of form) h = (id (Def s of.name.now), refl, seen_at (Def s of.name.now) h)
   role-kind s (Static of form) h = (id (Def s of.name.now), refl, seen_at (Def s of.name.now) h)
   role-kind s (Constructor of) h = (id (Def s of.name.now), refl, seen_at (Def s of.name.now) h)
-  role-kind s (OnSide side of form) h = refl
+  role-kind s _ h = refl
 
   abbrev param_in : Address → SourceParam → Param
   param_in s x = record { name = x.name; ty = type_of id (expr_of s x.shape); span = x.span }

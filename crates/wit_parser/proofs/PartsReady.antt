@@ -5,6 +5,7 @@ use Rattle.wit_syntax.specs.Shape.{End}
 use Rattle.wit_arena.proofs.Common.{Collects, Def, Expr, Exprs, Has, IsSeen, Key, Occurrence, Whole, all_function_occurrences, expr_of, exprs_of, keys, keys-append, name_exprs, name_occurrences, parts_occurrences, shape_occurrences, shapes_occurrences}
 use Rattle.wit_arena.specs.Expr as expr
 use Rattle.wit_parser.proofs.PartsPlaces.{IsPresent, AllPresent}
+use Rattle.wit_arena.proofs.Places.{same_some}
 
 pub present_wider : (a b : Key → Type 0) → ((k : Key) → a k → b k) → (e : Expr) → IsPresent a e → IsPresent b e
 present_wider a b wider (expr.Prim p) h = tt
@@ -77,9 +78,8 @@ module _ (names : Address → List ScopeName) where
 
   mutual
     pub shape_ready : (s : Address) (given : Stability) (x : Shape) (a : Key → Type 0) → WordsPresent a s (words x) → Ready a (shape_occurrences s given x)
-    shape_ready s given (Prim p) a known = tt
-    shape_ready s given (Word id) a known = tt
     shape_ready s given (Of span form parts) a known = ready_append (shapes_occurrences s given parts) (record { key = Whole form (exprs_of s parts); span = span; given = given } ∷ []) a (shapes_ready s given parts a known) (shapes_present s given parts a known, tt)
+    shape_ready s given _ a known = tt
 
     pub shapes_ready : (s : Address) (given : Stability) (xs : Shapes) (a : Key → Type 0) → WordsPresent a s (all_words xs) → Ready a (shapes_occurrences s given xs)
     shapes_ready s given End a known = tt
@@ -136,8 +136,7 @@ module _ (names : Address → List ScopeName) where
         | inl same ↦ (
             let it = collects_prefix ls (ms ++ x ∷ []) all fresh.1 in
             let whole : all ≡ ms ++ (x ∷ it.0) = it.1 ∙ append_assoc ms (x ∷ []) it.0 in
-            let both : Some x ≡ Some m = sym (at_prefix (ms ++ x ∷ []) it.0 (length ms) x (at_seam ms x)) ∙ ap (λ l. slice_get l (length ms)) (sym it.1) ∙ ap (slice_get all) same ∙ at in
-            let one : x ≡ m = cc in
+            let one = same_some (sym (at_prefix (ms ++ x ∷ []) it.0 (length ms) x (at_seam ms x)) ∙ ap (λ l. slice_get l (length ms)) (sym it.1) ∙ ap (slice_get all) same ∙ at) in
             let early : take n (keys all) ≡ keys ms = ap (λ i. take i (keys all)) (sym same ∙ sym (length-map ms (λ (y : Occurrence). y.key))) ∙ ap (λ l. take (length (keys ms)) (keys l)) whole ∙ ap (take (length (keys ms))) (keys-append ms (x ∷ it.0)) ∙ take_seam (keys ms) (keys (x ∷ it.0)) in
             subst (λ l. PartsPresent (IsSeen l) m.span m.key) (sym early) (subst (λ (y : Occurrence). PartsPresent (IsSeen (keys ms)) y.span y.key) one ready.0))
         | inr gt ↦ absurd (let f : ⊥ = omega (arith, gt, le) in f)

@@ -1,13 +1,14 @@
 -- The arena of types that is given by places is the list of first occurrences.
 use Rattle.std.proofs.Common.{◌≡◌, ℕ, suc, true, List, [], ◌∷◌, ◌++◌, length, take, Some, None, inl, inr, refl, sym, ap, ◌∙◌, subst, arith}
-use Rattle.wit_syntax.proofs.Common.{Address, AllDiffer, Contains, ForeignNamed, ForeignUse, InlineAt, InterfaceNamed, IsLegal, Item, PackageFile, ScopeName, Span, Stability, TypeDef, WorldNamed, about_name, at_contains, at_prefix, at_seam, at_within, differ_at, first_foreign_uses, first_known, firsts_at, flat_map, foreign_uses, is_foreign, length-map, local_name, map, map_at, option_map, same_foreign_use, scope, slice_get, slice_get-map, three_ways}
+use Rattle.wit_syntax.proofs.Common.{Address, AllDiffer, Contains, ForeignNamed, ForeignUse, IsLegal, Item, PackageFile, ScopeName, Span, Stability, TypeDef, about_name, at_contains, at_prefix, at_seam, at_within, differ_at, first_foreign_uses, first_known, firsts_at, flat_map, foreign_uses, is_foreign, length-map, local_name, map, map_at, option_map, same_foreign_use, scope, slice_get, slice_get-map, three_ways}
 use Rattle.wit_types.specs.declared.types.«Type».{«Type» as Ty}
 use Rattle.wit_arena.proofs.Common.{AreAt, Collects, Def, Exprs, GivesPlaces, Has, IsEntry, IsEntryOf, IsOccurrence, IsSeen, Key, Makes, Occurrence, UnresolvedPackage, Whole, all_occurrences, collects_extended, declarations, firsts-collects, firsts-differ, foreign_use_key, foreign_use_occurrence, foreign_uses_differ, foreign_uses_seen, gives_places, gives_used, interface_scopes, item_turns, keys, kind_of, name_exprs, owner_at, stability_at, turn_occurrences, types_of, used_at, used_name_at, world_scopes}
 use Rattle.wit_arena.specs.Occurrences.{settled}
 use Rattle.wit_parser.proofs.PartsItems.{all_ready, no_parts}
 use Rattle.wit_parser.proofs.PartsPlaces.{AllPresent, types_of-at}
 use Rattle.wit_parser.proofs.PartsReady.{PartsPresent, Ready, collects_prefix, seen_ready, ready_wider}
-use Rattle.wit_arena.proofs.Places.{key_extended}
+use Rattle.wit_arena.proofs.Places.{key_extended, same_some}
+use Rattle.wit_arena.proofs.Occurrence.{collects_split, collects_one}
 
 -- what occurs is in the end
 pub collects_has : (ls ms all : List Occurrence) → Collects ms ls all → (k : Key) → Has (keys ls) k → IsSeen (keys all) k
@@ -28,18 +29,15 @@ collects_has (x ∷ ls) ms all h k has = elim h [
 
 -- what occurs after others
 collects_after : (ks ls a b c : List Occurrence) → Collects a (ks ++ ls) c → Collects a ks b → Collects b ls c
-collects_after [] ls a b c h prefix = subst (λ (x : List Occurrence). Collects x ls c) (sym prefix) h
-collects_after (x ∷ ks) ls a b c h prefix = elim h [
-  | inl old ↦ elim prefix [ inl one ↦ collects_after ks ls a b c old.1 one.1 | inr new ↦ absurd (new.0 old.0) ]
-  | inr fresh ↦ elim prefix [ inl one ↦ absurd (fresh.0 one.0) | inr new ↦ collects_after ks ls (a ++ x ∷ []) b c fresh.1 new.1 ]
-]
+collects_after ks ls a b c h prefix =
+    let it = collects_split ks ls a c h in
+    subst (λ (x : List Occurrence). Collects x ls c) (collects_one ks a it.0 b it.1 prefix) it.2
 
 -- lists whose elements are stated alike
 mapped_alike : {X Y Z : Type 0} (f : X → Z) (g : Y → Z) (xs : List X) (ys : List Y) → length xs ≡ length ys → ((k : ℕ) (x : X) (y : Y) → slice_get xs k ≡ Some x → slice_get ys k ≡ Some y → f x ≡ g y) → map f xs ≡ map g ys
-mapped_alike f g [] [] count each = refl
-mapped_alike f g [] (y ∷ ys) count each = absurd (let f : ⊥ = omega (arith, count) in f)
-mapped_alike f g (x ∷ xs) [] count each = absurd (let f : ⊥ = omega (arith, count) in f)
 mapped_alike f g (x ∷ xs) (y ∷ ys) count each = ap (λ z. z ∷ map f xs) (each 0 x y refl refl) ∙ ap (λ l. g y ∷ l) (mapped_alike f g xs ys (omega (arith, count)) (λ k. each (suc k)))
+mapped_alike f g [] [] count each = refl
+mapped_alike f g xs ys count each = absurd (omega (arith, count))
 
 -- a taking is given by the name of its scope
 foreign_use_stated : (files : List PackageFile) (s : Address) → is_foreign s ≡ true → (j : ℕ) (t : ForeignUse) → slice_get (first_foreign_uses files) j ≡ Some t → t.from ≡ s → (x : ScopeName) → Contains (scope files s) x → local_name x ≡ t.id.name.now → t.id.span ≡ (about_name x).span
@@ -47,34 +45,23 @@ foreign_use_stated files (ForeignNamed p name) foreign j t at from x among same 
     let s = ForeignNamed p name in
     let i = at_contains (scope files s) x among in
     let it = used_name_at files s i.0 x i.1 in
-    let called : t.id.name.now ≡ it.1.id.name.now = sym same ∙ ap local_name it.4 in
-    let key : foreign_use_key t ≡ foreign_use_key it.1 = ap (λ (a : Address). Def a t.id.name.now) (from ∙ sym it.3) ∙ ap (Def it.1.from) called in
+    let key : foreign_use_key t ≡ foreign_use_key it.1 = cc (from, it.3, same, ap local_name it.4) in
     let place = differ_at foreign_use_key (first_foreign_uses files) (foreign_uses_differ files) j it.0 t it.1 at it.2 key in
-    let both : Some t ≡ Some it.1 = sym at ∙ ap (slice_get (first_foreign_uses files)) place ∙ it.2 in
-    let one : t ≡ it.1 = cc in
+    let one = same_some (sym at ∙ ap (slice_get (first_foreign_uses files)) place ∙ it.2) in
     ap (λ (u : ForeignUse). u.id.span) one ∙ ap (λ (y : ScopeName). (about_name y).span) (sym it.4)
-foreign_use_stated files (InterfaceNamed name) foreign j t at from x among same = absurd (let f : ⊥ = cc in f)
-foreign_use_stated files (WorldNamed name) foreign j t at from x among same = absurd (let f : ⊥ = cc in f)
-foreign_use_stated files (InlineAt world side place) foreign j t at from x among same = absurd (let f : ⊥ = cc in f)
-
--- what is first taken is taken from another package
-first_foreign : (files : List PackageFile) (j : ℕ) (t : ForeignUse) → slice_get (first_foreign_uses files) j ≡ Some t → is_foreign t.from ≡ true
-first_foreign files j t at = let k = firsts_at same_foreign_use (foreign_uses files) j t at in (used_at files k.0 t k.1).foreign
+foreign_use_stated files _ foreign j t at from x among same = absurd (let f : ⊥ = cc in f)
 
 module _ (files : List PackageFile) (p : UnresolvedPackage) (legal : IsLegal files) (m : Makes files p) where
   abbrev written : List Occurrence
   written = all_occurrences files (item_turns m.order m.items)
 
-  abbrev ks : List Key
-  ks = keys m.seen
-
   pub collects : Collects [] written m.seen
   collects = subst (λ (l : List Occurrence). Collects [] written l) (sym m.first) (firsts-collects m.same m.gives written)
 
-  once : AllDiffer ks
+  once : AllDiffer (keys m.seen)
   once = subst (λ (l : List Occurrence). AllDiffer (keys l)) (sym m.first) (firsts-differ m.same m.gives written)
 
-  pub made_places : GivesPlaces m.id ks
+  pub made_places : GivesPlaces m.id (keys m.seen)
   made_places = gives_places m.same m.gives m.seen m.id m.places once
 
   abbrev prefix : List Occurrence
@@ -86,9 +73,6 @@ module _ (files : List PackageFile) (p : UnresolvedPackage) (legal : IsLegal fil
   abbrev rest : List Occurrence
   rest = flat_map turn_occurrences (item_turns m.order m.items)
 
-  rest_after : Collects prefix rest m.seen
-  rest_after = collects_after in_use rest [] prefix m.seen collects (foreign_uses_seen files)
-
   ready : Ready (scope files) (IsSeen (keys prefix)) rest
   ready =
       let all = all_ready files legal m.order m.names_in_order m.in_order.0 m.in_order.1 in
@@ -96,39 +80,32 @@ module _ (files : List PackageFile) (p : UnresolvedPackage) (legal : IsLegal fil
       ready_wider (scope files) rest (Has (keys in_use)) (IsSeen (keys prefix)) (λ k has. collects_has in_use [] prefix (foreign_uses_seen files) k has) here
 
   abbrev Parts : ℕ → Occurrence → Type 0
-  Parts n o = PartsPresent (scope files) (IsSeen (take n ks)) o.span o.key
+  Parts n o = PartsPresent (scope files) (IsSeen (take n (keys m.seen))) o.span o.key
 
   used_parts : (n : ℕ) (o : Occurrence) → slice_get prefix n ≡ Some o → Parts n o
   used_parts n o at =
       let t = map_at foreign_use_occurrence (first_foreign_uses files) n o at in
-      let foreign = first_foreign files n t.0 t.1 in
-      let own : Parts n (foreign_use_occurrence t.0) = λ x among called. (foreign_use_stated files t.0.from foreign n t.0 t.1 refl x among called, no_parts files t.0.from x (IsSeen (take n ks)) foreign among) in
+      let foreign = let k = firsts_at same_foreign_use (foreign_uses files) n t.0 t.1 in (used_at files k.0 t.0 k.1).foreign in
+      let own : Parts n (foreign_use_occurrence t.0) = λ x among called. (foreign_use_stated files t.0.from foreign n t.0 t.1 refl x among called, no_parts files t.0.from x (IsSeen (take n (keys m.seen))) foreign among) in
       subst (Parts n) t.2 own
 
   -- the parts of what occurs come before it
   parts_before : (n : ℕ) (o : Occurrence) → slice_get m.seen n ≡ Some o → Parts n o
   parts_before n o at = elim (three_ways n (length prefix)) [
     | inl lt ↦ (
-        let it = collects_prefix (scope files) rest prefix m.seen rest_after in
+        let it = collects_prefix (scope files) rest prefix m.seen (collects_after in_use rest [] prefix m.seen collects (foreign_uses_seen files)) in
         let x = at_within prefix n lt in
-        let both : Some x.0 ≡ Some o = sym (at_prefix prefix it.0 n x.0 x.1) ∙ ap (λ (l : List Occurrence). slice_get l n) (sym it.1) ∙ at in
-        used_parts n o (x.1 ∙ both))
-    | inr other ↦ seen_ready (scope files) rest prefix m.seen rest_after ready n o at (elim other [ inl one ↦ omega (arith, one) | inr gt ↦ omega (arith, gt) ])
+        used_parts n o (x.1 ∙ sym (at_prefix prefix it.0 n x.0 x.1) ∙ ap (λ (l : List Occurrence). slice_get l n) (sym it.1) ∙ at))
+    | inr other ↦ seen_ready (scope files) rest prefix m.seen (collects_after in_use rest [] prefix m.seen collects (foreign_uses_seen files)) ready n o at (elim other [ inl one ↦ omega (arith, one) | inr gt ↦ omega (arith, gt) ])
   ]
 
-  abbrev is : List Address
-  is = interface_scopes files m.items
-
-  abbrev ws : List Address
-  ws = world_scopes files m.items
-
   abbrev Stated : ℕ → Key → Span → Stability → TypeDef → Type 0
-  Stated n k span given e = IsEntryOf (scope files) (owner_at is ws) m.id (take n p.types) k span given e
+  Stated n k span given e = IsEntryOf (scope files) (owner_at (interface_scopes files m.items) (world_scopes files m.items)) m.id (take n p.types) k span given e
 
-  types_at : (n : ℕ) (parts : Exprs) (ts : List Ty) → AllPresent (IsSeen (take n ks)) parts → ts ≡ types_of m.id parts → AreAt (take n ks) parts ts
-  types_at n parts ts are_present are = subst (AreAt (take n ks) parts) (sym are) (types_of-at m.id (take n ks) (gives_used m.id ks made_places n) parts are_present)
+  types_at : (n : ℕ) (parts : Exprs) (ts : List Ty) → AllPresent (IsSeen (take n (keys m.seen))) parts → ts ≡ types_of m.id parts → AreAt (take n (keys m.seen)) parts ts
+  types_at n parts ts are_present are = subst (AreAt (take n (keys m.seen)) parts) (sym are) (types_of-at m.id (take n (keys m.seen)) (gives_used m.id (keys m.seen) made_places n) parts are_present)
 
-  entry_is : (n : ℕ) (k : Key) (span : Span) (given : Stability) (e : TypeDef) → PartsPresent (scope files) (IsSeen (take n ks)) span k → Stated n k span given e → IsEntry (declarations files is ws) (take n ks) k e
+  entry_is : (n : ℕ) (k : Key) (span : Span) (given : Stability) (e : TypeDef) → PartsPresent (scope files) (IsSeen (take n (keys m.seen))) span k → Stated n k span given e → IsEntry (declarations files (interface_scopes files m.items) (world_scopes files m.items)) (take n (keys m.seen)) k e
   entry_is n (Def s name) span given e are_present h =
       let x = h.0 in
       let q = at_contains (scope files s) x h.2 in
@@ -160,14 +137,14 @@ module _ (files : List PackageFile) (p : UnresolvedPackage) (legal : IsLegal fil
       ap (λ (y : TypeDef). y.stability) h.2 ∙ ap (λ (ts : List Ty). first_known (given ∷ map (stability_at (take n p.types)) ts)) (sym (ap (λ k. k.parts) kind))
 
   -- so it is the list of first occurrences
-  pub entries_made : IsOccurrence (declarations files is ws) m.seen p.types
+  pub entries_made : IsOccurrence (declarations files (interface_scopes files m.items) (world_scopes files m.items)) m.seen p.types
   entries_made = record {
     keyed = record {
       count = m.count ∙ sym (length-map m.seen (λ (o : Occurrence). o.key));
       once = once;
       each = λ n k e at_k at_e. (
           let o = map_at (λ (o : Occurrence). o.key) m.seen n k at_k in
-          subst (λ (q : Key). IsEntry (declarations files is ws) (take n ks) q e) o.2 (entry_is n o.0.key o.0.span o.0.given e (parts_before n o.0 o.1) (m.types n o.0 e o.1 at_e)));
+          subst (λ (q : Key). IsEntry (declarations files (interface_scopes files m.items) (world_scopes files m.items)) (take n (keys m.seen)) q e) o.2 (entry_is n o.0.key o.0.span o.0.given e (parts_before n o.0 o.1) (m.types n o.0 e o.1 at_e)));
     };
     spans = mapped_alike (λ (e : TypeDef). e.span) (λ (o : Occurrence). o.span) p.types m.seen m.count (λ n e o at_e at_o. span_is n o.key o.span o.given e (m.types n o e at_o at_e));
     settled = λ n o e at_o at_e. settled_is n o.key o.span o.given e (m.types n o e at_o at_e);

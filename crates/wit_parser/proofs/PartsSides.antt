@@ -1,20 +1,13 @@
 -- What is stated of a side of a world is there, where each interface that is named there has a place.
-use Rattle.std.proofs.Common.{◌≡◌, ℕ, suc, Bool, true, false, cond, List, [], ◌∷◌, length, Some, None, refl, sym, ap, ◌∙◌, arith}
+use Rattle.std.proofs.Common.{◌≡◌, ℕ, suc, true, false, cond, List, [], ◌∷◌, length, Some, None, refl, sym, ap, ◌∙◌, arith}
 use Rattle.wit_syntax.proofs.Common.{Address, Include, Item, Link, SideFunction, SideInline, SideItem, SideLink, SourceFunction, TopName, WorldNamed, WorldSide, address, cons_option, flat_map, includes, inline_items, item_function, item_inline, item_link, leads, map, path_scope, role_side, same_side, side_items, slice_get, target_scope}
 use Rattle.wit_arena.proofs.Common.{AreSideItems, Function, WorldItem, WorldKey, entries_on, inline_entry, link_item, put_on, scope_place, side_entries}
 use Rattle.wit_model.specs.declared.world.WorldKey.TheVariants as key
 use Rattle.wit_model.specs.declared.world.WorldItem.TheVariants as item
 
-abbrev Entry : Type 0
-Entry = WorldKey × WorldItem
-
 -- what is kept of what is stated with its side is put on that side
-kept_put : (side own : WorldSide) (x : Entry) (xs : List Entry) → cons_option (cond (same_side side own) (Some x) None) xs ≡ put_on side own x xs
-kept_put side own x xs = kept (same_side side own)
-  where
-    kept : (b : Bool) → cons_option (cond b (Some x) None) xs ≡ cond b (x ∷ xs) xs
-    kept true = refl
-    kept false = refl
+kept_put : (side own : WorldSide) (x : (WorldKey × WorldItem)) (xs : List (WorldKey × WorldItem)) → cons_option (cond (same_side side own) (Some x) None) xs ≡ put_on side own x xs
+kept_put side own x xs = elim (same_side side own) as (λ b. cons_option (cond b (Some x) None) xs ≡ cond b (x ∷ xs) xs) [ true ↦ refl | false ↦ refl ]
 
 -- a scope is where it is stated to
 abbrev pub HasPlace : List Address → Address → Type 0

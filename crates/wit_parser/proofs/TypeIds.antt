@@ -1,32 +1,27 @@
 -- Types, functions and names over the keys that occurred: their ids are places of types.
 use Rattle.std.proofs.Common.{◌≡◌, ◌<◌, ℕ, zero, suc, List, [], ◌∷◌, length, Option, Some, None, refl, sym, ap, ◌∙◌, subst, arith}
-use Rattle.wit_syntax.proofs.Common.{Address, Constructor, Freestanding, FuncForm, Id, Method, OnSide, PackageFile, Role, SourceFunction, Span, Static, at_within, filter_map, signature, slice_get, slice_get_within}
+use Rattle.wit_syntax.proofs.Common.{Address, Constructor, Freestanding, FuncForm, Id, Method, OnSide, PackageFile, Role, SourceFunction, Span, Static, at_within, filter_map, signature, slice_get, slice_get_within, AllZip}
 use Rattle.wit_type_tree.specs.declared.types.FuncForm.TheVariants as form
 use Rattle.wit_types.specs.declared.types.«Type».{«Type» as Ty}
 use Rattle.wit_functions.specs.FunctionKinds.{resource_of}
-use Rattle.wit_arena.proofs.Common.{AreAt, AreRequired, Def, End, Expr, Exprs, Function, FunctionKind, HasTypes, IsAt, IsBelow, IsFunction, IsKind, Key, More, Of, Prim, Turned, UnresolvedPackage, Use, Whole, expr_of, freestanding_kind, function_types, method_kind, static_kind}
+use Rattle.wit_arena.proofs.Common.{AreAt, AreRequired, Def, End, Expr, Exprs, Function, FunctionKind, HasTypes, IsAt, IsBelow, IsFunction, IsKind, Key, More, Of, Prim, Turned, UnresolvedPackage, Use, Whole, expr_of, freestanding_kind, function_types, method_kind, static_kind, HandleRequires}
 use Rattle.wit_arena.proofs.Primitives.{primitive_below}
 use Rattle.wit_arena.proofs.Signatures.{function_typed}
 use Rattle.wit_parser.specs.Ids.{AreTypesWithin, AreNamesWithin, IsFunctionWithin}
+use Rattle.wit_arena.proofs.Places.{same_some}
 
 -- the resource of a kind, by its form
 free_resource : (f : FuncForm) (id : ℕ) → resource_of (freestanding_kind f) ≡ Some id → ⊥
 free_resource form.Plain id h = let f : ⊥ = cc in f
-free_resource form.Async id h = let f : ⊥ = cc in f
-free_resource form.Getter id h = let f : ⊥ = cc in f
-free_resource form.Setter id h = let f : ⊥ = cc in f
+free_resource _ id h = let f : ⊥ = cc in f
 
 method_resource : (f : FuncForm) (r : ℕ) → resource_of (method_kind f r) ≡ Some r
 method_resource form.Plain r = refl
-method_resource form.Async r = refl
-method_resource form.Getter r = refl
-method_resource form.Setter r = refl
+method_resource _ r = refl
 
 static_resource : (f : FuncForm) (r : ℕ) → resource_of (static_kind f r) ≡ Some r
 static_resource form.Plain r = refl
-static_resource form.Async r = refl
-static_resource form.Getter r = refl
-static_resource form.Setter r = refl
+static_resource _ r = refl
 
 -- what is kept of options is among them
 kept_from : {X : Type 0} (each : List (Option X)) (k : ℕ) (x : X) → slice_get (filter_map (λ r. r) each) k ≡ Some x → (i : ℕ) × (slice_get each i ≡ Some (Some x))
@@ -49,8 +44,7 @@ module _ (p : UnresolvedPackage) (ks : List Key) (count : length p.types ≡ len
   parts_within End [] are k ty at = absurd (let f : ⊥ = cc in f)
   parts_within (More x xs) (t ∷ tys) are zero ty at = subst (IsBelow (length p.types)) (let same : t ≡ ty = cc in same) (type_within x t are.0)
   parts_within (More x xs) (t ∷ tys) are (suc k) ty at = parts_within xs tys are.1 k ty at
-  parts_within End (t ∷ tys) are k ty at = absurd are
-  parts_within (More x xs) [] are k ty at = absurd are
+  parts_within _ tys are k ty at = absurd are
 
   -- the names of a scope mean places of types
   pub names_within : (t : Turned) (names : List (List ℕ × ℕ)) → HasTypes ks t names → AreNamesWithin p names
@@ -58,7 +52,7 @@ module _ (p : UnresolvedPackage) (ks : List Key) (count : length p.types ≡ len
 
   -- the resource of a function
   one_resource : (s : Address) (of : Id) (r id : ℕ) (k : FunctionKind) → resource_of k ≡ Some r → slice_get ks r ≡ Some (Def s of.name.now) → resource_of k ≡ Some id → id < length p.types
-  one_resource s of r id k is at has = subst (λ (n : ℕ). n < length p.types) (let both : Some r ≡ Some id = sym is ∙ has in let same : r ≡ id = cc in same) (key_within r (Def s of.name.now) at)
+  one_resource s of r id k is at has = subst (λ (n : ℕ). n < length p.types) (same_some (sym is ∙ has)) (key_within r (Def s of.name.now) at)
 
   resource_within : (s : Address) (role : Role) (k : FunctionKind) → IsKind ks s role k → (id : ℕ) → resource_of k ≡ Some id → id < length p.types
   resource_within s (Freestanding of f) k is id has = absurd (free_resource f id (sym (ap resource_of is) ∙ has))
@@ -82,8 +76,12 @@ module _ (p : UnresolvedPackage) (ks : List Key) (count : length p.types ≡ len
   pub required_within : (files : List PackageFile) (hs : List (Address × Id)) (rs : List (ℕ × Span)) → AreRequired files ks hs rs → (k : ℕ) (r : ℕ × Span) → slice_get rs k ≡ Some r → r.0 < length p.types
   required_within files hs rs h k r at =
       let it = kept_from h.0 k r (ap (λ (l : List (ℕ × Span)). slice_get l k) (sym h.2) ∙ at) in
-      let lt = slice_get_within h.0 it.0 (Some r) it.1 in
-      let as_many = h.1.count in
-      let x = at_within hs it.0 (omega (arith, lt, as_many)) in
-      let far = h.1.each it.0 x.0 (Some r) x.1 it.1 in
-      key_within r.0 (Def far.0 far.1) far.3
+      each hs h.0 h.1 it.0 it.1
+    where
+      each : (hs : List (Address × Id)) (qs : List (Option (ℕ × Span))) → AllZip (HandleRequires files ks) hs qs → (i : ℕ) → slice_get qs i ≡ Some (Some r) → r.0 < length p.types
+      each [] [] zipped i there = cc
+      each (x ∷ hs) (q ∷ qs) zipped zero there =
+          let far = subst (HandleRequires files ks x) (same_some there) zipped.0 in
+          key_within r.0 (Def far.0 far.1) far.3
+      each (x ∷ hs) (q ∷ qs) zipped (suc i) there = each hs qs zipped.1 i there
+      each hs qs zipped i there = absurd zipped

@@ -1,11 +1,11 @@
 -- A written function has the mark of its role in its name.
-use Rattle.std.proofs.Common.{◌≡◌, ℕ, zero, suc, ◌==◌, List, ◌++◌, Option, Some, refl, sym, ◌∙◌, subst}
-use Rattle.wit_syntax.proofs.Common.{Attribute, DefinitionPart, ExternPart, Func, FuncForm, FunctionPart, Id, IncludePart, Item, NamedFunc, Part, ResourceFunc, SourceFunction, TypeBody, UsePart, WorldSide, accessor, codes, definition_functions, dotted, extern_at, flat_map_at, free_function, functions, list_any, list_any-append, map_at, or_left, or_right, part_functions, parts, resource_function, side_function, slice_get}
+use Rattle.std.proofs.Common.{◌≡◌, ℕ, zero, ◌==◌, List, ◌++◌, Option, Some, refl, sym, ◌∙◌, subst}
+use Rattle.wit_syntax.proofs.Common.{DefinitionPart, ExternPart, FuncForm, FunctionPart, Id, Item, Part, ResourceFunc, SourceFunction, TypeBody, accessor, codes, definition_functions, extern_at, flat_map_at, functions, list_any, list_any-append, map_at, or_left, or_right, part_functions, parts, resource_function, slice_get}
 use Rattle.wit_type_tree.specs.declared.types.FuncForm.TheVariants as form
 use Rattle.wit_type_tree.specs.declared.types.TypeBody.TheVariants as body
 use Rattle.wit_type_tree.specs.declared.types.ResourceFunc.TheVariants as resource
 use Rattle.wit_arena.proofs.Common.{HasMark, HasMarkOf, freestanding_kind, mark_of, method_kind, role_kind, static_kind}
-use Rattle.wit_type_tree.specs.declared.leaves.Docs.{Docs}
+use Rattle.wit_arena.proofs.Places.{same_some}
 
 -- a mark in one of two texts is in both together
 mark_before : (mark : ℕ) (text more : List ℕ) → HasMark mark text → HasMark mark (text ++ more)
@@ -15,36 +15,25 @@ mark_after : (mark : ℕ) (prefix text : List ℕ) → HasMark mark text → Has
 mark_after mark prefix text has = list_any-append (λ b. b == mark) prefix text ∙ or_right (list_any (λ b. b == mark) prefix) (list_any (λ b. b == mark) text) has
 
 -- the name of a resource's function has a dot
-dot_named : (prefix back : List ℕ) (r f : Id) → HasMark 46 (prefix ++ (back ++ dotted r f))
-dot_named prefix back r f = mark_after 46 prefix (back ++ dotted r f) (mark_after 46 back (dotted r f) (mark_before 46 (r.name.now ++ codes ".") f.name.now (mark_after 46 r.name.now (codes ".") refl)))
+dot_named : (prefix back : List ℕ) (r f : Id) → HasMark 46 (prefix ++ (back ++ (r.name.now ++ codes "." ++ f.name.now)))
+dot_named prefix back r f = mark_after 46 prefix (back ++ (r.name.now ++ codes "." ++ f.name.now)) (mark_after 46 back (r.name.now ++ codes "." ++ f.name.now) (mark_before 46 (r.name.now ++ codes ".") f.name.now (mark_after 46 r.name.now (codes ".") refl)))
 
 method_mark : (form : FuncForm) (r : ℕ) → mark_of (method_kind form r) ≡ Some 46
 method_mark form.Plain r = refl
-method_mark form.Async r = refl
-method_mark form.Getter r = refl
-method_mark form.Setter r = refl
+method_mark _ r = refl
 
 static_mark : (form : FuncForm) (r : ℕ) → mark_of (static_kind form r) ≡ Some 46
 static_mark form.Plain r = refl
-static_mark form.Async r = refl
-static_mark form.Getter r = refl
-static_mark form.Setter r = refl
+static_mark _ r = refl
 
 free_mark : (form : FuncForm) (name : List ℕ) → HasMarkOf (mark_of (freestanding_kind form)) (accessor form ++ name)
-free_mark form.Plain name = tt
-free_mark form.Async name = tt
 free_mark form.Getter name = refl
 free_mark form.Setter name = refl
+free_mark _ name = tt
 
 -- its name has the mark of the kind that its role makes
 abbrev pub IsMarked : SourceFunction → Type 0
 IsMarked fn = (place : Id → ℕ) → HasMarkOf (mark_of (role_kind place fn.role)) fn.name
-
-free_marked : (f : NamedFunc) → IsMarked (free_function f)
-free_marked f place = free_mark f.func.form f.name.name.now
-
-side_marked : (side : WorldSide) (docs : Docs) (attributes : List Attribute) (name : Id) (f : Func) → IsMarked (side_function side docs attributes name f)
-side_marked side docs attributes name f place = free_mark f.form name.name.now
 
 resource_marked : (r : Id) (g : ResourceFunc) → IsMarked (resource_function r g)
 resource_marked r (resource.Method f) place = subst (λ (o : Option ℕ). HasMarkOf o (resource_function r (resource.Method f)).name) (sym (method_mark f.func.form (place r))) (dot_named (codes "[method]") (accessor f.func.form) r f.name)
@@ -53,19 +42,13 @@ resource_marked r (resource.Constructor docs attributes span params result) plac
 
 definition_marked : (r : Id) (b : TypeBody) (k : ℕ) (fn : SourceFunction) → slice_get (definition_functions r b) k ≡ Some fn → IsMarked fn
 definition_marked r (body.Resource funcs) k fn at = (let g = map_at (resource_function r) funcs.items k fn at in subst IsMarked g.2 (resource_marked r g.0))
-definition_marked r (body.Record span fields) k fn at = absurd (let f : ⊥ = cc in f)
-definition_marked r (body.Flags span flags) k fn at = absurd (let f : ⊥ = cc in f)
-definition_marked r (body.Variant span cases) k fn at = absurd (let f : ⊥ = cc in f)
-definition_marked r (body.Enum span cases) k fn at = absurd (let f : ⊥ = cc in f)
-definition_marked r (body.Plain t) k fn at = absurd (let f : ⊥ = cc in f)
+definition_marked r _ k fn at = absurd (let f : ⊥ = cc in f)
 
 part_marked : (p : Part) (k : ℕ) (fn : SourceFunction) → slice_get (part_functions p) k ≡ Some fn → IsMarked fn
 part_marked (DefinitionPart d) k fn at = definition_marked d.name d.body k fn at
-part_marked (UsePart u) k fn at = absurd (let f : ⊥ = cc in f)
-part_marked (IncludePart i) k fn at = absurd (let f : ⊥ = cc in f)
-part_marked (ExternPart x) k fn at = (let it = extern_at x x.kind k fn at in subst IsMarked it.2 (side_marked x.side x.docs x.attributes.items it.0 it.1))
-part_marked (FunctionPart g) zero fn at = (let same : free_function g ≡ fn = cc in subst IsMarked same (free_marked g))
-part_marked (FunctionPart g) (suc k) fn at = absurd (let f : ⊥ = cc in f)
+part_marked (ExternPart x) k fn at = (let it = extern_at x x.kind k fn at in subst IsMarked it.2 (λ place. free_mark it.1.form it.0.name.now))
+part_marked (FunctionPart g) zero fn at = subst IsMarked (same_some at) (λ place. free_mark g.func.form g.name.name.now)
+part_marked _ k fn at = absurd (let f : ⊥ = cc in f)
 
 -- so it is with the functions of an item
 pub written_marked : (i : Item) (k : ℕ) (fn : SourceFunction) → slice_get (functions i) k ≡ Some fn → IsMarked fn

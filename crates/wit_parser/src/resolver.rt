@@ -1,8 +1,7 @@
 //! From parsed files to a package.
 ghost use Rattle.std.specs.Prelude.{◌≡◌, ◌++◌, ◌∷◌, [], Some, IfOk, IfErr, OnOk, OnErr};
-ghost use Rattle.std.specs.Option.{option_copied, option_map};
-ghost use Rattle.semver.specs.Identifiers.{parts_of};
-ghost use Rattle.wit_values.specs.ReleaseText.{release_parts};
+ghost use Rattle.std.specs.Option.{option_copied};
+ghost use Rattle.wit_syntax.specs.Address.{package_of};
 ghost use Rattle.wit_syntax.specs.Broken.{IsBroken, IsLegal, Refused, headers, last_header};
 ghost use Rattle.wit_first.specs.First.{Finds, FindsBy};
 ghost use Rattle.wit_first.specs.HeaderFaults.{have_docs as the_docs, nesting_fault, other_fault, push_fault};
@@ -90,9 +89,7 @@ fn package_heading(
     header: &tree::PackageName<'_>,
     files: &[PackageFile<'_>],
 ) -> Result<(PackageName, Docs), AllocError>
-    ensures namespace { IfOk result (λ heading. heading.0.namespace ≡ header.now.namespace.name.now) }
-    ensures name { IfOk result (λ heading. heading.0.name ≡ header.now.name.name.now) }
-    ensures version { IfOk result (λ heading. option_map release_parts heading.0.version ≡ option_map parts_of header.now.version) }
+    ensures name { IfOk result (λ heading. heading.0 ≡ package_of header.now) }
     ensures docs { IfOk result (λ heading. heading.1 ≡ first_docs (headers files.now)) }
 {
     let name = package_name(alloc, header)?;

@@ -24,14 +24,10 @@ invariant_of-interfaces-2 c =
     let put = rw (c.in_ok-name.ensures.ok, c.in_ok-place.ensures.id) at c.put.ensures.ok in
     rw c.in_ok-place.ensures.ok (record {
       prefix = prefix_wider (length (prefix_of is.files)) is.arena (c.args.interface ∷ []) is.prefix;
-      found = found_put interface_name c.put.result (length (prefix_of is.files)) is.arena is.by_name _ c.args.interface c.args.name.now is.prefix is.found c.requires.named put c.put.ensures.err;
+      found = found_put interface_name c.put.result (length (prefix_of is.files)) is.arena is.by_name _ c.args.interface c.args.name.now is.prefix is.found c.requires.1 put c.put.ensures.err;
     })
 
 pub returns-clause-adds : goal.returns-clause-adds
 returns-clause-adds c =
     let is = c.args.interfaces.now in
-    record {
-      files = refl;
-      added = c.in_ok-place.ensures.ok;
-      index = rw (c.in_ok-place.ensures.ok, c.in_ok-put.ensures.ok, c.in_ok-name.ensures.ok, c.in_ok-place.ensures.id) (index_interface (prefix_of is.files) is.arena is.by_name c.args.interface c.args.name.now is.prefix c.requires.index c.requires.named);
-    }
+    (refl, c.in_ok-place.ensures.ok, rw (c.in_ok-place.ensures.ok, c.in_ok-put.ensures.ok, c.in_ok-name.ensures.ok, c.in_ok-place.ensures.id) (index_interface (prefix_of is.files) is.arena is.by_name c.args.interface c.args.name.now is.prefix c.requires.0 c.requires.1))

@@ -1,4 +1,4 @@
-use Rattle.std.proofs.Common.{◌≡◌, ◌+◌, ◌++◌, ◌∷◌, List, ℕ, [], take, false, not, Some, refl, ap, sym, ◌∙◌, subst, arith}
+use Rattle.std.proofs.Common.{◌≡◌, ◌+◌, ◌++◌, ◌∷◌, List, ℕ, [], take, false, not, None, Some, ap, sym, ◌∙◌, subst, arith}
 use Rattle.wit_syntax.proofs.Common.{about, err_from_is_err_and, in_order, interfaces_of, is_world, kept_next, kept_past, map, take_all}
 use Rattle.wit_walk.proofs.Common.{first_in, in-more}
 use Rattle.wit_arena.proofs.Common.{AddsDeclared, AddsInterfaces}
@@ -15,7 +15,7 @@ pub resolve_interface-requires : goal.resolve_interface-requires
 resolve_interface-requires c =
     let x = item_at c.args.items.now c.args.places.now c.loop-place.place-index c.index-items-place.result c.requires.within c.loop-place-test.true c.index-items-place.is in
     record {
-      called = subst (λ (d : BorrowedDeclared). (about (declared_view d)).called ≡ Some (about (declared_view d)).id.name.now) (sym c.in-Interface.is) refl;
+      called = c.requires.called x.place (item_view c.index-items-place.result) x.at;
       sort = ap (λ (d : BorrowedDeclared). (about (declared_view d)).is_world) c.in-Interface.is;
       item = rw c.loop-place.invariant.files (c.requires.items.each x.place c.index-items-place.result x.own);
       index = rw c.loop-place.invariant.files c.loop-place.invariant.index;
@@ -42,7 +42,7 @@ returns-in_err-resolve_interface-in-Interface-clause-first c =
     let was = c.loop-place.invariant in
     let x = item_at c.args.items.now c.args.places.now c.loop-place.place-index c.index-items-place.result c.requires.within c.loop-place-test.true c.index-items-place.is in
     let sort : is_world w ≡ false = ap (λ (d : BorrowedDeclared). (about (declared_view d)).is_world) c.in-Interface.is in
-    rw (q.1, q.2) (λ test right. among_kept (λ v. not (is_world v)) test ws places i x.place w _ x.next x.at (ap not sort) (was.first test right) (c.in_err-resolve_interface-in-Interface.ensures.first test (right c.loop-place.interfaces c.loop-place.types was.added.own i w was.files (record { place = x.place; next = x.next; at = x.at }) sort was.added.holds (rw was.files was.index))))
+    rw (q.1, q.2) (λ test right. among_kept (λ v. not (is_world v)) test ws places i x.place w _ x.next x.at (ap not sort) (was.first test right) (c.in_err-resolve_interface-in-Interface.ensures.first test (right c.loop-place.interfaces c.loop-place.types was.added.own i x.place w was.files x.next x.at sort was.added.holds (rw was.files was.index))))
 
 pub loop-place-preserved : goal.loop-place-preserved
 loop-place-preserved c =
@@ -69,12 +69,12 @@ loop-place-preserved c =
             files = same;
             added = rw more (appends_more (AddsDeclared foreign) c.args.types.now c.loop-place.types types c.args.interfaces.now.arena before new c.args.required.now.items c.loop-place.required.items required prefix w was.added one);
             index = rw same at e.index;
-            first = λ test right. rw more (in-more test prefix w (was.first test right) ∙ b.in_ok-resolve_interface-in-Interface.ensures.first test (right c.loop-place.interfaces c.loop-place.types was.added.own i w was.files (record { place = x.place; next = x.next; at = x.at }) sort was.added.holds (rw was.files was.index)));
+            first = λ test right. rw more (in-more test prefix w (was.first test right) ∙ b.in_ok-resolve_interface-in-Interface.ensures.first test (right c.loop-place.interfaces c.loop-place.types was.added.own i x.place w was.files x.next x.at sort was.added.holds (rw was.files was.index)));
           }))
       | in-World b ↦ (
           let past = kept_past (λ v. not (is_world v)) ws places i x.place w x.next x.at (ap (λ (d : BorrowedDeclared). not (about (declared_view d)).is_world) b.in-World.is) in
           rw (b.interfaces-is, b.types-is, b.required-is) (record { files = was.files; added = rw past was.added; index = was.index; first = λ test right. rw past (was.first test right) }))
-      | in-Inline b ↦ absurd (c.requires.outer.outer x.place w _ _ _ _ _ x.at (ap declared_view b.in-Inline.is))
+      | in-Inline b ↦ absurd (let wrong : None ≡ Some (about w.declared).id.name.now = ap (λ (d : BorrowedDeclared). (about (declared_view d)).called) (sym b.in-Inline.is) ∙ c.requires.called x.place w x.at in let f : ⊥ = cc in f)
     ]
 
 pub returns-clause-first : goal.returns-clause-first

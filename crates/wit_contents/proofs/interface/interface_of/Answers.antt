@@ -1,17 +1,17 @@
-use Rattle.std.proofs.Common.{inl, sym, ap, ◌∙◌, subst}
-use Rattle.wit_syntax.proofs.Common.{Err, Fault, Id, IfErr, IfOk, IfOk-weaker, IsAllocationFailure, Ok, ParseError, Result, err_from_is_err_and}
+use Rattle.std.proofs.Common.{sym, ap, ◌∙◌, subst}
+use Rattle.wit_syntax.proofs.Common.{Id, IfOk-weaker, err_from_is_err_and}
 use Rattle.wit_types.specs.declared.types.TypeOwner.TheVariants.{Interface as OfInterface}
+use Rattle.wit_walk.proofs.Common.{finds_memory, reports_prefix}
 use Rattle.wit_arena.proofs.Common.{Names}
 use Rattle.wit_entries.proofs.Requiring.{extended_then}
 use Rattle.wit_items.specs.BorrowedItems.{scope_item}
 use Rattle.wit_items.specs.ResolvedInterfaces.{resolved_scopes_of}
 use Rattle.wit_item_entries.specs.Body.{AddsBody}
-use Rattle.wit_item_entries.specs.ReachedFaults.{FindsAt}
 use Rattle.wit_item_entries.specs.declared.body.Head.{Head}
 use Rattle.wit_contents.specs.AddedInterfaces.{AddsAt, IsInterfaceWith}
-use Rattle.wit_contents.specs.InterfaceFaults.{HasNoFault, IsInterfaceFault}
-use Rattle.wit_contents.proofs.InterfaceFaults.{head_first, rest_first, rest_none}
-use Rattle.wit_contents.proofs.FileFaults.{or_found}
+use Rattle.wit_contents.specs.InterfaceFaults.{interface_fault}
+use Rattle.wit_item_entries.proofs.ReachedFaults.{done, failed}
+use Rattle.wit_contents.proofs.InterfaceFaults.{rest_found}
 use Rattle.wit_contents.proofs.interface.interface_of.Goals as goal
 
 pub functions_of-requires : goal.functions_of-requires
@@ -58,24 +58,17 @@ returns-clause-adds c =
 pub returns-in_err-head-clause-first : goal.returns-in_err-head-clause-first
 returns-in_err-head-clause-first c =
     let p = err_from_is_err_and c.from_residual-in_err-head.result c.from_residual-in_err-head.ensures.1 in
-    rw (p.1, p.2) (or_found c.in_err-head.ensures.first (λ wrong. head_first c.args.interfaces.now c.args.place c.args.types.now c.args.item.now _ wrong))
+    rw (p.1, p.2) (λ outcome right handle ends. reports_prefix _ (c.in_err-head.ensures.first outcome right handle ends))
 
 pub returns-in_err-functions-clause-first : goal.returns-in_err-functions-clause-first
 returns-in_err-functions-clause-first c =
     let p = err_from_is_err_and c.from_residual-in_err-functions.result c.from_residual-in_err-functions.ensures.1 in
-    rw (p.1, p.2) (or_found c.in_err-functions.ensures.first (λ wrong. rest_first c.args.interfaces.now c.args.place c.args.types.now c.resolve_head.new.types c.functions_of.new.types c.args.item.now c.in_ok-head.head.names _ c.requires.named c.in_ok-head.ensures.adds c.in_ok-head.ensures.first c.in_err-functions.ensures.extended wrong))
-
--- what is found of an interface that is made, or failed to allocate
-found_of : {T : Type 0} (r : Result T ParseError) (Made Right : T → Type 0) (IsFault : Fault → Type 0) → ((x : T) → Made x → Right x) → IfOk r Made → IfErr r IsAllocationFailure → FindsAt Right IsFault r
-found_of (Ok x) Made Right IsFault right made memory = right x made
-found_of (Err e) Made Right IsFault right made memory = inl memory
+    let e = c.in_ok-head.ensures in
+    rw (p.1, p.2) (λ outcome right handle ends. rest_found (failed _) c.args.interfaces.now (OfInterface c.args.place) c.args.types.now c.resolve_head.new.types c.functions_of.new.types c.args.item.now c.in_ok-head.head.names c.requires.named e.adds c.in_err-functions.ensures.extended outcome right handle ends (e.first outcome right handle ends) c.in_err-functions.ensures.first)
 
 pub returns-clause-first : goal.returns-clause-first
-returns-clause-first c =
+returns-clause-first c = λ outcome right handle ends.
     let is = c.args.interfaces.now in
     let item = c.args.item.now in
-    let old = c.args.types.now in
-    let new = c.functions_of.new.types in
-    let e = c.in_ok-functions.ensures in
-    let head : Head = record { metadata = c.in_ok-head.head.metadata; names = c.functions_of.new.names } in
-    found_of c.interface_with.result (IsInterfaceWith c.in_ok-name.name head c.in_ok-functions.functions c.declared_name-id.result.span c.args.required.now.items c.interface_with.new.required.items) (HasNoFault is item new) (IsInterfaceFault is c.args.place old item) (λ i has. rest_none is (OfInterface c.args.place) old c.resolve_head.new.types new item c.in_ok-head.head.names i.types (has.types ∙ e.adds.types) c.requires.named c.in_ok-head.ensures.adds c.in_ok-head.ensures.first e.extended e.first) c.interface_with.ensures.has c.interface_with.ensures.refused
+    let e = c.in_ok-head.ensures in
+    finds_memory (interface_fault is item outcome handle) c.interface_with.result (rest_found (done c.in_ok-functions.functions) is (OfInterface c.args.place) c.args.types.now c.resolve_head.new.types c.functions_of.new.types item c.in_ok-head.head.names c.requires.named e.adds c.in_ok-functions.ensures.extended outcome right handle ends (e.first outcome right handle ends) c.in_ok-functions.ensures.first) c.interface_with.ensures.refused

@@ -24,14 +24,10 @@ invariant_of-worlds-2 c =
     let put = rw (c.in_ok-name.ensures.ok, c.in_ok-place.ensures.id) at c.put.ensures.ok in
     rw c.in_ok-place.ensures.ok (record {
       prefix = prefix_wider (length (others_of ws.interfaces.now.files)) ws.arena (c.args.world ∷ []) ws.prefix;
-      found = found_put world_name c.put.result (length (others_of ws.interfaces.now.files)) ws.arena ws.by_name _ c.args.world c.args.name.now ws.prefix ws.found (ap Some c.requires.named) put c.put.ensures.err;
+      found = found_put world_name c.put.result (length (others_of ws.interfaces.now.files)) ws.arena ws.by_name _ c.args.world c.args.name.now ws.prefix ws.found (ap Some c.requires.1) put c.put.ensures.err;
     })
 
 pub returns-clause-adds : goal.returns-clause-adds
 returns-clause-adds c =
     let ws = c.args.worlds.now in
-    record {
-      interfaces = refl;
-      added = c.in_ok-place.ensures.ok;
-      index = rw (c.in_ok-place.ensures.ok, c.in_ok-put.ensures.ok, c.in_ok-name.ensures.ok, c.in_ok-place.ensures.id) (index_world (others_of ws.interfaces.now.files) ws.arena ws.by_name c.args.world c.args.name.now ws.prefix c.requires.index c.requires.named);
-    }
+    (refl, c.in_ok-place.ensures.ok, rw (c.in_ok-place.ensures.ok, c.in_ok-put.ensures.ok, c.in_ok-name.ensures.ok, c.in_ok-place.ensures.id) (index_world (others_of ws.interfaces.now.files) ws.arena ws.by_name c.args.world c.args.name.now ws.prefix c.requires.0 c.requires.1))

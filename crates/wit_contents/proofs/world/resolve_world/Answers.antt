@@ -1,25 +1,24 @@
-use Rattle.std.proofs.Common.{sym, ap, ◌∙◌, subst}
+use Rattle.std.proofs.Common.{◌≡◌, ◌++◌, ◌∷◌, [], sym, ap, ◌∙◌, subst}
 use Rattle.wit_syntax.proofs.Common.{Id, List, err_from_is_err_and, on_ok_weaker}
 use Rattle.wit_walk.proofs.Common.{finds_memory}
 use Rattle.wit_arena.proofs.Common.{World}
 use Rattle.wit_items.specs.BorrowedItems.{item_view}
-use Rattle.wit_contents.specs.AddedWorlds.{AddsNamedWorld, AddsNextWorld, AddsTo}
+use Rattle.wit_contents.specs.Worlds.{AddsNextWorld, AddsTo, AreIndexed}
 use Rattle.wit_contents.proofs.world.resolve_world.Goals as goal
 
 pub world_of-requires : goal.world_of-requires
-world_of-requires c = c.requires.world
+world_of-requires c = c.requires.0
 
 pub add_world-requires : goal.add_world-requires
-add_world-requires c = record { index = c.requires.index; named = c.in_ok-world.ensures.adds.named ∙ ap (λ (id : Id). id.name.now) (sym c.declared_name-id.ensures) }
+add_world-requires c = (c.requires.1, c.in_ok-world.ensures.adds.named ∙ ap (λ (id : Id). id.name.now) (sym c.declared_name-id.ensures))
 
 pub returns-clause-adds : goal.returns-clause-adds
 returns-clause-adds c =
     let world = c.in_ok-world.ensures.adds in
-    let next : AddsNamedWorld c.args.worlds.now c.add_world.new.worlds c.in_ok-world.world → AddsNextWorld c.args.worlds.now c.add_world.new.worlds c.args.item.now c.args.resolving.now c.world_of.new.resolving = λ e. record {
-      interfaces = e.interfaces;
-      world = subst (λ (arena : List World). AddsTo c.args.worlds.now arena c.args.item.now c.args.resolving.now c.world_of.new.resolving) (sym e.added) world.world;
-      counted = world.counted;
-      index = e.index;
+    let next : (c.add_world.new.worlds.interfaces ≡ c.args.worlds.now.interfaces) × (c.add_world.new.worlds.arena ≡ c.args.worlds.now.arena ++ c.in_ok-world.world ∷ []) × AreIndexed c.add_world.new.worlds → AddsNextWorld c.args.worlds.now c.add_world.new.worlds c.args.item.now c.args.resolving.now c.world_of.new.resolving = λ e. record {
+      interfaces = e.0;
+      world = subst (λ (arena : List World). AddsTo c.args.worlds.now arena c.args.item.now c.args.resolving.now c.world_of.new.resolving) (sym e.1) world.world;
+      index = e.2;
     } in
     on_ok_weaker c.add_world.result next c.add_world.ensures.adds
 

@@ -6,7 +6,7 @@ use Rattle.wit_items.specs.declared.items.Declared.{Declared as BorrowedDeclared
 use Rattle.wit_items.specs.BorrowedItems.{declared_view, item_view, others_of}
 use Rattle.wit_items.specs.Found.{world_name}
 use Rattle.wit_items.proofs.Found.{found_none}
-use Rattle.wit_contents.specs.AddedWorlds.{arenas}
+use Rattle.wit_contents.specs.Worlds.{arenas}
 use Rattle.wit_contents.proofs.FileFaults.{memory_found}
 use Rattle.wit_contents.proofs.WorldFaults.{among_kept, item_at}
 use Rattle.wit_contents.proofs.WorldsMore.{AreWorldsTo, addresses_in, worlds_more, worlds_none}
@@ -30,14 +30,13 @@ invariant_of-worlds c = record {
 pub resolve_world-requires : goal.resolve_world-requires
 resolve_world-requires c =
     let was = c.loop-place.invariant in
-    let x = item_at c.args.items.now c.args.places.now c.loop-place.place-index c.index-items-place.result c.requires.within c.loop-place-test.true c.index-items-place.is in
-    record {
-      world = record {
+    let x = item_at c.args.items.now c.args.places.now c.loop-place.place-index c.index-items-place.result c.requires.within c.loop-place-test.true c.index-items-place.is in (
+      record {
         sort = ap (λ (d : BorrowedDeclared). (about (declared_view d)).is_world) c.in-World.is;
         item = rw was.interfaces (c.requires.items.each x.place c.index-items-place.result x.own);
-      };
-      index = rw was.interfaces was.index;
-    }
+      },
+      rw was.interfaces was.index,
+    )
 
 pub loop-place-preserved : goal.loop-place-preserved
 loop-place-preserved c =
@@ -55,7 +54,7 @@ loop-place-preserved c =
           let e = b.in_ok-resolve_world-in-World.ensures.adds in
           rw (b.worlds-is, b.resolving-is) (record {
             interfaces = ap (λ r. r.now) e.interfaces ∙ was.interfaces;
-            added = rw more (worlds_more (prefix_of c.args.interfaces.now.files) (others_of c.args.interfaces.now.files) c.args.interfaces.now.arena c.args.types.now c.loop-place.resolving.growing.types b.resolve_world.new.resolving.growing.types c.args.prefix c.loop-place.worlds.arena b.resolve_world.new.worlds.arena c.loop-place.resolving.growing.inside b.resolve_world.new.resolving.growing.inside [] c.loop-place.resolving.required.items b.resolve_world.new.resolving.required.items prefix w was.added (rw was.interfaces at e.world) e.counted);
+            added = rw more (worlds_more (prefix_of c.args.interfaces.now.files) (others_of c.args.interfaces.now.files) c.args.interfaces.now.arena c.args.types.now c.loop-place.resolving.growing.types b.resolve_world.new.resolving.growing.types c.args.prefix c.loop-place.worlds.arena b.resolve_world.new.worlds.arena c.loop-place.resolving.growing.inside b.resolve_world.new.resolving.growing.inside [] c.loop-place.resolving.required.items b.resolve_world.new.resolving.required.items prefix w was.added (rw was.interfaces at e.world));
             index = rw (ap (λ r. r.now) e.interfaces ∙ was.interfaces) at e.index;
             first = λ test is_right. rw more (in-more test prefix w (was.first test is_right) ∙ b.in_ok-resolve_world-in-World.ensures.first test (is_right.each c.loop-place.worlds c.loop-place.resolving.growing.types (arenas c.loop-place.worlds.arena c.loop-place.resolving.growing.inside (addresses_in prefix)) was.added.appends.own c.loop-place.place-index x.place c.index-items-place.result was.interfaces x.next x.own sort (c.requires.items.each x.place c.index-items-place.result x.own) was.added.appends.holds refl (rw was.interfaces was.index)));
           }))

@@ -1,10 +1,10 @@
 use Rattle.std.proofs.Common.{◌≡◌, [], None, Option, map, take}
-use Rattle.wit_syntax.proofs.Common.{Fault, Item, in_order, worlds_of}
+use Rattle.wit_syntax.proofs.Common.{Fault, Item, in_order, worlds_of, WorldNamed}
 use Rattle.wit_walk.proofs.Common.{first_in}
-use Rattle.wit_arena.proofs.Common.{IsWorldIndex, worlds_at}
+use Rattle.wit_arena.proofs.Common.{IsNameIndex, worlds_at}
 use Rattle.wit_items.specs.ForeignAddresses.{prefix_of}
 use Rattle.wit_items.specs.BorrowedItems.{item_view, others_of}
-use Rattle.wit_contents.specs.WorldFaults.{AreRightOfWorlds}
+use Rattle.wit_contents.specs.Worlds.{AreRightOfWorlds}
 use Rattle.wit_contents.proofs.WorldsMore.{AreWorldsTo}
 use Rattle.wit_contents.proofs.world.resolve_worlds.Given as goal
 
@@ -12,6 +12,6 @@ abbrev pub invariant-loop-place : goal.invariant-loop-place
 invariant-loop-place l = record {
   added : AreWorldsTo (prefix_of l.interfaces.files) (others_of l.interfaces.files) l.interfaces.arena l.fn.types l.resolving.growing.types l.fn.prefix l.worlds.arena l.resolving.growing.inside [] l.resolving.required.items (worlds_of (in_order (map item_view l.items) (take l.place-index l.places)));
   interfaces : l.worlds.interfaces.now ≡ l.interfaces;
-  index : IsWorldIndex (worlds_at (others_of l.interfaces.files) l.worlds.arena) l.worlds.by_name;
+  index : IsNameIndex WorldNamed (worlds_at (others_of l.interfaces.files) l.worlds.arena) l.worlds.by_name;
   first : (wrong : Item → Option Fault) → AreRightOfWorlds wrong l.interfaces l.fn.prefix l.fn.types l.items l.places → first_in wrong (worlds_of (in_order (map item_view l.items) (take l.place-index l.places))) ≡ None;
 }

@@ -1,13 +1,6 @@
 use Rattle.std.proofs.Common.{◌++◌, List, refl, ap, ◌∙◌, append_assoc}
 use Rattle.wit_arena.proofs.Common.{Required}
-use Rattle.wit_world_sides.proofs.Putting.{keyed_differ}
 use Rattle.wit_contents.proofs.world.settled_content.Goals as goal
-
-pub settle-requires-clause-differ : goal.settle-requires-clause-differ
-settle-requires-clause-differ c = keyed_differ c.args.walked.members c.requires
-
-pub settle-requires-clause-called : goal.settle-requires-clause-called
-settle-requires-clause-called c = c.requires.called
 
 pub returns-clause-settled : goal.returns-clause-settled
 returns-clause-settled c =

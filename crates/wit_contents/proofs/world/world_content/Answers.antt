@@ -1,21 +1,23 @@
 use Rattle.std.proofs.Common.{◌++◌, Bool, List, length, map, sym, ap, ◌∙◌, subst}
-use Rattle.wit_syntax.proofs.Common.{AllDiffer, Declared, Exported, Id, IfOk-weaker, Imported, about, err_from_is_err_and, flat_map, in_turn, includes as written_includes, is_ascii_uppercase, list_any, local_name, part_functions, scope_names}
+use Rattle.wit_syntax.proofs.Common.{AllDiffer, Declared, Exported, Id, IfOk-weaker, Imported, Item, about, err_from_is_err_and, flat_map, in_turn, includes as written_includes, is_ascii_uppercase, list_any, local_name, part_functions, scope_names}
 use Rattle.wit_types.specs.declared.types.TypeOwner.TheVariants.{World as OfWorld}
-use Rattle.wit_walk.proofs.Common.{finds_memory}
+use Rattle.wit_walk.proofs.Common.{finds_memory, reports_same}
+use Rattle.wit_arena.proofs.Common.{AreIncludes}
 use Rattle.wit_rules.specs.Signatures.{AreResults}
-use Rattle.wit_files.specs.FileNames.{names_at_top}
 use Rattle.wit_items.specs.BorrowedItems.{item_view, others_of}
+use Rattle.wit_items.specs.ItemPaths.{HasItem}
 use Rattle.wit_items.proofs.Usable.{filed_item}
+use Rattle.wit_links.specs.Includes.{addresses_of, includes_fault}
 use Rattle.wit_item_entries.proofs.ScopeFunctions.{turn_added}
 use Rattle.wit_scopes.specs.BorrowedNames.{name_view}
 use Rattle.wit_item_entries.specs.NameOrder.{IsTurn}
+use Rattle.wit_item_entries.proofs.ReachedFaults.{done, failed}
 use Rattle.wit_contents.specs.Walk.{walk_of}
-use Rattle.wit_contents.specs.AddedWorlds.{AddsContent}
-use Rattle.wit_contents.specs.WorldWalk.{IsSettled, IsWalkOf}
-use Rattle.wit_contents.specs.declared.world.WorldScope.{WorldScope}
-use Rattle.wit_contents.proofs.FileFaults.{memory_found, or_found}
-use Rattle.wit_contents.proofs.WorldParts.{alone_adds, alone_extended, alone_none, content_adds, extended, none_there, turn_of}
-use Rattle.wit_contents.proofs.WorldFaults.{head_fault, includes_first, names_first, world_none, world_reported}
+use Rattle.wit_contents.specs.Worlds.{AddsContent, IsSettled, IsWalkOf}
+use Rattle.wit_contents.specs.declared.sides.WorldScope.{WorldScope}
+use Rattle.wit_contents.proofs.FileFaults.{memory_found}
+use Rattle.wit_contents.proofs.WorldParts.{alone_adds, alone_none, content_adds, none_there, turn_of}
+use Rattle.wit_contents.proofs.WorldFaults.{includes_first, item_here, names_first, world_found}
 use Rattle.wit_contents.proofs.world.world_content.Goals as goal
 
 -- whether a name has a letter in upper case
@@ -25,8 +27,10 @@ has_upper ids = list_any (λ (id : Id). list_any is_ascii_uppercase id.name.now)
 pub world_names-requires : goal.world_names-requires
 world_names-requires c = c.requires.item
 
-pub declared_includes-requires-clause-item : goal.declared_includes-requires-clause-item
-declared_includes-requires-clause-item c = filed_item c.args.worlds.now.interfaces.now.files c.args.item.now c.requires.item.filed
+pub resolve_includes-requires : goal.resolve_includes-requires
+resolve_includes-requires c =
+    let files = c.args.worlds.now.interfaces.now.files in
+    record { item = subst (HasItem files c.args.item.now.place) c.declared_world-world.ensures (filed_item files c.args.item.now c.requires.item.filed) }
 
 -- nothing comes after its names
 pub sides_of_names-requires : goal.sides_of_names-requires
@@ -40,15 +44,12 @@ returns-then-not-have_upper_case-clause-adds c =
     let names = c.in_ok-names.names in
     let n = c.in_ok-names.ensures.adds in
     let empty = none_there c.args.item.now c.declared_world-world.result.now c.world_items.result.now c.declared_world-world.ensures c.world_items.ensures (sym c.put_nothing.ensures ∙ c.if-put_nothing.true) in
-    let are = rw (ap names_at_top c.requires.item.filed.file) at c.in_ok-includes.ensures.are in
+    let are = subst (λ (w : Item). AreIncludes (addresses_of c.args.worlds.now) w c.in_ok-includes.includes) (item_here c.args.item.now c.declared_world-world.result.now c.requires.item c.declared_world-world.ensures) c.in_ok-includes.ensures.are in
     let alone = c.in_ok-sides.ensures in
-    record {
-      world = λ world has ss known. record {
-        own = names.required.items;
-        list = alone.required;
-        holds = alone_adds item empty is (others_of is.files) ws.arena c.args.resolving.now.growing.types c.world_names.new.types c.args.resolving.now.growing.inside names.types names.turn.items names.required.items n world ss has.says (has.imports ∙ alone.imports (in_turn (scope_names item) n.adds.order) n.turn) (has.exports ∙ alone.exports) (rw has.includes are);
-      };
-      counted = alone_extended item empty (length c.args.resolving.now.growing.inside);
+    λ world has ss known. record {
+      own = names.required.items;
+      list = alone.required;
+      holds = alone_adds item empty is (others_of is.files) ws.arena c.args.resolving.now.growing.types c.world_names.new.types c.args.resolving.now.growing.inside names.types names.turn.items names.required.items n world ss has.says (has.imports ∙ alone.imports (in_turn (scope_names item) n.adds.order) n.turn) (has.exports ∙ alone.exports) (rw has.includes are);
     }
 
 pub returns-then-not-have_upper_case-clause-first : goal.returns-then-not-have_upper_case-clause-first
@@ -58,8 +59,8 @@ returns-then-not-have_upper_case-clause-first c = λ stable wrong right.
     let n = c.in_ok-names.ensures.adds in
     let empty = none_there i c.declared_world-world.result.now c.world_items.result.now c.declared_world-world.ensures c.world_items.ensures (sym c.put_nothing.ensures ∙ c.if-put_nothing.true) in
     let lower = ap has_upper (sym c.deref.ensures.value) ∙ sym c.have_upper_case.ensures ∙ c.if-not-have_upper_case.true in
-    let included = rw (ap names_at_top c.requires.item.filed.file) at c.in_ok-includes.ensures.first in
-    world_none c.args.worlds.now i c.args.resolving.now.growing.types c.requires.item.named stable names c.world_names.new.types n c.in_ok-names.ensures.first included wrong c.args.resolving.now.growing.inside right (λ member sides. alone_none (item_view i) empty names.turn.items (turn_added _ _ _ _ _ _ _ _ n) lower member)
+    let included = sym (ap (includes_fault c.args.worlds.now) (item_here c.args.item.now c.declared_world-world.result.now c.requires.item c.declared_world-world.ensures)) ∙ c.in_ok-includes.ensures.first in
+    world_found c.args.worlds.now i c.args.resolving.now.growing.types wrong c.args.resolving.now.growing.inside right c.requires.item.named stable names c.world_names.new.types n c.in_ok-names.ensures.first included (done names) (λ member sides. alone_none (item_view i) empty names.turn.items (turn_added _ _ _ _ _ _ _ _ n) lower member)
 
 -- or something may
 pub written_functions-requires : goal.written_functions-requires
@@ -67,22 +68,20 @@ written_functions-requires c =
     let turn : IsTurn (scope_names (item_view c.args.item.now)) c.in_ok-names.names.turn.items = turn_added _ _ _ _ _ _ _ _ c.in_ok-names.ensures.adds in
     subst (λ l. AllDiffer (map local_name l)) (sym (ap (map name_view) c.deref-2.ensures.value ∙ c.requires.item.named)) turn.distinct
 
-pub walked_sides-requires : goal.walked_sides-requires
-walked_sides-requires c =
+pub walk_sides-requires : goal.walk_sides-requires
+walk_sides-requires c =
     let item = item_view c.args.item.now in
-    let are = rw (ap names_at_top c.requires.item.filed.file) at c.in_ok-includes.ensures.are in
+    let are = subst (λ (w : Item). AreIncludes (addresses_of c.args.worlds.now) w c.in_ok-includes.includes) (item_here c.args.item.now c.declared_world-world.result.now c.requires.item c.declared_world-world.ensures) c.in_ok-includes.ensures.are in
     record {
       world = c.requires;
-      scope = record {
-        functions = c.in_ok-written.ensures.functions ∙ ap (λ (d : Declared). flat_map part_functions (about d).parts) (sym c.declared_world-world.ensures);
-        results = subst (AreResults c.in_ok-written.written.results) (ap (map name_view) c.deref-2.ensures.value ∙ c.requires.item.named) c.in_ok-written.ensures.results;
-        turn = turn_added _ _ _ _ _ _ _ _ c.in_ok-names.ensures.adds;
-        closed = c.is_closed-closed.ensures (written_includes item) (ap length c.as_slice.ensures ∙ are.count);
-      };
+      functions = c.in_ok-written.ensures.functions ∙ ap (λ (d : Declared). flat_map part_functions (about d).parts) (sym c.declared_world-world.ensures);
+      results = subst (AreResults c.in_ok-written.written.results) (ap (map name_view) c.deref-2.ensures.value ∙ c.requires.item.named) c.in_ok-written.ensures.results;
+      turn = turn_added _ _ _ _ _ _ _ _ c.in_ok-names.ensures.adds;
+      closed = c.is_closed-closed.ensures (written_includes item) (ap length c.as_slice.ensures ∙ are.count);
     }
 
 pub settled_content-requires : goal.settled_content-requires
-settled_content-requires c = c.in_ok-walked.ensures.adds.2.adds.keyed
+settled_content-requires c = c.in_ok-walked.ensures.adds.adds.keyed
 
 pub returns-clause-adds : goal.returns-clause-adds
 returns-clause-adds c =
@@ -95,23 +94,20 @@ returns-clause-adds c =
     let middle = c.world_names.new.types in
     let m = c.in_ok-walked.walked in
     let h = c.in_ok-walked.ensures.adds in
-    let w = h.0 in
-    let of : IsWalkOf w c.args.item.now is names = h.1 in
+    let w = h.walk in
+    let of : IsWalkOf w c.args.item.now is names = h.of in
     let added = turn_of w c.args.item.now is names of old middle o c.in_ok-names.ensures.adds in
-    let are = rw (ap names_at_top c.requires.item.filed.file) at c.in_ok-includes.ensures.are in
+    let are = subst (λ (w : Item). AreIncludes (addresses_of c.args.worlds.now) w c.in_ok-includes.includes) (item_here c.args.item.now c.declared_world-world.result.now c.requires.item c.declared_world-world.ensures) c.in_ok-includes.ensures.are in
     let closed = c.is_closed-closed.ensures (written_includes item) (ap length c.as_slice.ensures ∙ are.count) in
     let before = c.args.resolving.now.required.items in
     let after = c.settled_content.new.required.items in
     let inside = c.args.resolving.now.growing.inside in
-    let new = c.walked_sides.new.growing in
+    let new = c.walk_sides.new.growing in
     let scope : WorldScope = record { names = names; results = c.in_ok-written.written.results; functions = c.in_ok-written.written.functions; closed = c.is_closed-closed.result } in
-    IfOk-weaker c.settled_content.result (IsSettled scope m c.in_ok-includes.includes before after) (AddsContent ws c.args.item.now c.args.resolving.now (record { growing = new; required = c.settled_content.new.required })) (λ content made. record {
-      world = λ world has ss known. record {
-        own = names.required.items ++ m.required.items;
-        list = made.required;
-        holds = rw of.interfaces at (content_adds (walk_of c.args.item.now w) (others_of is.files) ws.arena old middle new.types inside new.inside names.required.items m of.walk added h.2 world ss known has.says (has.imports ∙ made.sides Imported (written_includes item) closed) (has.exports ∙ made.sides Exported (written_includes item) closed) (rw (has.includes ∙ made.included) are));
-      };
-      counted = extended (walk_of c.args.item.now w) (others_of is.files) ws.arena old middle new.types inside new.inside names.required.items m of.walk added h.2;
+    IfOk-weaker c.settled_content.result (IsSettled scope m c.in_ok-includes.includes before after) (AddsContent ws c.args.item.now c.args.resolving.now (record { growing = new; required = c.settled_content.new.required })) (λ content made world has ss known. record {
+      own = names.required.items ++ m.required.items;
+      list = made.required;
+      holds = rw of.interfaces at (content_adds (walk_of c.args.item.now w) (others_of is.files) ws.arena old middle new.types inside new.inside names.required.items m of.walk added h.start h.begun h.adds world ss known has.says (has.imports ∙ made.sides Imported (written_includes item) closed) (has.exports ∙ made.sides Exported (written_includes item) closed) (rw (has.includes ∙ made.included) are));
     }) c.settled_content.ensures.settled
 
 -- the first fault: of its names, of its includes, or of what is on its sides
@@ -121,7 +117,7 @@ returns-in_err-names-clause-first c =
     let ws = c.args.worlds.now in
     let i = c.args.item.now in
     let old = c.args.resolving.now.growing.types in
-    rw (p.1, p.2) (λ stable wrong right. or_found c.in_err-names.ensures.first (λ lost. head_fault wrong ws old c.args.resolving.now.growing.inside i right _ (names_first ws i old c.requires.item.named stable _ lost)))
+    rw (p.1, p.2) (λ stable wrong right. names_first ws i old wrong c.args.resolving.now.growing.inside right c.requires.item.named stable _ c.in_err-names.ensures.first)
 
 pub returns-in_err-includes-clause-first : goal.returns-in_err-includes-clause-first
 returns-in_err-includes-clause-first c =
@@ -130,21 +126,21 @@ returns-in_err-includes-clause-first c =
     let i = c.args.item.now in
     let old = c.args.resolving.now.growing.types in
     let e = c.in_ok-names.ensures in
-    let found = rw (ap names_at_top c.requires.item.filed.file) at c.in_err-includes.ensures.first in
-    rw (p.1, p.2) (λ stable wrong right. or_found found (λ lost. head_fault wrong ws old c.args.resolving.now.growing.inside i right _ (includes_first ws i old c.requires.item.named stable c.in_ok-names.names c.world_names.new.types e.adds e.first _ lost)))
+    let found = reports_same (ap (includes_fault c.args.worlds.now) (item_here c.args.item.now c.declared_world-world.result.now c.requires.item c.declared_world-world.ensures)) c.in_err-includes.ensures.first in
+    rw (p.1, p.2) (λ stable wrong right. includes_first ws i old wrong c.args.resolving.now.growing.inside right c.requires.item.named stable c.in_ok-names.names c.world_names.new.types e.adds e.first _ found)
 
 pub returns-in_err-walked-clause-first : goal.returns-in_err-walked-clause-first
 returns-in_err-walked-clause-first c =
     let p = err_from_is_err_and c.from_residual-in_err-walked.result c.from_residual-in_err-walked.ensures.1 in
     let e = c.in_ok-names.ensures in
-    let included = rw (ap names_at_top c.requires.item.filed.file) at c.in_ok-includes.ensures.first in
-    rw (p.1, p.2) (λ stable wrong right. world_reported c.args.worlds.now c.args.item.now c.args.resolving.now.growing.types c.requires.item.named stable c.in_ok-names.names c.world_names.new.types e.adds e.first included wrong c.args.resolving.now.growing.inside right _ c.in_err-walked.ensures.first)
+    let included = sym (ap (includes_fault c.args.worlds.now) (item_here c.args.item.now c.declared_world-world.result.now c.requires.item c.declared_world-world.ensures)) ∙ c.in_ok-includes.ensures.first in
+    rw (p.1, p.2) (λ stable wrong right. world_found c.args.worlds.now c.args.item.now c.args.resolving.now.growing.types wrong c.args.resolving.now.growing.inside right c.requires.item.named stable c.in_ok-names.names c.world_names.new.types e.adds e.first included (failed _) c.in_err-walked.ensures.first)
 
 pub returns-clause-first : goal.returns-clause-first
 returns-clause-first c = λ stable wrong right.
     let e = c.in_ok-names.ensures in
-    let included = rw (ap names_at_top c.requires.item.filed.file) at c.in_ok-includes.ensures.first in
-    finds_memory (wrong (item_view c.args.item.now)) c.settled_content.result (world_none c.args.worlds.now c.args.item.now c.args.resolving.now.growing.types c.requires.item.named stable c.in_ok-names.names c.world_names.new.types e.adds e.first included wrong c.args.resolving.now.growing.inside right c.in_ok-walked.ensures.first) c.settled_content.ensures.refused
+    let included = sym (ap (includes_fault c.args.worlds.now) (item_here c.args.item.now c.declared_world-world.result.now c.requires.item c.declared_world-world.ensures)) ∙ c.in_ok-includes.ensures.first in
+    finds_memory (wrong (item_view c.args.item.now)) c.settled_content.result (world_found c.args.worlds.now c.args.item.now c.args.resolving.now.growing.types wrong c.args.resolving.now.growing.inside right c.requires.item.named stable c.in_ok-names.names c.world_names.new.types e.adds e.first included (done c.in_ok-walked.walked) c.in_ok-walked.ensures.first) c.settled_content.ensures.refused
 
 -- or memory failed
 pub returns-in_err-sides-clause-first : goal.returns-in_err-sides-clause-first

@@ -1,4 +1,4 @@
-use Rattle.std.proofs.Common.{◌≡◌, map, sym, ap, ◌∙◌, subst, refl}
+use Rattle.std.proofs.Common.{◌≡◌, map, sym, ap, ◌∙◌, subst}
 use Rattle.wit_syntax.proofs.Common.{scope_names}
 use Rattle.wit_scopes.specs.BorrowedNames.{name_view}
 use Rattle.wit_scopes.specs.PlacedNames.{AreNamesPlaced}
@@ -8,7 +8,7 @@ use Rattle.wit_contents.proofs.world.world_names.Goals as goal
 
 pub resolve_names-requires : goal.resolve_names-requires
 resolve_names-requires c =
-    record { placed = subst (AreNamesPlaced (prefix_of c.args.worlds.now.interfaces.now.files)) (sym c.deref.ensures.value) (c.requires.placed.each 0 c.args.item.now refl) }
+    record { placed = subst (AreNamesPlaced (prefix_of c.args.worlds.now.interfaces.now.files)) (sym c.deref.ensures.value) c.requires.placed.own }
 
 pub returns-clause-adds : goal.returns-clause-adds
 returns-clause-adds c =

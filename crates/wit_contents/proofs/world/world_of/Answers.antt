@@ -3,9 +3,9 @@ use Rattle.wit_arena.proofs.Common.{IsWorld}
 use Rattle.wit_items.specs.BorrowedItems.{item_view}
 use Rattle.wit_item_entries.proofs.Telling.{world_stated}
 use Rattle.wit_items.specs.SourceItems.{metadata_view}
-use Rattle.wit_contents.specs.AddedWorlds.{HasContent}
-use Rattle.wit_contents.proofs.WorldFaults.{head_fault, unstable_first}
-use Rattle.wit_contents.proofs.FileFaults.{memory_found, or_found}
+use Rattle.wit_contents.specs.Worlds.{HasContent}
+use Rattle.wit_contents.proofs.WorldFaults.{unstable_first}
+use Rattle.wit_contents.proofs.FileFaults.{memory_found}
 use Rattle.wit_contents.proofs.world.world_of.Goals as goal
 
 pub returns-clause-adds : goal.returns-clause-adds
@@ -21,14 +21,14 @@ returns-clause-adds c =
       exports = e.exports;
       includes = e.includes;
     } in
-    record { named = says.0; world = content.world world own; counted = content.counted }
+    record { named = says.0; world = content world own }
 
 pub returns-in_err-as_stated-clause-first : goal.returns-in_err-as_stated-clause-first
 returns-in_err-as_stated-clause-first c =
     let p = err_from_is_err_and c.from_residual.result c.from_residual.ensures.1 in
     let ws = c.args.worlds.now in
     let i = c.args.item.now in
-    rw (p.1, p.2) (λ wrong right. or_found c.in_err-as_stated.ensures.first (λ unstable. head_fault wrong ws c.args.resolving.now.growing.types c.args.resolving.now.growing.inside i right _ (unstable_first ws i c.args.resolving.now.growing.types _ unstable)))
+    rw (p.1, p.2) (λ wrong right. unstable_first ws i c.args.resolving.now.growing.types wrong c.args.resolving.now.growing.inside right _ c.in_err-as_stated.ensures.first)
 
 pub returns-in_err-metadata-clause-first : goal.returns-in_err-metadata-clause-first
 returns-in_err-metadata-clause-first c =
