@@ -1,10 +1,9 @@
 -- Sources that are refused come to the refusal, and those that make a group to none.
 use Rattle.std.proofs.Common.{◌≡◌, ◌⊎◌, ℕ, ◌+◌, ◌<◌, ◌≤◌, suc, true, false, arith, lt-ltb, le-ltb, List, [], ◌∷◌, ◌++◌, Bor, length, get_or, map, take, drop, Option, Some, None, inl, inr, refl, sym, ap, ◌∙◌, subst}
-use Rattle.wit_syntax.proofs.Common.{AllZip, Err, Fault, IfOk, IsAllocationFailure, ItemNotFound, Ok, OutOfMemory, PackageFile, ParseError, ParseErrorKind, Result, SourceFile, Span, Syntax, TypeCycle, append-nil, as_stated, fault, fault_in, fault_of, nat_lt, string_bytes, words_of}
+use Rattle.wit_syntax.proofs.Common.{AllZip, Err, Fault, IfOk, IsAllocationFailure, ItemNotFound, Ok, OutOfMemory, PackageFile, ParseError, ParseErrorKind, Result, SourceFile, Span, Syntax, TypeCycle, append-nil, as_stated, codes, fault_in, fault_of, nat_lt, string_bytes}
 use Rattle.wit_lex.specs.declared.fault.ReadFault.{ReadFault}
 use Rattle.wit_lex.specs.declared.fault.ReadError.TheVariants.{Fault as Stopped, OutOfMemory as Wanting}
-use Rattle.wit_lex.specs.declared.fault.ReadFault.TheVariants.{Character, Token, Comment, Nesting, Version, Number}
-use Rattle.wit_lex.specs.TextFaults.{ReportsFault, rule_of, words_of as reading_words}
+use Rattle.wit_lex.specs.TextFaults.{ReportsFault, rule_of, words_of}
 use Rattle.wit_lex.specs.Sources.{IsTooLarge, ReportsTooLarge, space}
 use Rattle.wit_lex.specs.declared.source.Source.{Source}
 use Rattle.wit_lex.specs.declared.source_map.SourceMap.{SourceMap}
@@ -28,21 +27,12 @@ use Rattle.wit_groups.proofs.Used.{used_trees}
 span_is : (s : Span) (from to : ℕ) → s.start ≡ from → s.end ≡ to → s ≡ record { start = from; end = to }
 span_is s from to start end = ap (λ (n : ℕ). record { start = n; end = s.end }) start ∙ ap (λ (n : ℕ). record { start = from; end = n }) end
 
--- the reader's words are those of the rule
-rule_words : (stop : ReadFault) → reading_words stop ≡ words_of (rule_of stop)
-rule_words Character = refl
-rule_words Token = refl
-rule_words Comment = refl
-rule_words Nesting = refl
-rule_words Version = refl
-rule_words Number = refl
-
 -- a refusal for the fault at which reading stops, or a failed allocation
 stop_said : (stop : ReadFault) (offset from to number : ℕ) (kind : ParseErrorKind) → ReportsFault stop (offset + from) (offset + to) number kind → ((kind ≡ OutOfMemory) × (number ≡ 45)) ⊎ (stop_fault offset stop from to ≡ as_stated number kind)
 stop_said stop offset from to number (Syntax span message) it = inr (sym (
     ap (λ (n : ℕ). fault_in n span (string_bytes message)) it.rule
-    ∙ ap (λ (words : List ℕ). fault_in (rule_of stop) span words) (it.words ∙ rule_words stop)
-    ∙ ap (fault (rule_of stop)) (span_is span (offset + from) (offset + to) it.start it.end)))
+    ∙ ap (λ (words : List ℕ). fault_in (rule_of stop) span words) it.words
+    ∙ ap (λ (at : Span). fault_in (rule_of stop) at (words_of stop)) (span_is span (offset + from) (offset + to) it.start it.end)))
 stop_said stop offset from to number (ItemNotFound span name sort hint) it = absurd it
 stop_said stop offset from to number (TypeCycle span name sort) it = absurd it
 stop_said stop offset from to number OutOfMemory it = inl (refl, it)
@@ -130,10 +120,11 @@ TextStops path text e = IsAllocationFailure e ⊎ TextHasFirst path text (Some (
 pub size_stops : (path text : List ℕ) (e : ParseError) (kind : ParseErrorKind) → e.kind ≡ kind → ReportsTooLarge (length text + 1) e.rule kind → TextStops path text e
 size_stops path text e (Syntax span message) is h =
     let none : Span = record { start = 0; end = 0 } in
+    let too_large = codes "sources too large" in
     let past : nat_lt 4294967295 (length text + 1) ≡ true = lt-ltb 4294967295 (length text + 1) h.1 in
-    let large : size_fault text ≡ Some (fault 52 none) = rw past refl in
+    let large : size_fault text ≡ Some (fault_in 52 none too_large) = rw past refl in
     let words = string_bytes message in
-    let said : fault_of e ≡ fault 52 none = ap (as_stated e.rule) is ∙ ap (λ (n : ℕ). fault_in n span words) h.0 ∙ ap (λ (w : List ℕ). fault_in 52 span w) h.4 ∙ ap (fault 52) (span_is span 0 0 h.2 h.3) in
+    let said : fault_of e ≡ fault_in 52 none too_large = ap (as_stated e.rule) is ∙ ap (λ (n : ℕ). fault_in n span words) h.0 ∙ ap (λ (w : List ℕ). fault_in 52 span w) h.4 ∙ ap (λ (at : Span). fault_in 52 at too_large) (span_is span 0 0 h.2 h.3) in
     inr ([], or_here (size_fault text) _ (fault_of e) (large ∙ ap Some (sym said)))
 size_stops path text e (ItemNotFound span name sort hint) is h = absurd h
 size_stops path text e (TypeCycle span name sort) is h = absurd h

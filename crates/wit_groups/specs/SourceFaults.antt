@@ -1,18 +1,18 @@
 -- The first fault of sources: each is read, and pushed before the next is read; and then that of the group that they make.
-use Rattle.std.specs.Prelude.{◌≡◌, ◌⊎◌, ℕ, ◌+◌, nat_lt, if◌then◌else◌, List, [], ◌∷◌, ◌++◌, length, MatchResult, Option, None, Result, Some, string_bytes}
+use Rattle.std.specs.Prelude.{◌≡◌, ◌⊎◌, ℕ, ◌+◌, nat_lt, if◌then◌else◌, List, [], ◌∷◌, ◌++◌, length, MatchResult, Option, None, Result, Some, string_bytes, codes}
 use Rattle.std.specs.List.{AllZip}
 use Rattle.wit_type_tree.specs.RefusalText.{IsAllocationFailure}
 use Rattle.wit_type_tree.specs.declared.error.ParseError.{ParseError}
 use Rattle.wit_tree.specs.declared.tree.PackageFile.{PackageFile}
 use Rattle.wit_tree.specs.declared.tree.SourceFile.{SourceFile}
-use Rattle.wit_lex.specs.TextFaults.{rule_of}
+use Rattle.wit_lex.specs.TextFaults.{rule_of, words_of}
 use Rattle.wit_lex.specs.declared.fault.ReadFault.{ReadFault}
 use Rattle.wit_lex.specs.declared.source.Source.{Source}
 use Rattle.wit_grammar.specs.Laws.{StopsAt}
 use Rattle.wit_grammar.specs.Seen.{see_file}
 use Rattle.wit_bundle.specs.SourcePaths.{IsByPath}
 use Rattle.wit_syntax.specs.Broken.{IsBroken, last_header}
-use Rattle.wit_syntax.specs.Fault.{Fault, fault, fault_of}
+use Rattle.wit_syntax.specs.Fault.{Fault, fault_of, fault_in}
 use Rattle.wit_first.specs.First.{IsOr}
 use Rattle.wit_nested.specs.Nested.{IsUnfit}
 use Rattle.wit_groups.specs.Groups.{IsAlone, IsTree}
@@ -27,7 +27,7 @@ pub data Read : Type 0 where
 
 -- E46 to E51, of a source whose first byte has the place `offset`
 abbrev pub stop_fault : ℕ → ReadFault → (from to : ℕ) → Fault
-stop_fault offset stop from to = fault (rule_of stop) (record { start = offset + from; end = offset + to })
+stop_fault offset stop from to = fault_in (rule_of stop) (record { start = offset + from; end = offset + to }) (words_of stop)
 
 -- reading the source stops there
 abbrev pub IsStop : Source → Fault → Type 0
@@ -90,7 +90,7 @@ AreAlike one other = ⊥
 
 -- a text is too large to be a source: E52
 abbrev pub size_fault : List ℕ → Option Fault
-size_fault text = if nat_lt 4294967295 (length text + 1) then Some (fault 52 (record { start = 0; end = 0 })) else None
+size_fault text = if nat_lt 4294967295 (length text + 1) then Some (fault_in 52 (record { start = 0; end = 0 }) (codes "sources too large")) else None
 
 -- what a text under a path comes to: that, or what it comes to as the only source
 abbrev pub TextComesTo : (path text : List ℕ) → List Read → Option Fault → Type 0

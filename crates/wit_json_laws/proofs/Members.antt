@@ -1,7 +1,7 @@
 -- The maps of interfaces that legal files make have no key twice.
 use Rattle.std.proofs.Common.{◌≡◌, ℕ, false, not, List, ◌++◌, map, Some, Contains, inl, inr, refl, sym, ap, ◌∙◌, subst}
-use Rattle.wit_syntax.proofs.Common.{Address, All, AllDiffer, AreDistinct, Called, FoldedTwice, ForeignVisit, Imported, IsLegal, IsOrder, Item, PackageFile, ScopeName, SideItem, Sides, SourceFunction, WorldSide, address, all_items, all_scopes, at_split, called_key, contains_at, fault, flat_map, flat_map_at, foreign_interfaces, function_name, functions, functions_imported, in_order_at, in_turn_distinct, inline_interface, inline_items, interfaces_of, is_world, items_on, kept_all, kept_at, local_name, map_at, map_map, not-true, on_side, role_side, rows_of, same_side, scope, scope_names, scopes_declared, scopes_inline, side_called, side_items, side_items_functions, slice_get, visited, words_of, worlds_of}
-use Rattle.wit_arena.proofs.Common.{AreInOrder, AreNamesInOrder, Def, Function, Key, all_differ, foreign_interface, function_in, items_within, name_places, names_differ, names_in_turn, own_interface, own_interfaces, placed, scope_differs}
+use Rattle.wit_syntax.proofs.Common.{Address, All, AllDiffer, AreDistinct, Called, FoldedTwice, ForeignVisit, Imported, IsLegal, IsOrder, Item, PackageFile, ScopeName, SideItem, Sides, SourceFunction, WorldSide, address, all_items, all_scopes, at_split, called_key, contains_at, fault, flat_map, flat_map_at, foreign_interfaces, function_name, functions, functions_imported, in_order_at, in_turn_distinct, inline_interface, inline_items, interfaces_of, is_world, items_on, kept_all, kept_at, local_name, map_at, map_map, not-true, on_side, role_side, rows_of, same_side, scope, scope_names, scopes_declared, scopes_inline, side_called, side_items, side_items_functions, slice_get, visited, words_of, worlds_of, in_order, item_rows}
+use Rattle.wit_arena.proofs.Common.{Def, Function, Key, all_differ, foreign_interface, function_in, items_within, name_places, names_differ, names_in_turn, own_interface, own_interfaces, placed, scope_differs}
 use Rattle.wit_arena.proofs.FunctionNames.{names_differ as function_names_differ}
 use Rattle.wit_json.specs.DistinctKeys.{HasOwnKeys, HasOwnMembers}
 use Rattle.wit_json_laws.proofs.Lists.{all_both, all_map, no_keys, own_keys}
@@ -47,15 +47,15 @@ module _ (files : List PackageFile) (legal : IsLegal files) where
     functions = no_keys (List ℕ) Function;
   }
 
-  own_members : (id : Key → ℕ) (order : Address → List ℕ) → AreNamesInOrder files order → (i : Item) → Contains (all_scopes files) i → is_world i ≡ false → HasOwnMembers (own_interface id order i)
+  own_members : (id : Key → ℕ) (order : Item → List ℕ) → ((i : Item) → Contains (all_scopes files) i → IsOrder (rows_of (scope_names i)) (order i)) → (i : Item) → Contains (all_scopes files) i → is_world i ≡ false → HasOwnMembers (own_interface id order i)
   own_members id order orders i among sort =
-      let least : IsOrder (rows_of (scope_names i)) (order (address i)) = orders i among in
+      let least : IsOrder (rows_of (scope_names i)) (order i) = orders i among in
       record {
-        types = name_keys id (address i) (names_in_turn order i) (in_turn_distinct (scope_names i) (order (address i)) least (names_differ files legal i among));
-        functions = function_keys id (address i) (functions i) (function_names i among sort (order (address i)) least);
+        types = name_keys id (address i) (names_in_turn order i) (in_turn_distinct (scope_names i) (order i) least (names_differ files legal i among));
+        functions = function_keys id (address i) (functions i) (function_names i among sort (order i) least);
       }
 
-  module _ (items : List Item) (ordered : AreInOrder files items) where
+  module _ (items : List Item) (ordered : ((places : List ℕ) × IsOrder (item_rows files) places × (items ≡ in_order (all_items files) places))) where
     -- each of the items is declared
     pub items_declared : (k : ℕ) (i : Item) → slice_get items k ≡ Some i → Contains (all_items files) i
     items_declared k i at =
@@ -77,7 +77,7 @@ module _ (files : List PackageFile) (legal : IsLegal files) where
           (scopes_inline files it.1 i (worlds_declared it.0 it.1 it.2) (contains_at (inline_items it.1) inside.0 i inside.1), inline_interface it.1 inside.0 i inside.1))
     ]
 
-    pub all_members : (id : Key → ℕ) (order : Address → List ℕ) → AreNamesInOrder files order → All HasOwnMembers (map (foreign_interface files id) (foreign_interfaces files) ++ map (own_interface id order) (own_interfaces items))
+    pub all_members : (id : Key → ℕ) (order : Item → List ℕ) → ((i : Item) → Contains (all_scopes files) i → IsOrder (rows_of (scope_names i)) (order i)) → All HasOwnMembers (map (foreign_interface files id) (foreign_interfaces files) ++ map (own_interface id order) (own_interfaces items))
     all_members id order orders = all_both HasOwnMembers (map (foreign_interface files id) (foreign_interfaces files)) (map (own_interface id order) (own_interfaces items))
         (all_map HasOwnMembers (foreign_interface files id) (foreign_interfaces files) (λ k v at. foreign_members id v))
         (all_map HasOwnMembers (own_interface id order) (own_interfaces items) (λ k i at. (let it = interfaces_among k i at in own_members id order orders i it.0 it.1)))

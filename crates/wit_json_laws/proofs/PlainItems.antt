@@ -1,6 +1,6 @@
 -- The items of plain trees, and what they name of other packages.
 use Rattle.std.proofs.Common.{ℕ, Bool, true, false, cond, List, [], ◌∷◌, ◌++◌, Option, Some, None, Contains, inl, inr, refl, sym, subst}
-use Rattle.wit_syntax.proofs.Common.{All, AstItem, Attribute, DefinitionPart, Exported, Extern, ExternKind, ExternPart, ForeignUse, ForeignVisit, FunctionPart, IfSome, Imported, IncludePart, IsWritten, Item, PackageFile, Part, SideInline, TheInterface, TheWorld, TopName, Use, UsePart, UsePath, WorldSide, about, all_items, all_scopes, at_contains, at_side, declaration_visits, declared_items, extern_paths, extern_visits, file_items, file_visits, flat_map, foreign_uses, foreign_visits, functions, inline_items, inline_items_at, inline_uses, last_header, option_map, option_or, part_functions, part_items, part_names, part_uses, part_visits, parts, path_visits, same_side, scope_names, scopes_either, side_items, top_names, uses, walk}
+use Rattle.wit_syntax.proofs.Common.{All, AstItem, Attribute, DefinitionPart, Exported, Extern, ExternKind, ExternPart, ForeignUse, ForeignVisit, FunctionPart, IfSome, Imported, IncludePart, IsWritten, Item, PackageFile, Part, SideInline, TheInterface, TheWorld, TopName, Use, UsePart, UsePath, WorldSide, about, all_items, all_scopes, at_contains, at_side, declaration_visits, declared_items, extern_paths, extern_visits, file_items, flat_map, foreign_uses, foreign_visits, functions, inline_items, inline_items_at, inline_uses, last_header, option_map, option_or, part_functions, part_items, part_names, part_uses, part_visits, parts, path_visits, same_side, scope_names, scopes_either, side_items, top_names, uses, walk}
 use Rattle.wit_tree.specs.declared.tree.AstItem.TheVariants as ast
 use Rattle.wit_tree.specs.declared.tree.ExternKind.TheVariants as extern
 use Rattle.wit_tree.specs.declared.tree.PackageName.{PackageName as Header}
@@ -96,7 +96,7 @@ declaration_visits_plain (ast.Interface i) h = walk_plain (about (TheInterface i
 declaration_visits_plain (ast.World w) h = walk_plain (about (TheWorld w)).parts (world_parts_plain w.items.items h.items)
 declaration_visits_plain (ast.Use u) h = path_visits_plain u.attributes.items false u.item h.attributes h.item
 
-file_visits_plain : (f : PackageFile) → HasPlainNames f → All IsPlainVisit (file_visits f)
+file_visits_plain : (f : PackageFile) → HasPlainNames f → All IsPlainVisit (flat_map declaration_visits f.decl_list.items.items)
 file_visits_plain f h = all_flat IsPlainVisit declaration_visits f.decl_list.items.items (λ k a at. declaration_visits_plain a (all_seen IsPlainDeclaration see_declaration f.decl_list.items.items h.declarations k a at))
 
 -- ---- the last header
@@ -139,7 +139,7 @@ module _ (files : List PackageFile) (plain : All HasPlainNames files) where
   ]
 
   pub visits_plain : All IsPlainVisit (foreign_visits files)
-  visits_plain = all_flat IsPlainVisit file_visits files (λ k f at. file_visits_plain f (at_all HasPlainNames files plain k f at))
+  visits_plain = all_flat IsPlainVisit (λ (f : PackageFile). flat_map declaration_visits f.decl_list.items.items) files (λ k f at. file_visits_plain f (at_all HasPlainNames files plain k f at))
 
   of_use : (t : ForeignUse) → IsUsedAt files t → ArePlain t.attributes
   of_use t it =

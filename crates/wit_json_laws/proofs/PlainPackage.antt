@@ -31,7 +31,7 @@ function_entry id s fn = (fn.name, function_in id s fn)
 members_plain : (id : Key → ℕ) (s : Address) (fns : List SourceFunction) → All IsPlainSource fns → All HasStability (placed Some (map (function_entry id s) fns))
 members_plain id s fns h = all_placed Some HasStability (map (function_entry id s) fns) (all_map HasStability (function_entry id s) fns (λ k fn at. stability_plain fn.attributes (at_all IsPlainSource fns h k fn at).attributes))
 
-own_interface_plain : (id : Key → ℕ) (order : Address → List ℕ) (i : Item) → IsPlainScope i → IsPlainInterface (own_interface id order i)
+own_interface_plain : (id : Key → ℕ) (order : Item → List ℕ) (i : Item) → IsPlainScope i → IsPlainInterface (own_interface id order i)
 own_interface_plain id order i h = record { stability = stability_plain (about i.declared).attributes h.attributes; functions = members_plain id (address i) (functions i) (functions_plain i h) }
 
 foreign_interface_plain : (files : List PackageFile) (id : Key → ℕ) (v : ForeignVisit) → IsPlainInterface (foreign_interface files id v)
@@ -107,7 +107,7 @@ record IsPlainBesides (v : World) : Type 0 where
 foreign_world_plain : (v : ForeignVisit) → IsPlainBesides (foreign_world v)
 foreign_world_plain v = record { stability = tt; imports = all_none IsPlainEntry; exports = all_none IsPlainEntry; includes = all_none HasIncluded }
 
-own_world_plain : (id : Key → ℕ) (order : Address → List ℕ) (ss ws : List Address) (w : Item) → IsPlainScope w → All IsPlainScopeName (names_in_turn order w) → IsPlainBesides (own_world id order ss ws w)
+own_world_plain : (id : Key → ℕ) (order : Item → List ℕ) (ss ws : List Address) (w : Item) → IsPlainScope w → All IsPlainScopeName (names_in_turn order w) → IsPlainBesides (own_world id order ss ws w)
 own_world_plain id order ss ws w h names =
     let on = λ (side : WorldSide). entries_on side (world_entries id ss w) in
     let on_side : (side : WorldSide) → All IsPlainEntry (entries_on side (world_entries id ss w)) = λ side. on_plain id (address w) ss w.top side (side_items w) (inline_items w) (sides_plain w h) in

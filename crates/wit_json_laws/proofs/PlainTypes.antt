@@ -1,10 +1,10 @@
 -- The versions of the types that plain trees make are by SemVer.
 use Rattle.std.proofs.Common.{◌≡◌, ℕ, zero, suc, ◌<◌, List, [], ◌∷◌, length, map, take, Option, Some, None, Contains, refl, sym, ap, ◌∙◌, subst, arith}
-use Rattle.wit_syntax.proofs.Common.{Address, All, ForeignName, ForeignNamed, ForeignUse, InlineAt, InterfaceNamed, IsLegal, Item, PackageFile, ScopeName, Shape, Shapes, SideFunction, SideInline, SideItem, SideLink, SourceFunction, Span, Stability, TypeDef, TypeOwner, WorldNamed, about_name, address, all_scopes, at_contains, at_prefix, at_take, at_within, contains_at, filter, find_among, first_foreign_uses, first_known, firsts_at, flat_map, foreign_uses, in_turn_among, inline_items, interfaces_of, item_at, kept_at, map_at, option_map_or, same_address, same_foreign_use, scope, scope_names, scopes_declared, scopes_inline, side_items, signature, slice_get, slice_get_within, stability_of, unwrap_or, used_names, worlds_of}
+use Rattle.wit_syntax.proofs.Common.{Address, All, ForeignName, ForeignNamed, ForeignUse, InlineAt, InterfaceNamed, IsLegal, Item, PackageFile, ScopeName, Shape, Shapes, SideFunction, SideInline, SideItem, SideLink, SourceFunction, Span, Stability, TypeDef, TypeOwner, WorldNamed, about_name, address, all_scopes, at_contains, at_prefix, at_take, at_within, contains_at, filter, find_among, first_foreign_uses, first_known, firsts_at, flat_map, foreign_uses, in_turn_among, inline_items, interfaces_of, item_at, kept_at, map_at, option_map_or, same_address, same_foreign_use, scope, scope_names, scopes_declared, scopes_inline, side_items, signature, slice_get, slice_get_within, stability_of, unwrap_or, used_names, worlds_of, IsOrder, all_items, in_order, item_rows, rows_of}
 use Rattle.wit_types.specs.declared.stability.Stability.TheVariants as stability
 use Rattle.wit_types.specs.declared.types.«Type».{«Type» as Ty}
 use Rattle.wit_types.specs.declared.types.«Type».TheVariants as ty
-use Rattle.wit_arena.proofs.Common.{AreInOrder, AreNamesInOrder, Def, IsEntryOf, Key, Makes, Occurrence, Turned, UnresolvedPackage, Whole, all_function_occurrences, all_occurrences, exprs_of, foreign_use_occurrence, interface_scopes, interface_turn, item_turns, name_occurrences, names_in_turn, owner_at, shape_occurrences, shapes_occurrences, stability_at, turn_occurrences, turns_of_world, turns_on_sides, types_of, world_scopes}
+use Rattle.wit_arena.proofs.Common.{Def, IsEntryOf, Key, Makes, Occurrence, Turned, UnresolvedPackage, Whole, all_function_occurrences, all_occurrences, exprs_of, foreign_use_occurrence, interface_scopes, interface_turn, item_turns, name_occurrences, names_in_turn, owner_at, shape_occurrences, shapes_occurrences, stability_at, turn_occurrences, turns_of_world, turns_on_sides, types_of, world_scopes}
 use Rattle.wit_syntax.specs.Shape as shape
 use Rattle.wit_json.specs.PlainPackages.{HasVersions}
 use Rattle.wit_json_laws.specs.PlainTrees.{HasPlainNames}
@@ -121,11 +121,11 @@ module _ (files : List PackageFile) (plain : All HasPlainNames files) where
   scope_stability (InlineAt world side place) x among = found_stability (InlineAt world side place) x (item_at (all_scopes files) (InlineAt world side place)) refl among
   scope_stability (ForeignNamed p name) x among = used_stability (ForeignNamed p name) x among
 
-  module _ (order : Address → List ℕ) (orders : AreNamesInOrder files order) where
+  module _ (order : Item → List ℕ) (orders : ((i : Item) → Contains (all_scopes files) i → IsOrder (rows_of (scope_names i)) (order i))) where
     -- the names of a scope in turn are plain
     pub turn_names : (i : Item) → Contains (all_scopes files) i → All IsPlainScopeName (names_in_turn order i)
     turn_names i among = all_at IsPlainScopeName (names_in_turn order i) (λ k x at. (
-        let p = in_turn_among (scope_names i) (order (address i)) (orders i among) k x at in
+        let p = in_turn_among (scope_names i) (order i) (orders i among) k x at in
         at_all IsPlainScopeName (scope_names i) (names_plain i (scope_plain files plain i among)) p.0 x p.1))
 
     turn_stability : (i : Item) → Contains (all_scopes files) i → All HasStability (names_in_turn order i)
@@ -141,7 +141,7 @@ module _ (files : List PackageFile) (plain : All HasPlainNames files) where
     world_turned : (w : Item) → Contains (all_scopes files) w → ((k : ℕ) (i : Item) → slice_get (inline_items w) k ≡ Some i → Contains (all_scopes files) i) → All HasNames (turns_of_world order w)
     world_turned w among inside = all_more HasNames (record { address = address w; names = names_in_turn order w; functions = [] }) (turns_on_sides order (address w) (side_items w) (inline_items w)) (turn_stability w among) (sides_turned (address w) (side_items w) (inline_items w) inside)
 
-    module _ (legal : IsLegal files) (items : List Item) (ordered : AreInOrder files items) where
+    module _ (legal : IsLegal files) (items : List Item) (ordered : ((places : List ℕ) × IsOrder (item_rows files) places × (items ≡ in_order (all_items files) places))) where
       all_turned : All HasNames (item_turns order items)
       all_turned = all_both HasNames (map (interface_turn order) (interfaces_of items)) (flat_map (turns_of_world order) (worlds_of items))
           (all_map HasNames (interface_turn order) (interfaces_of items) (λ k i at. turn_stability i (interfaces_among files legal items ordered k i (at_prefix (interfaces_of items) (flat_map inline_items (worlds_of items)) k i at)).0))

@@ -1,7 +1,7 @@
 -- The maps of worlds that legal files make have no key twice.
 use Rattle.std.proofs.Common.{◌≡◌, ℕ, false, List, [], ◌∷◌, ◌++◌, length, map, take, Some, Contains, refl, sym, ap, ◌∙◌, subst}
-use Rattle.wit_syntax.proofs.Common.{Address, All, AllDiffer, Called, Exported, ForeignVisit, Imported, Include, IsLegal, IsOrder, Item, Link, LinkedTwice, PackageFile, ScopeName, SideItem, SideLink, WorldSide, address, all_items, all_scopes, called_key, contains_at, differ_at, differ_by, flat_map, flat_map-append, folded_key, foreign_worlds, includes, inline_items, is_world_at, item_called, item_inline, item_side, items_on, kept_at, leads, length-inline_after, linked_twice, map-append, name_called, path_id, path_scope, rows_of, same_side, scope_names, scopes_declared, side_called, side_items, slice_get, slice_get-take, worlds_of}
-use Rattle.wit_arena.proofs.Common.{AreInOrder, AreNamesInOrder, Key, WorldItem, WorldKey, entries_on, foreign_world, function_of, interface_scopes, name_imports, names_in_turn, own_world, placed, scope_place, settled, world_entries}
+use Rattle.wit_syntax.proofs.Common.{Address, All, AllDiffer, Called, Exported, ForeignVisit, Imported, Include, IsLegal, IsOrder, Item, Link, LinkedTwice, PackageFile, ScopeName, SideItem, SideLink, WorldSide, address, all_items, all_scopes, called_key, contains_at, differ_at, differ_by, flat_map, flat_map-append, folded_key, foreign_worlds, includes, inline_items, is_world_at, item_called, item_inline, item_side, items_on, kept_at, leads, length-inline_after, linked_twice, map-append, name_called, path_id, path_scope, rows_of, same_side, scope_names, scopes_declared, side_called, side_items, slice_get, slice_get-take, worlds_of, in_order, item_rows}
+use Rattle.wit_arena.proofs.Common.{Key, WorldItem, WorldKey, entries_on, foreign_world, function_of, interface_scopes, name_imports, names_in_turn, own_world, placed, scope_place, settled, world_entries}
 use Rattle.wit_model.specs.declared.world.WorldKey.TheVariants as key
 use Rattle.wit_json.specs.DistinctKeys.{HasOwnKeys, HasOwnSides}
 use Rattle.wit_parser.proofs.PartsScopes.{link_leads}
@@ -25,7 +25,7 @@ settled_keys (n ∷ ns) es d named = own_keys es d
 foreign_sides : (v : ForeignVisit) → HasOwnSides (foreign_world v)
 foreign_sides v = record { imports = no_keys WorldKey WorldItem; exports = no_keys WorldKey WorldItem }
 
-module _ (files : List PackageFile) (legal : IsLegal files) (items : List Item) (ordered : AreInOrder files items) (order : Address → List ℕ) (orders : AreNamesInOrder files order) (id : Key → ℕ) where
+module _ (files : List PackageFile) (legal : IsLegal files) (items : List Item) (ordered : ((places : List ℕ) × IsOrder (item_rows files) places × (items ≡ in_order (all_items files) places))) (order : Item → List ℕ) (orders : ((i : Item) → Contains (all_scopes files) i → IsOrder (rows_of (scope_names i)) (order i))) (id : Key → ℕ) where
   abbrev ss : List Address
   ss = interface_scopes files items
 
@@ -36,14 +36,14 @@ module _ (files : List PackageFile) (legal : IsLegal files) (items : List Item) 
     scope_among : Contains (all_scopes files) w
     scope_among = scopes_declared files w among
 
-    least : IsOrder (rows_of (scope_names w)) (order (address w))
+    least : IsOrder (rows_of (scope_names w)) (order w)
     least = orders w scope_among
 
     abbrev there : WorldSide → List SideItem
     there side = items_on side (side_items w)
 
     abbrev all_called : WorldSide → List Called
-    all_called side = side_called side (scope_names w) (there side) (order (address w))
+    all_called side = side_called side (scope_names w) (there side) (order w)
 
     abbrev on : WorldSide → List Entry
     on side = entries_on side (world_entries id ss w)
@@ -63,7 +63,7 @@ module _ (files : List PackageFile) (legal : IsLegal files) (items : List Item) 
         legal (linked_twice b.side (path_id b.path).span) (LinkedTwice w among (side, q, a, b, earlier, at_b, bare_a, bare_b, scopes, other.1, refl))
 
     names_differ : (side : WorldSide) → AllDiffer (map called_name (all_called side))
-    names_differ side = called_differ (all_called side) (side_keys files legal w scope_among (order (address w)) least side)
+    names_differ side = called_differ (all_called side) (side_keys files legal w scope_among (order w) least side)
 
     places_differ : (side : WorldSide) → AllDiffer (flat_map (bare_place id (address w) ss w.top) (there side))
     places_differ side = bare_differ id (address w) ss w.top (there side) (links_apart side)

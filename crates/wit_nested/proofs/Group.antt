@@ -6,7 +6,8 @@ use Rattle.wit_nested.specs.PushFaults.{IsWalk, files_of}
 use Rattle.wit_nested.specs.GroupFaults.{names_fault, nested_names, joined_faults, group_fault, GroupComesTo, IsFirstOfGroup, IsFaultlessGroup, IsUnfitAmong, IsNamedTwice, IsBrokenGroup, IsLegalGroup}
 use Rattle.wit_nested.specs.GroupFaults.IsBrokenGroup.{Unfit, Broken, NamedTwice}
 use Rattle.wit_nested.proofs.Names.{names_agree}
-use Rattle.wit_nested.proofs.Pushes.{a_walk, none_of, one_walk, or_agrees, pushes_agree, walk_agrees}
+use Rattle.wit_nested.proofs.Pushes.{a_walk, none_of, one_walk, pushes_agree, walk_agrees}
+use Rattle.wit_parser.proofs.Pushing.{or_agrees}
 
 -- what is wrong with the files of all sources, or with the names of the packages
 pub joined_agrees : (walk : List PackageFile → Option Fault) → IsWalk walk → (sources : List SourceFile) → Agrees (earliest (joined_faults walk sources)) (λ f. IsBroken (files_of sources) f ⊎ IsNamedTwice (last_header (files_of sources)) (nested_names sources) f)

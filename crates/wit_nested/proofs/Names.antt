@@ -3,7 +3,6 @@ use Rattle.std.proofs.Common.{◌≡◌, ℕ, zero, suc, Bool, true, false, List
 use Rattle.wit_syntax.proofs.Common.{AllDiffer, AllZip, Contains, Fault, IsSamePackage, NestedPackage, PackageName, SourceFile, Span, append-nil, at_contains, at_take, contains_at, differ_at, differ_more, differ_none, fault_in, last_header, list_any, map-append, map_at, option_map, package_of, package_words, same_package, same_package-equal, same_package-from, slice_get, slice_get-map, take-map}
 use Rattle.wit_tree.specs.declared.tree.PackageName.{PackageName as Header}
 use Rattle.wit_arena.proofs.Common.{IsMadeOf, UnresolvedPackage}
-use Rattle.wit_arena.proofs.MadeHeads.{header_there}
 use Rattle.wit_walk.proofs.Common.{Agrees, after-at, after_only, after_some, any_found, any_some, first_after, none_both, or_none_both, or_some}
 use Rattle.wit_parser.proofs.Pushing.{package_same, same_by}
 use Rattle.wit_nested.specs.Nested.{IsMadeByNested}
@@ -179,6 +178,11 @@ module _ (own : Header) (main : UnresolvedPackage) (ns : List NestedPackage) (ne
     repeated = λ f. (repeated_package f, package_repeated f);
     apart = (λ none. subst AllDiffer all_names (names_apart own hs none), λ d. names_none own hs (subst AllDiffer (sym all_names) d));
   }
+
+-- a header is there, where it names a package
+header_there : (o : Option Header) (n : PackageName) → option_map package_of o ≡ Some n → (h : Header) × (o ≡ Some h) × (package_of h ≡ n)
+header_there None n named = absurd (let f : ⊥ = cc in f)
+header_there (Some h) n named = (let same : package_of h ≡ n = cc in (h, refl, same))
 
 pub made_names : (sources : List SourceFile) (main : UnresolvedPackage) (nested : List UnresolvedPackage) → IsMadeOf (files_of sources) main → AllZip IsMadeByNested (nested_of sources) nested
     → AgreeOnNames (names_fault (last_header (files_of sources)) (nested_names sources)) main nested

@@ -1,11 +1,11 @@
 -- The first fault of sources is a reason why one of them cannot be pushed; and where there is none, each of them can.
-use Rattle.std.proofs.Common.{◌≡◌, ◌⊎◌, Bool, true, false, List, [], ◌∷◌, take, Option, Some, None, inl, inr, refl, sym, ap, ◌∙◌, subst}
-use Rattle.wit_syntax.proofs.Common.{Contains, Fault, IsBroken, IsDocumentedTwice, IsMismatch, IsOtherPackage, NestedPackage, PackageFile, SourceFile, at_contains, contains_at, fault, headers, last_header, option_or, package_of, same_package}
+use Rattle.std.proofs.Common.{◌≡◌, ◌⊎◌, List, [], ◌∷◌, take, Option, Some, None, inl, inr, refl, sym, subst}
+use Rattle.wit_syntax.proofs.Common.{Contains, Fault, IsBroken, IsDocumentedTwice, IsOtherPackage, NestedPackage, PackageFile, SourceFile, at_contains, contains_at, fault, headers, last_header}
 use mathlib.Core.Path.{fun_ext}
 use Rattle.wit_tree.specs.declared.tree.PackageName.{PackageName as Header}
-use Rattle.wit_walk.proofs.Common.{Agrees, ComesTo, after_only, after_some, faultless, first_in, in_agrees, legal, one_first, or_none_both, or_some, other_fault}
+use Rattle.wit_walk.proofs.Common.{Agrees, ComesTo, after_only, after_some, faultless, first_in, in_agrees, legal, one_first}
 use Rattle.wit_items.proofs.Documented.{docs_agree}
-use Rattle.wit_parser.proofs.Pushing.{another, other_here, same_by}
+use Rattle.wit_parser.proofs.Pushing.{or_agrees, other_agrees}
 use Rattle.wit_nested.specs.Nested.{IsBrokenAmong, IsBrokenNested, IsInner, IsUnfit, file_of}
 use Rattle.wit_nested.specs.Nested.IsBrokenNested.{Inner, Alone}
 use Rattle.wit_nested.specs.Nested.IsUnfit.{Nested, OtherPackage, DocumentedTwice}
@@ -13,21 +13,6 @@ use Rattle.wit_walk.proofs.Broken.{broken}
 use Rattle.wit_walk.proofs.Decided.{decided}
 use Rattle.wit_nested.specs.GroupFaults.{IsUnfitAmong}
 use Rattle.wit_nested.specs.PushFaults.{IsWalk, inner_fault, nested_fault, file_fault, source_fault, files_of, pushes_fault}
-
--- of two faults, one after the other
-pub or_agrees : {a b : Option Fault} {A B C : Fault → Type 0} → Agrees a A → Agrees b B → ((f : Fault) → A f → C f) → ((f : Fault) → B f → C f) → ((f : Fault) → C f → A f ⊎ B f) → Agrees (option_or a b) C
-or_agrees {a} {b} {A} {B} {C} x y left right back = record {
-  broken = λ f h. elim (or_some a b f h) [
-    | inl own ↦ left f (x.broken f own)
-    | inr far ↦ right f (y.broken f far.1)
-  ];
-  unbroken = λ none f c. (
-      let both = or_none_both a b none in
-      elim (back f c) [
-        | inl own ↦ x.unbroken both.0 f own
-        | inr far ↦ y.unbroken both.1 f far
-      ]);
-}
 
 -- the same fault in other words
 pub agrees_as : {a : Option Fault} {A B : Fault → Type 0} → Agrees a A → ((f : Fault) → A f → B f) → ((f : Fault) → B f → A f) → Agrees a B
@@ -78,34 +63,6 @@ nested_back n f (Alone b) = inr b
 
 nested_agrees : (walk : List PackageFile → Option Fault) → IsWalk walk → (n : NestedPackage) → Agrees (nested_fault walk n) (IsBrokenNested n)
 nested_agrees walk walks n = or_agrees (inner_agrees n) (walk_agrees walk walks (file_of n ∷ [])) (λ f i. Inner i) (λ f b. Alone b) (nested_back n)
-
--- a header after another one
-other_broken : (previous current : Option Header) (f : Fault) → other_fault previous current ≡ Some f → IsMismatch previous current f
-other_broken None current f h = absurd (let g : ⊥ = cc in g)
-other_broken (Some before) None f h = absurd (let g : ⊥ = cc in g)
-other_broken (Some before) (Some own) f h = by (same_package (package_of before) (package_of own)) refl
-  where
-    by : (b : Bool) → same_package (package_of before) (package_of own) ≡ b → IsMismatch (Some before) (Some own) f
-    by true is = absurd (let wrong : None ≡ Some f = rw is at h in let g : ⊥ = cc in g)
-    by false is = (
-        let same : Some (another before own) ≡ Some f = rw is at h in
-        record {
-          before = before;
-          own = own;
-          was = refl;
-          now = refl;
-          other = λ one. (let wrong : true ≡ false = sym (same_by before own one) ∙ is in let g : ⊥ = cc in g);
-          is = (let says : f ≡ another before own = cc in says);
-        })
-
-other_unbroken : (previous current : Option Header) → other_fault previous current ≡ None → (f : Fault) → IsMismatch previous current f → ⊥
-other_unbroken previous current none f h =
-    let there = ap (λ (o : Option Header). other_fault o current) h.was ∙ ap (other_fault (Some h.before)) h.now ∙ other_here h.before h.own h.other in
-    let wrong : None ≡ Some (another h.before h.own) = sym none ∙ there in
-    (let g : ⊥ = cc in g)
-
-other_agrees : (previous current : Option Header) → Agrees (other_fault previous current) (IsMismatch previous current)
-other_agrees previous current = record { broken = other_broken previous current; unbroken = other_unbroken previous current }
 
 file_agrees : (files : List PackageFile) (file : PackageFile) → Agrees (file_fault files file) (λ f. IsOtherPackage files file f ⊎ IsDocumentedTwice files file f)
 file_agrees files file = or_agrees (other_agrees (last_header files) file.package_id) (docs_agree (headers files) file.package_id) (λ f x. inl x) (λ f x. inr x) (λ f x. x)

@@ -19,7 +19,7 @@ use Rattle.wit_nested.proofs.Pushes.{a_walk}
 use Rattle.wit_tool.specs.Output.{IsOutput, OfSources, Listing}
 use Rattle.wit_meaning_examples.proofs.Examples.{at, vec}
 use Rattle.wit_meaning_examples.proofs.HandleExamples.{borrow_seen, file_of, in_c, in_i, item_of, name_seen, used_r, user, user_files, user_required, user_types}
-use Rattle.wit_output_rows.proofs.Making.{items_sorted, items_in_order, names_sorted, names_in, place_among, AtPlace, by_places}
+use Rattle.wit_output_rows.proofs.Making.{items_sorted, items_in_order, names_sorted, names_by_address, names_in, place_among, AtPlace, by_places}
 use Rattle.wit_output_rows.proofs.Sorting.{sorted_order}
 use Rattle.wit_output_rows.proofs.Values.{source}
 use Rattle.wit_output_rows.proofs.Walks.{one_by_path, walks_in_two, joined_none}
@@ -96,6 +96,7 @@ module _ (ptr : Ptr) (alloc : Global) where
     items = items_sorted (user_files ptr alloc);
     in_order = items_in_order (user_files ptr alloc) refl;
     order = names_sorted (user_files ptr alloc);
+    by_address = names_by_address (user_files ptr alloc);
     names_in_order = names_in (user_files ptr alloc) (names_sorted (user_files ptr alloc)) (sorted_order (rows_of (scope_names (item_of ptr alloc (user ptr alloc)))) refl, tt);
     same = same_key;
     gives = same_key_determines;

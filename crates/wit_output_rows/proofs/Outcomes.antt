@@ -1,7 +1,7 @@
 -- Outcomes of tables that compute: where there is an order, and where the only name that is needed is missing.
 use Rattle.std.proofs.Common.{◌≡◌, ℕ, Bool, true, false, List, [], ◌∷◌, Option, Some, None, inl, inr, refl, ap, arith}
 use Rattle.wit_syntax.proofs.Common.{Id, Row, slice_get, target}
-use Rattle.wit_walk.proofs.Common.{AreOutcomes, AtMissing, InOrder, IsOutcome, Outcome}
+use Rattle.wit_walk.proofs.Common.{AtMissing, InOrder, IsOutcome, Outcome}
 use Rattle.wit_walk.proofs.Outcomes.{outcome_of}
 use Rattle.wit_output_rows.proofs.Sorting.{is_sorted, sorted, sorted_order}
 
@@ -33,14 +33,10 @@ missing_alone r id needs none = (
   0,
   0,
   record {
-    id = id;
-    first = record {
-      is = (r, refl, ap (λ (ids : List Id). slice_get ids 0) needs);
-      holds = none;
-      earlier = λ j l y edge before passes. elim before [ inl less ↦ omega (arith, less) | inr here ↦ omega (arith, here.1) ];
-    };
+    is = (r, refl, ap (λ (ids : List Id). slice_get ids 0) needs);
+    holds = none;
+    earlier = λ j l y edge before passes. elim before [ inl less ↦ omega (arith, less) | inr here ↦ omega (arith, here.1) ];
   },
-  refl,
 )
 
 target_outcome : (r : Row) (id : Id) (place : Option ℕ) → r.needs ≡ id ∷ [] → target (r ∷ []) id ≡ place → IsOutcome (r ∷ []) (by_target place r id)
@@ -61,5 +57,5 @@ order_outcome : (rs : List Row) (whole : Bool) → is_sorted rs ≡ whole → Is
 order_outcome rs true whole = sorted_order rs whole
 order_outcome rs false other = rows_outcome rs
 
-pub outcomes : AreOutcomes outcome
-outcomes = record { each = λ rs. order_outcome rs (is_sorted rs) refl }
+pub outcomes : (rs : List Row) → IsOutcome rs (outcome rs)
+outcomes rs = order_outcome rs (is_sorted rs) refl

@@ -18,7 +18,7 @@ use Rattle.wit_nested.proofs.Pushes.{a_walk}
 use Rattle.wit_groups.specs.SourceFaults.{AreFaultless, SequenceComesTo, Tree}
 use Rattle.wit_tool.specs.Output.{IsOutput, OfSources, Listing}
 use Rattle.wit_meaning_examples.proofs.Examples.{at, id, vec, no_comments, unstated}
-use Rattle.wit_output_rows.proofs.Making.{items_sorted, items_in_order, names_sorted, names_in, place_among, none_required}
+use Rattle.wit_output_rows.proofs.Making.{items_sorted, items_in_order, names_sorted, names_by_address, names_in, place_among, none_required}
 use Rattle.wit_output_rows.proofs.Sorting.{sorted_order}
 use Rattle.wit_output_rows.proofs.Values.{source}
 use Rattle.wit_output_rows.proofs.Walks.{one_by_path, walks_to, joined_none, no_earlier}
@@ -113,6 +113,7 @@ module _ (ptr : Ptr) (alloc : Global) where
     items = items_sorted (own_file ∷ []);
     in_order = items_in_order (own_file ∷ []) refl;
     order = names_sorted (own_file ∷ []);
+    by_address = names_by_address (own_file ∷ []);
     names_in_order = names_in (own_file ∷ []) (names_sorted (own_file ∷ [])) (sorted_order (rows_of (scope_names (item_in own_file j_name))) refl, tt);
     same = same_key;
     gives = same_key_determines;
@@ -138,6 +139,7 @@ module _ (ptr : Ptr) (alloc : Global) where
     items = items_sorted (file_of nested ∷ []);
     in_order = items_in_order (file_of nested ∷ []) refl;
     order = names_sorted (file_of nested ∷ []);
+    by_address = names_by_address (file_of nested ∷ []);
     names_in_order = names_in (file_of nested ∷ []) (names_sorted (file_of nested ∷ [])) (sorted_order (rows_of (scope_names (item_in (file_of nested) i_name))) refl, tt);
     same = same_key;
     gives = same_key_determines;

@@ -16,7 +16,7 @@ use Rattle.wit_groups.specs.SourceFaults.{AreFaultless, Tree}
 use Rattle.wit_nested.proofs.Pushes.{a_walk}
 use Rattle.wit_tool.specs.Output.{IsOutput, OfSources, Listing}
 use Rattle.wit_meaning_examples.proofs.Examples.{a, at, b, name_seen, package_with, t, used_file, used_files, used_interfaces, used_t, used_types, user_item, vec, x_item}
-use Rattle.wit_output_rows.proofs.Making.{items_sorted, items_in_order, names_sorted, names_in, place_among, AtPlace, by_places, none_required}
+use Rattle.wit_output_rows.proofs.Making.{items_sorted, items_in_order, names_sorted, names_by_address, names_in, place_among, AtPlace, by_places, none_required}
 use Rattle.wit_output_rows.proofs.Sorting.{sorted_order}
 use Rattle.wit_output_rows.proofs.Values.{source}
 use Rattle.wit_output_rows.proofs.Walks.{one_by_path, walks_to, joined_none}
@@ -76,6 +76,7 @@ module _ (ptr : Ptr) (alloc : Global) where
     items = items_sorted (used_files ptr alloc);
     in_order = items_in_order (used_files ptr alloc) refl;
     order = names_sorted (used_files ptr alloc);
+    by_address = names_by_address (used_files ptr alloc);
     names_in_order = names_in (used_files ptr alloc) (names_sorted (used_files ptr alloc)) (sorted_order (rows_of (scope_names (user_item ptr alloc))) refl, (sorted_order (rows_of (scope_names (x_item ptr alloc))) refl, tt));
     same = same_key;
     gives = same_key_determines;

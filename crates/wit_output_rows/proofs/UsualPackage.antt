@@ -14,7 +14,7 @@ use Rattle.wit_groups.specs.SourceFaults.{AreFaultless, Tree}
 use Rattle.wit_tool.specs.Output.{IsOutput, OfSources, Listing}
 use Rattle.wit_meaning_examples.proofs.Examples.{vec}
 use Rattle.wit_meaning_examples.proofs.UsualExamples.{io_error, used_error, input, files, file, streams_item, w_item, seen, types, whole, io_interface, streams_interface, stated_of_streams}
-use Rattle.wit_output_rows.proofs.Making.{items_sorted, items_in_order, names_sorted, names_in, place_among, AtPlace, by_places, none_required}
+use Rattle.wit_output_rows.proofs.Making.{items_sorted, items_in_order, names_sorted, names_by_address, names_in, place_among, AtPlace, by_places, none_required}
 use Rattle.wit_output_rows.proofs.Sorting.{sorted_order}
 use Rattle.wit_output_rows.proofs.Values.{source}
 use Rattle.wit_output_rows.proofs.Walks.{one_by_path, walks_to, joined_none}
@@ -80,6 +80,7 @@ module _ (ptr : Ptr) (alloc : Global) where
     items = items_sorted (files ptr alloc);
     in_order = items_in_order (files ptr alloc) refl;
     order = names_sorted (files ptr alloc);
+    by_address = names_by_address (files ptr alloc);
     names_in_order = names_in (files ptr alloc) (names_sorted (files ptr alloc)) (sorted_order (rows_of (scope_names (streams_item ptr alloc))) refl, (sorted_order (rows_of (scope_names (w_item ptr alloc))) refl, tt));
     same = same_key;
     gives = same_key_determines;

@@ -1,29 +1,23 @@
 -- The line of a fault: its number, its place and its words.
 use Rattle.std.specs.Prelude.{◌≡◌, ℕ, List, [], ◌++◌, Option, Some, None, codes}
-use Rattle.wit_type_tree.specs.RefusalText.{Sort, Said, Missing, Cyclic, Wanting}
 use Rattle.wit_lex.specs.declared.source.Source.{Source}
 use Rattle.wit_listing.specs.ErrorLine.{IsPlaceAt, Place, line_text}
-use Rattle.wit_syntax.specs.Fault.{Fault}
+use Rattle.wit_syntax.specs.Fault.{Fault, Saying, Said, Missing, Cyclic, Wanting}
 
--- a name, where there is one
-abbrev pub name_text : Option (List ℕ) → List ℕ
-name_text None = []
-name_text (Some name) = name
-
--- and a hint
+-- a hint, where there is one
 abbrev pub hint_text : Option (List ℕ) → List ℕ
 hint_text None = []
 hint_text (Some hint) = codes "; " ++ hint
 
--- what a fault says, where it is of this sort
-abbrev pub sort_text : Fault → Sort → List ℕ
-sort_text f Said = f.said
-sort_text f (Missing sort) = sort ++ (codes " `" ++ (name_text f.name ++ codes "` does not exist")) ++ hint_text f.hint
-sort_text f (Cyclic sort) = sort ++ (codes " `" ++ (name_text f.name ++ codes "` depends on itself"))
-sort_text f Wanting = codes "out of memory"
+-- what a fault says, in words
+abbrev pub saying_text : Saying → List ℕ
+saying_text (Said text) = text
+saying_text (Missing name sort hint) = sort ++ (codes " `" ++ (name ++ codes "` does not exist")) ++ hint_text hint
+saying_text (Cyclic name sort) = sort ++ (codes " `" ++ (name ++ codes "` depends on itself"))
+saying_text Wanting = codes "out of memory"
 
 abbrev pub fault_text : Fault → List ℕ
-fault_text f = sort_text f f.sort
+fault_text f = saying_text f.says
 
 -- the line of a fault of these sources
 abbrev pub IsFaultLine : List Source → Fault → List ℕ → Type 0
