@@ -1,18 +1,12 @@
 -- Bodies of definitions that are alike: their shapes and their first faults.
 use Rattle.std.proofs.Common.{◌≡◌, ℕ, Bool, true, false, cond, List, [], ◌∷◌, map, Option, Some, None, is_some, codes, refl, ap, ap₂}
-use Rattle.wit_syntax.proofs.Common.{AllZip, Both', Case, Enum, EnumForm, Err', Fault, Flags, FlagsForm, Id, Member, Neither, None', Of, Ok', Plain, Prim, Record, RecordForm, Resource, ResourceFunc, ResultTypes, Row_of-Type, Shape, Some', Span, TypeBody, Variant, VariantForm, Word, all_shapes, body_of, body_types, bytes_eq, case_types, clash, docs_text, end_of-Type, fault, fault_in, field_types, lower_case, head, member, more_of-Type, option_map, option_or, row_types, shape_of, slice_get, written_body}
+use Rattle.wit_walk.proofs.Common.{AllZip, Both', Case, Enum, EnumCase, EnumForm, Err', Fault, Field, Flag, Flags, FlagsForm, Id, Member, Neither, None', Of, Ok', Plain, Prim, Record, RecordForm, Resource, ResourceFunc, ResultTypes, Row_of-Type, Shape, Some', Span, TypeBody, Variant, VariantForm, Word, all_shapes, body_of, body_types, bytes_eq, case_types, clash, clash_fault, clash_of, docs_text, empty_fault, end_of-Type, fault, fault_in, field_types, head, list_fault, lower_case, member, members_fault, more_of-Type, names_fault, option_map, option_or, row_fault, row_types, shape_of, slice_get, type_fault, written_body, «Type» as Written}
 use Rattle.std.specs.List.{find}
-use Rattle.wit_type_tree.specs.declared.types.Field.{Field}
-use Rattle.wit_type_tree.specs.declared.types.Flag.{Flag}
-use Rattle.wit_type_tree.specs.declared.types.EnumCase.{EnumCase}
-use Rattle.wit_type_tree.specs.declared.types.«Type».{«Type» as Written}
+use Rattle.wit_syntax.specs.Shape.{Body}
 use Rattle.wit_type_tree.specs.declared.types.«Type».TheVariants as written
 use Rattle.wit_grammar.specs.Trees.{Name, Documents, Field as SeenField, Flag as SeenFlag, Case as SeenCase}
 use Rattle.wit_grammar.specs.Seen.{see_body, see_case, see_enum_case, see_field, see_flag, see_resource_func, see_type}
-use Rattle.wit_syntax.specs.Shape.{Body}
 use Rattle.wit_first.specs.KeyFaults.{can_be_key, is_key, key_fault}
-use Rattle.wit_first.specs.ListFaults.{clash_fault, empty_fault, list_fault, members_fault, names_fault}
-use Rattle.wit_walk.proofs.Common.{clash_of, outcome_fault, row_fault, type_fault}
 use Rattle.wit_alike.proofs.Lists.{Both, both_of, both_same, consed, zip_after, zip_at, zip_find, zip_map, zip_of, zip_same}
 use Rattle.wit_alike.proofs.Leaves.{SameId}
 use Rattle.wit_alike.proofs.Types.{SameType, SameResult, SameRow, SameShape, SameShapes, same_shape, type_of}
@@ -41,7 +35,7 @@ module _ (word handle other also : Id → Option Fault) (words : (a b : Id) → 
     same_type_fault (written.FixedLengthList' s p t n) (written.FixedLengthList' r q u m) h = same_type_fault t u h.1
     same_type_fault (written.Map' s p k q v) (written.Map' r o l n w) h = ap₂ option_or (same_type_fault k l h.1) (ap₂ option_or (same_type_fault v w h.2) (same_key k l s r h.1 h.0))
     same_type_fault (written.Option' s p t) (written.Option' r q u) h = same_type_fault t u h.1
-    same_type_fault (written.Result s of) (written.Result r by) h = same_outcome_fault of by h.1
+    same_type_fault (written.Result s of) (written.Result r by) h = same_outcome_fault s r of by h.1
     same_type_fault (written.Tuple' s x ts) (written.Tuple' r y us) h = ap₂ option_or (same_empty_row 22 ts us s r h.1 h.0) (same_row_fault ts us h.1)
     same_type_fault (written.Future' s None') (written.Future' r None') h = refl
     same_type_fault (written.Future' s (Some' p t)) (written.Future' r (Some' q u)) h = same_type_fault t u h.1
@@ -55,12 +49,12 @@ module _ (word handle other also : Id → Option Fault) (words : (a b : Id) → 
     same_type_fault (written.Borrow s a) (written.Borrow r b) h = handles a b h.1
     same_type_fault t u h = absurd h
 
-    same_outcome_fault : (of by : ResultTypes) → SameResult of by → outcome_fault word handle of ≡ outcome_fault other also by
-    same_outcome_fault Neither Neither h = refl
-    same_outcome_fault (Ok' p t) (Ok' q u) h = same_type_fault t u h
-    same_outcome_fault (Err' p t) (Err' q u) h = same_type_fault t u h
-    same_outcome_fault (Both' p t q u) (Both' r v s w) h = ap₂ option_or (same_type_fault t v h.0) (same_type_fault u w h.1)
-    same_outcome_fault of by h = absurd h
+    same_outcome_fault : (s r : Span) (of by : ResultTypes) → SameResult of by → type_fault word handle (written.Result s of) ≡ type_fault other also (written.Result r by)
+    same_outcome_fault s r Neither Neither h = refl
+    same_outcome_fault s r (Ok' p t) (Ok' q u) h = same_type_fault t u h
+    same_outcome_fault s r (Err' p t) (Err' q u) h = same_type_fault t u h
+    same_outcome_fault s r (Both' p t q u) (Both' x v y w) h = ap₂ option_or (same_type_fault t v h.0) (same_type_fault u w h.1)
+    same_outcome_fault s r of by h = absurd h
 
     same_row_fault : {m n : _} (ts : Row_of-Type m) (us : Row_of-Type n) → SameRow ts us → row_fault word handle ts ≡ row_fault other also us
     same_row_fault end_of-Type end_of-Type h = refl

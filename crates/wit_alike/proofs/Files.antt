@@ -1,11 +1,10 @@
 -- The first faults of the names, the tops and the uses of alike files.
 use Rattle.std.proofs.Common.{◌≡◌, ℕ, Bool, true, false, cond, List, [], ◌∷◌, Option, Some, None, is_none, refl, ap, ap₂, ◌∙◌, ◌++◌, codes}
-use Rattle.wit_syntax.proofs.Common.{AllZip, AstItem, Attribute, Extern, Fault, Foreign, ForeignVisit, Id, Item, Local, Missing, PackageFile, Part, Span, Target, TopName, ToplevelUse, Use, UsePart, UsePath, about, all_items, bytes_eq, fault, fault_in, file_items, find, foreign_visits, inline_uses, is_world_at, item_name, item_named, item_twice, item_word, leads, missing_at, needed_paths, option_or, parts, path_id, top_names, top_text, top_twice, walk, around, own_uses}
+use Rattle.wit_walk.proofs.Common.{AllZip, AstItem, Attribute, Extern, Fault, Foreign, ForeignVisit, Id, Item, Local, Missing, PackageFile, Part, Span, Target, TopName, ToplevelUse, Use, UsePart, UsePath, about, all_items, all_uses_fault, around, bytes_eq, fault, fault_in, file_fault, file_items, files_fault, find, first_in, first_repeat, foreign_visits, inline_uses, is_world_at, item_name, item_named, item_names_fault, item_twice, item_uses_fault, item_word, leads, lost_fault, missing_at, needed_paths, option_or, own_uses, parts, path_fault, path_id, paths_fault, reached_fault, repeat_of, stability_fault, top_fault, top_names, top_names_fault, top_text, top_twice, tops_fault, unnamed_fault, walk}
 use Rattle.wit_tree.specs.declared.tree.AstItem.TheVariants as ast
 use Rattle.wit_tree.specs.declared.tree.UsePath.TheVariants as path
 use Rattle.wit_grammar.specs.Trees.{TopUse}
 use Rattle.wit_grammar.specs.Seen.{see_attribute, see_top_use}
-use Rattle.wit_walk.proofs.Common.{all_uses_fault, file_fault, files_fault, first_repeat, item_names_fault, item_uses_fault, lost_fault, path_fault, paths_fault, reached_fault, repeat_of, stability_fault, top_fault, top_names_fault, tops_fault, unnamed_fault, first_in}
 use Rattle.wit_first.specs.UseFaults.{use_fault}
 use Rattle.wit_alike.proofs.Lists.{Both, zip_after, zip_any, zip_find, zip_first, zip_of}
 use Rattle.wit_alike.proofs.Leaves.{SameId, SameAttributes, by_name, same_metadata, same_stability, same_text}

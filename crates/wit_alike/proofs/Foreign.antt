@@ -1,6 +1,6 @@
 -- What alike files name of other packages, and the names of their scopes.
 use Rattle.std.proofs.Common.{◌≡◌, Bool, true, false, not, ◌&&◌, List, [], ◌∷◌, ◌++◌, length, Option, Some, None, refl, ap, ap₂}
-use Rattle.wit_syntax.proofs.Common.{Address, AllZip, AstItem, Attribute, DefinitionPart, Extern, ExternKind, ExternPart, Foreign, ForeignName, ForeignNamed, ForeignUse, ForeignVisit, FunctionPart, Include, IncludePart, InlineAt, InterfaceItem, InterfaceNamed, Item, Local, PackageFile, Part, SideItem, Target, TheInterface, TheWorld, TopName, Use, UseName, UsePart, UsePath, WorldNamed, about, all_items, all_scopes, bytes_eq, declaration_visits, extern_paths, extern_visits, filter, first_foreign_uses, firsts, flat_map, foreign_at, foreign_items, foreign_uses, foreign_visits, inline_after, inline_item, inline_items, inline_uses, is_foreign, is_interface, is_world, is_world_at, item_at, item_named, item_side, item_uses, items_on, option_map_or, part_foreign_uses, part_visits, parts, path_scope, path_visits, same_address, same_foreign_use, same_item, scope, scope_names, side_items, use_foreign_uses, use_of_foreign, used_names, visited, walk}
+use Rattle.wit_walk.proofs.Common.{Address, AllZip, AstItem, Attribute, DefinitionPart, Extern, ExternKind, ExternPart, Foreign, ForeignName, ForeignNamed, ForeignUse, ForeignVisit, FunctionPart, Include, IncludePart, InlineAt, InterfaceItem, InterfaceNamed, Item, Local, PackageFile, Part, SideItem, Target, TheInterface, TheWorld, TopName, Use, UseName, UsePart, UsePath, WorldNamed, about, all_items, all_scopes, bytes_eq, declaration_visits, extern_paths, extern_visits, filter, first_foreign_uses, firsts, flat_map, foreign_at, foreign_items, foreign_uses, foreign_visits, inline_after, inline_item, inline_items, inline_uses, is_foreign, is_interface, is_world, is_world_at, item_at, item_named, item_side, item_uses, items_on, option_map_or, part_foreign_uses, part_visits, parts, path_scope, path_visits, same_address, same_foreign_use, same_item, scope, scope_names, side_items, use_foreign_uses, use_of_foreign, used_names, visited, walk}
 use Rattle.wit_tree.specs.declared.tree.AstItem.TheVariants as ast
 use Rattle.wit_tree.specs.declared.tree.ExternKind.TheVariants as extern
 use Rattle.wit_tree.specs.declared.tree.InterfaceItem.TheVariants as interface_item

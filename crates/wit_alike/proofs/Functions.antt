@@ -1,11 +1,10 @@
 -- Functions that are alike, and what is on the sides of items that are.
 use Rattle.std.proofs.Common.{◌≡◌, ℕ, List, ◌++◌, map, length, codes, Option, Some, None, refl, ap, ap₂, ◌∙◌}
-use Rattle.wit_syntax.proofs.Common.{AllZip, Attribute, Constructor, DefinitionPart, Extern, ExternKind, ExternPart, Freestanding, Func, FunctionPart, Id, IncludePart, InterfaceItem, Item, Link, Method, NamedFunc, OnSide, Param, Part, ResourceFunc, Role, SideFunction, SideInline, SideItem, SideLink, SourceFunction, SourceParam, Span, Static, TypeBody, UsePart, UsePath, Word, WorldSide, accessor, constructor_of, definition_functions, extern_functions, extern_items, extern_link, filter, free_function, functions, inline_item, is_interface, item_function, item_link, item_side, items_on, on_side, option_map, option_map_or, part_functions, part_items, parts, resource_function, role_side, same_side, shape_of, side_function, side_items, written_param}
+use Rattle.wit_walk.proofs.Common.{AllZip, Attribute, Constructor, DefinitionPart, Extern, ExternKind, ExternPart, Freestanding, Func, FunctionPart, Id, IncludePart, InterfaceItem, Item, Link, Method, NamedFunc, OnSide, Param, Part, ResourceFunc, Role, SideFunction, SideInline, SideItem, SideLink, SourceFunction, SourceParam, Span, Static, TypeBody, UsePart, UsePath, Word, WorldSide, accessor, constructor_of, definition_functions, extern_functions, extern_items, extern_link, filter, free_function, functions, inline_item, is_interface, item_function, item_link, item_side, items_on, on_side, option_map, option_map_or, part_functions, part_items, parts, resource_function, role_side, same_side, shape_of, side_function, side_items, written_param, «Type» as Written}
 use Rattle.wit_type_tree.specs.declared.leaves.Docs.{Docs}
 use Rattle.wit_type_tree.specs.declared.types.FuncForm.TheVariants as form
 use Rattle.wit_type_tree.specs.declared.types.ResourceFunc.TheVariants as resource
 use Rattle.wit_type_tree.specs.declared.types.TypeBody.TheVariants as body
-use Rattle.wit_type_tree.specs.declared.types.«Type».{«Type» as Written}
 use Rattle.wit_tree.specs.declared.tree.ExternKind.TheVariants as extern
 use Rattle.wit_grammar.specs.Trees.{Name, Definition, Function, NamedFunction, Parameter, Prefix, Ty, Extern as SeenExtern}
 use Rattle.wit_grammar.specs.Seen.{see_attribute, see_docs, see_extern, see_func, see_item, see_kind, see_name, see_named_func, see_param, see_path, see_prefix, see_resource_func, see_type}

@@ -1,6 +1,6 @@
 -- Items of files, their parts and the names of their scopes, that are alike.
 use Rattle.std.proofs.Common.{◌≡◌, ℕ, Bool, true, false, cond, List, [], ◌++◌, map, Some, refl, ap, ap₂, ◌∙◌}
-use Rattle.wit_syntax.proofs.Common.{Address, AllZip, AstItem, Attribute, Declared, Defined, DefinitionPart, Exported, Extern, ExternPart, ForeignName, FunctionPart, Imported, Include, IncludePart, InlineAt, InterfaceItem, InterfaceNamed, Item, PackageFile, Part, ScopeName, TheInline, TheInterface, TheWorld, TopName, Use, UseName, UsePart, Used, WorldItem, WorldNamed, WorldSide, about, about_name, address, all_items, at_side, bytes_eq, declared_items, file_items, flat_map, interface_part, is_world, item_at, item_name, item_named, local_id, local_name, meaning, option_map, part_names, parts, path_scope, same_address, same_side, scope_names, top_name, top_names, walk, world_part}
+use Rattle.wit_walk.proofs.Common.{Address, AllZip, AstItem, Attribute, Declared, Defined, DefinitionPart, Exported, Extern, ExternPart, ForeignName, FunctionPart, Imported, Include, IncludePart, InlineAt, InterfaceItem, InterfaceNamed, Item, PackageFile, Part, ScopeName, TheInline, TheInterface, TheWorld, TopName, Use, UseName, UsePart, Used, WorldItem, WorldNamed, WorldSide, about, about_name, address, all_items, at_side, bytes_eq, declared_items, file_items, flat_map, interface_part, is_world, item_at, item_name, item_named, local_id, local_name, meaning, option_map, part_names, parts, path_scope, same_address, same_side, scope_names, top_name, top_names, walk, world_part}
 use Rattle.wit_type_tree.specs.declared.types.TypeDef.{TypeDef}
 use Rattle.wit_tree.specs.declared.tree.InterfaceItem.TheVariants as interface_item
 use Rattle.wit_tree.specs.declared.tree.WorldItem.TheVariants as world_item

@@ -1,11 +1,10 @@
 -- Names and attributes that are alike: what is seen of them is equal.
 use Rattle.std.proofs.Common.{◌≡◌, ℕ, Bool, true, false, not, cond, List, [], Option, Some, None, refl, ap, ap₂, sym, ◌∙◌, subst}
-use Rattle.wit_syntax.proofs.Common.{AllZip, Attribute, AttributeKind, Fault, Id, Span, attribute_span, fault, first_of, is_of, kind_of, option_or}
+use Rattle.wit_walk.proofs.Common.{AllZip, Attribute, AttributeKind, Fault, Id, Span, attribute_span, counted_fault, external_fault, fault, first_after, first_of, is_of, kind_of, kinds_fault, metadata_fault, number_of, option_or, repeat_fault, stability_fault}
 use Rattle.wit_type_tree.specs.declared.leaves.Attribute.TheVariants.{Since, Unstable, Deprecated, ExternalId}
 use Rattle.wit_type_tree.specs.declared.attribute_kind.AttributeKind.TheVariants as kind
 use Rattle.wit_grammar.specs.Trees.{Name, Attribute as SeenAttribute, since, unstable, deprecated, external}
 use Rattle.wit_grammar.specs.Seen.{see_name, see_attribute}
-use Rattle.wit_walk.proofs.Common.{counted_fault, external_fault, first_after, kinds_fault, metadata_fault, number_of, repeat_fault, stability_fault}
 use Rattle.wit_alike.proofs.Lists.{Both, both_same, zip_after, zip_find}
 
 abbrev pub SameId : Id → Id → Type 0

@@ -1,8 +1,7 @@
 -- Lists that are alike, item by item, and what is made of them.
 use Rattle.std.proofs.Common.{◌≡◌, ℕ, zero, suc, Bool, true, false, cond, ◌||◌, List, [], ◌∷◌, ◌++◌, map, length, Option, Some, None, refl, ap, ap₂}
-use Rattle.wit_syntax.proofs.Common.{AllZip, Fault, cons_option, filter, filter_map, flat_map, list_any, option_map, option_or, slice_get, ⊤}
+use Rattle.wit_walk.proofs.Common.{AllZip, Fault, cons_option, filter, filter_map, first_after, first_in, flat_map, list_any, option_map, option_or, slice_get, ⊤}
 use Rattle.std.specs.List.{find}
-use Rattle.wit_walk.proofs.Common.{first_after, first_in}
 
 -- a relation of what is there, or of nothing to nothing
 abbrev pub Both : {A B : Type 0} → (A → B → Type 0) → Option A → Option B → Type 0

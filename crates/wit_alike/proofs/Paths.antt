@@ -1,6 +1,6 @@
 -- Packages, paths, and the names at the tops of files, that are alike.
 use Rattle.std.proofs.Common.{◌≡◌, ℕ, List, [], Option, Some, None, refl, ap, ap₂, sym, ◌∙◌}
-use Rattle.wit_syntax.proofs.Common.{Address, AllZip, AstItem, Foreign, ForeignNamed, Id, Interface, InterfaceNamed, Local, PackageName, Release, Target, TopName, UsePath, Version, World, bytes_eq, find, leads, option_map, option_map_or, package_of, parts_of, path_id, path_scope, release_of, target_scope, top_name, top_text}
+use Rattle.wit_walk.proofs.Common.{Address, AllZip, AstItem, Foreign, ForeignNamed, Id, Interface, InterfaceNamed, Local, PackageName, Release, Target, TopName, UsePath, Version, World, bytes_eq, find, leads, option_map, option_map_or, package_of, parts_of, path_id, path_scope, release_of, target_scope, top_name, top_text}
 use Rattle.std.specs.Prelude.{unwrap_or}
 use Rattle.wit_tree.specs.declared.tree.PackageName.{PackageName as Header}
 use Rattle.wit_tree.specs.declared.tree.UsePath.TheVariants as path

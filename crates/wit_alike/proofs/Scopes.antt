@@ -1,11 +1,10 @@
 -- Tables of alike scopes and items, and where names in them end.
 use Rattle.std.proofs.Common.{◌≡◌, ℕ, zero, suc, Bool, true, false, not, cond, List, map, Option, Some, None, refl, ap, ap₂, ◌∙◌, subst, ◌++◌, codes, sym}
 use Rattle.std.specs.Prelude.{unwrap_or}
-use Rattle.wit_syntax.proofs.Common.{Address, AliasForm, AllZip, AtForeign, AtResource, Defined, DefinitionPart, Elsewhere, End, ExternPart, Foreign, ForeignName, Form, FunctionPart, Id, Include, IncludePart, Item, Local, More, Of, PackageFile, Part, Prim, ScopeName, Shape, Shapes, Span, Target, Use, UsePart, UsePath, Used, Word, about_name, all_items, body_of, defined, extern_paths, fault_in, in_order, in_turn, include_path, include_paths, includes, inline_uses, interfaces_of, is_defined, is_world, item_row, item_rows, leads, local_name, local_target, meaning, named_end, needed_ids, needed_paths, option_map_or, part_includes, parts, rows_of, scope, shape_end, use_path, use_paths, used, worlds_of, if◌then◌else◌}
+use Rattle.wit_walk.proofs.Common.{Address, AliasForm, AllZip, AtForeign, AtResource, Defined, DefinitionPart, Elsewhere, End, ExternPart, Foreign, ForeignName, Form, FunctionPart, Id, Include, IncludePart, Item, Local, More, Of, PackageFile, Part, Prim, ScopeName, Shape, Shapes, Span, Target, Use, UsePart, UsePath, Used, Word, about_name, all_items, body_of, defined, end_fault, extern_paths, fault_in, handle_fault, if◌then◌else◌, in_order, in_turn, include_path, include_paths, includes, inline_uses, interfaces_of, is_defined, is_world, item_row, item_rows, leads, local_name, local_target, meaning, named_end, needed-paths, needed_ids, needed_paths, option_map_or, part_includes, parts, rows_of, scope, shape_end, use_path, use_paths, used, worlds_of}
+use Rattle.wit_syntax.specs.Shape.{End as NoShapes}
 use Rattle.wit_grammar.specs.Trees.{Definition}
 use Rattle.wit_grammar.specs.Seen.{see_include}
-use Rattle.wit_syntax.specs.Shape.{End as NoShapes}
-use Rattle.wit_walk.proofs.Common.{end_fault, handle_fault}
 use Rattle.wit_alike.proofs.Lists.{Both, zip_append, zip_filter, zip_flat, zip_map, zip_places}
 use Rattle.wit_alike.proofs.Leaves.{SameId, by_name, same_text}
 use Rattle.wit_alike.proofs.Types.{SameShape, SameShapes, same_all_words}
@@ -15,7 +14,6 @@ use Rattle.wit_alike.proofs.Items.{SameFile, SameItem, SamePart, SameName, same_
 use Rattle.wit_alike.proofs.Functions.{extern_kind}
 use Rattle.wit_alike.proofs.Foreign.{SameUse, include_from, use_from, same_extern_paths, same_inline_uses, same_scope}
 use Rattle.wit_alike.proofs.Tables.{SameRow, SameTable}
-use Rattle.wit_syntax.proofs.NeededPaths.{needed-paths}
 
 -- ---- names of scopes
 same_needed : (x y : ScopeName) → SameName x y → AllZip SameId (needed_ids x) (needed_ids y)

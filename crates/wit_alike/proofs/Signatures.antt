@@ -1,14 +1,12 @@
 -- The first faults of definitions and functions that are alike.
 use Rattle.std.proofs.Common.{◌≡◌, ℕ, Bool, cond, List, [], ◌∷◌, ◌++◌, map, Option, Some, None, refl, ap, ap₂, ◌∙◌, codes, is_none}
-use Rattle.wit_syntax.proofs.Common.{AllZip, Constructor, Defined, Fault, ForeignName, Freestanding, FuncForm, Id, Missing, Param, Role, ScopeName, SourceFunction, SourceParam, Span, TypeBody, Used, body_ok, body_types, bytes_eq, fault, fault_in, lower_case, meaning, meant_ok, name_word, option_or, param_twice, result_ok, written_param, if◌then◌else◌}
+use Rattle.wit_walk.proofs.Common.{AllZip, Constructor, Defined, Fault, ForeignName, Freestanding, FuncForm, Id, Missing, Param, Role, ScopeName, SourceFunction, SourceParam, Span, TypeBody, Used, body_ok, body_types, bytes_eq, definition_fault, fault, fault_in, function_fault, getter_fault, given_fault, if◌then◌else◌, is_free, is_written_as, lost_word, lower_case, made_fault, meaning, meant_ok, name_word, option_or, param_fault, param_twice, params_fault, result_fault, result_ok, return_fault, signed_fault, type_fault, word_fault, written_param, «Type» as Written}
 use Rattle.wit_type_tree.specs.declared.types.FuncForm.TheVariants as form
 use Rattle.wit_type_tree.specs.declared.types.TypeBody.TheVariants as body
-use Rattle.wit_type_tree.specs.declared.types.«Type».{«Type» as Written}
 use Rattle.wit_type_tree.specs.declared.types.«Type».TheVariants as written
 use Rattle.wit_grammar.specs.Trees.{Name, Definition, Function, Parameter}
 use Rattle.wit_grammar.specs.Seen.{see_attribute, see_param, see_type}
-use Rattle.wit_first.specs.FunctionFaults.{params_fault, given_fault, getter_fault, setter_fault, is_written_as, made_fault, result_fault}
-use Rattle.wit_walk.proofs.Common.{definition_fault, function_fault, is_free, lost_word, param_fault, return_fault, signed_fault, type_fault, word_fault}
+use Rattle.wit_first.specs.FunctionFaults.{setter_fault}
 use Rattle.wit_alike.proofs.Lists.{Both, both_of, zip_after, zip_any, zip_append, zip_first, zip_map, zip_of}
 use Rattle.wit_alike.proofs.Leaves.{SameId, same_metadata, same_text}
 use Rattle.wit_alike.proofs.Types.{SameType, type_of, same_ok_of, same_ok_span, same_type_span}

@@ -1,8 +1,8 @@
 -- Tables that are alike, and what comes of ordering them.
 use Rattle.std.proofs.Common.{◌≡◌, ℕ, List, [], ◌∷◌, Option, Some, None, inl, inr, refl, ap, sym, ◌∙◌, subst}
-use Rattle.wit_syntax.proofs.Common.{AllZip, Fault, HaveSameEdges, Id, IsComplete, IsCyclic, IsEdge, IsFirstEdge, IsMissing, Leads, NeedsAll, ReachesCycle, Row, complete_back, leads_onward, one_answer, place_of, same_edges, same_place, slice_get, target}
+use Rattle.wit_walk.proofs.Common.{AllZip, AtCycle, AtMissing, Fault, HaveSameEdges, Id, InOrder, IsComplete, IsCyclic, IsEdge, IsMissing, IsOutcome, Leads, NeedsAll, Outcome, ReachesCycle, Row, complete_back, leads_onward, one_answer, order_fault, order_of, outcome_one, place_of, same_edges, same_place, slice_get, target}
+use Rattle.wit_graph.specs.Edges.{IsFirstEdge}
 use Rattle.wit_graph.proofs.Outcome.{cycle_to}
-use Rattle.wit_walk.proofs.Common.{AtCycle, AtMissing, InOrder, IsOutcome, Outcome, order_fault, order_of, outcome_one}
 use Rattle.wit_alike.proofs.Lists.{Both, zip_at, zip_same}
 use Rattle.wit_alike.proofs.Leaves.{SameId, same_text}
 

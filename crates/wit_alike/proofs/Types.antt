@@ -1,11 +1,10 @@
 -- Written types that are alike, and their shapes.
 use Rattle.std.proofs.Common.{◌≡◌, Bool, true, false, Option, Some, None, is_some, refl, ap, ap₂, sym, ◌∙◌}
-use Rattle.wit_syntax.proofs.Common.{AllZip, Both', Err', FixedLengthListForm, Held-Type-Future-1, More, Neither, None', Of, Ok', Prim, Primitive, ResultForm, ResultTypes, Row_of-Type, Shape, Shapes, Some', Span, Word, all_words, end_of-Type, err_type, more_of-Type, ok_of, ok_span, ok_type, option_map_or, result_shapes, row_shapes, shape_of, type_span, words, ⊤}
-use Rattle.wit_type_tree.specs.declared.types.«Type».{«Type» as Written}
+use Rattle.wit_walk.proofs.Common.{AllZip, Both', Err', FixedLengthListForm, Held-Type-Future-1, More, Neither, None', Of, Ok', Prim, Primitive, ResultForm, ResultTypes, Row_of-Type, Shape, Shapes, Some', Span, Word, all_words, end_of-Type, err_type, more_of-Type, ok_of, ok_span, ok_type, option_map_or, result_shapes, row_shapes, shape_of, type_span, words, «Type» as Written, ⊤}
+use Rattle.wit_syntax.specs.Shape.{End}
 use Rattle.wit_type_tree.specs.declared.types.«Type».TheVariants as written
 use Rattle.wit_grammar.specs.Trees.{Name, Ty, result}
 use Rattle.wit_grammar.specs.Seen.{see_type, see_result, see_borrowed, see_row}
-use Rattle.wit_syntax.specs.Shape.{End}
 use Rattle.wit_alike.proofs.Lists.{Both, zip_append}
 use Rattle.wit_alike.proofs.Leaves.{SameId, same_span}
 

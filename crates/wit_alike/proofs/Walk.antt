@@ -1,11 +1,10 @@
 -- The first fault of alike files is one.
-use Rattle.std.proofs.Common.{◌≡◌, ℕ, Bool, true, false, not, cond, ◌&&◌, List, [], ◌∷◌, ◌++◌, map, length, codes, Option, Some, None, is_none, refl, ap, ap₂, sym, ◌∙◌}
-use Rattle.wit_syntax.proofs.Common.{Address, AllZip, Called, Constructor, Cyclic, Defined, Exported, Fault, ForeignName, Freestanding, Id, Imported, Include, Item, Link, Method, Missing, OnSide, PackageFile, Role, Row, ScopeName, SideFunction, SideInline, SideItem, SideLink, SourceFunction, Span, Static, TopName, Used, WorldSide, about, address, all_items, bytes_eq, cyclic_at, defined, defined_twice, fault_in, filter, flat_map, functions, getter_of, in_order, in_turn, includes, inline_item, interfaces_of, is_interface, is_world_at, item_at, item_called, item_function, item_link, item_rows, item_side, item_word, items_on, last_header, leads, linked_twice, list_any, local_id, local_name, lone_setter, meaning, missing_at, missing_type_at, name_called, name_twice, name_word, names_on, on_side, option_map, option_map_or, option_or, path_id, role_names, rows_of, same_address, scope_names, side_called, side_items, type_word, used, worlds_of, if◌then◌else◌, fault}
+use Rattle.std.proofs.Common.{◌≡◌, ℕ, Bool, true, false, not, cond, ◌&&◌, List, [], ◌∷◌, ◌++◌, map, length, codes, Option, Some, None, is_none, refl, ap, ap₂, sym, ◌∙◌, ◌==◌}
+use Rattle.wit_walk.proofs.Common.{Address, AllZip, Called, ComesTo, Constructor, Cyclic, Defined, Exported, Fault, ForeignName, Freestanding, Id, Imported, Include, IsOutcome, Item, Known, Link, Method, Missing, OnSide, Outcome, PackageFile, Role, Row, ScopeName, SideFunction, SideInline, SideItem, SideLink, Sorted, SourceFunction, Span, Static, TopName, Used, WorldSide, about, address, all_items, bytes_eq, called_fault, contents_fault, crossed, cyclic_at, defined, defined_twice, definition_fault, earliest, eqb-suc-zero, fault, fault_in, filter, first_after, first_fault, first_in, flat_map, folded_fault, functions, getter_of, handle_fault, if◌then◌else◌, in_order, in_turn, include_fault, includes, inline_item, interface_fault, interfaces_of, is_extern, is_interface, is_on_side, is_same_link, is_setter, is_world_at, item_at, item_called, item_fault, item_function, item_link, item_rows, item_side, item_sorted, item_word, items_on, last_header, leads, link_fault, linked_fault, linked_twice, list_any, local_id, local_name, lone_setter, lost_fault, lost_use, meaning, member_fault, missing_at, missing_type_at, name_called, name_fault, name_twice, name_word, names_on, on_side, one_first, option_map, option_map_or, option_or, order_of, ordered_fault, own_fault, path_id, reached_fault, role_names, rows_of, same_address, scope_faults, scope_names, setter_fault, setters_fault, side_called, side_items, side_setters_fault, side_sorted, signed_fault, type_word, use_fault, used, worlds_of}
 use Rattle.wit_tree.specs.declared.tree.PackageName.{PackageName as Header}
 use Rattle.wit_grammar.specs.Trees.{Name, UsedName, Function, Extern as SeenExtern}
 use Rattle.wit_grammar.specs.Seen.{see_attribute, see_include, see_name, see_package_id}
 use Rattle.wit_syntax.specs.Hint.{type_hint}
-use Rattle.wit_walk.proofs.Common.{IsOutcome, ComesTo, Known, Outcome, Sorted, called_fault, contents_fault, crossed, definition_fault, earliest, first_after, first_fault, first_in, folded_fault, handle_fault, include_fault, interface_fault, is_extern, is_on_side, is_same_link, is_setter, item_fault, item_sorted, link_fault, linked_fault, lost_fault, lost_use, member_fault, name_fault, one_first, order_of, ordered_fault, own_fault, scope_faults, setter_fault, setters_fault, side_setters_fault, side_sorted, signed_fault, sort_of, reached_fault, use_fault}
 use Rattle.wit_alike.proofs.Lists.{Both, zip_after, zip_any, zip_append, zip_first, zip_flat, zip_of, zip_same}
 use Rattle.wit_alike.proofs.Leaves.{SameId, by_name, same_external, same_metadata, same_stability, same_text}
 use Rattle.wit_alike.proofs.Paths.{SameTop, same_leads, same_path_id, same_path_scope}
@@ -16,7 +15,6 @@ use Rattle.wit_alike.proofs.Foreign.{include_attributes, include_from, same_worl
 use Rattle.wit_alike.proofs.Scopes.{same_defined, same_handle, same_in_order, same_in_turn, same_includes, same_interfaces, same_item_rows, same_names_used, same_rows, same_worlds}
 use Rattle.wit_alike.proofs.Files.{same_all_uses, same_files_fault, same_item_names, same_lost, same_missing, same_tops_fault, same_visits_fault, zip_repeat}
 use Rattle.wit_alike.proofs.Signatures.{same_definition_fault, same_function_fault, same_signed, same_unless_meant}
-use Rattle.wit_walk.specs.Setters.{setters_beside}
 
 -- ---- names
 same_role_names : (r s : Role) → SameRole r s → AllZip (λ (x y : List ℕ). x ≡ y) (role_names r) (role_names s)
@@ -124,11 +122,11 @@ same_side_setters i j side h =
 same_setters : (i j : Item) → SameItem i j → setters_fault i ≡ setters_fault j
 same_setters i j h = beside (includes i) (includes j) (same_includes i j h)
   where
-    beside : (ns ms : List Include) → AllZip (λ (n m : Include). see_include n ≡ see_include m) ns ms → setters_beside i ns ≡ setters_beside j ms
+    beside : (ns ms : List Include) → AllZip (λ (n m : Include). see_include n ≡ see_include m) ns ms → (if length ns == 0 then option_or (side_setters_fault i Imported) (side_setters_fault i Exported) else None) ≡ (if length ms == 0 then option_or (side_setters_fault j Imported) (side_setters_fault j Exported) else None)
     beside [] [] same = ap₂ option_or (same_side_setters i j Imported h) (same_side_setters i j Exported h)
     beside [] (m ∷ ms) same = absurd same
     beside (n ∷ ns) [] same = absurd same
-    beside (n ∷ ns) (m ∷ ms) same = refl
+    beside (n ∷ ns) (m ∷ ms) same = ap (λ (b : Bool). if b then option_or (side_setters_fault i Imported) (side_setters_fault i Exported) else None) (eqb-suc-zero (length ns)) ∙ sym (ap (λ (b : Bool). if b then option_or (side_setters_fault j Imported) (side_setters_fault j Exported) else None) (eqb-suc-zero (length ms)))
 
 -- ---- what is on sides
 same_on : (r s : Role) → SameRole r s → is_on_side r ≡ is_on_side s
@@ -144,12 +142,6 @@ same_extern (SideFunction f) (SideFunction g) h = same_on f.role g.role h.role
 same_extern (SideFunction f) y h = absurd h
 same_extern x (SideFunction g) h = absurd h
 same_extern x y h = refl
-
-same_sort : (x y : SideItem) → SameSide x y → sort_of x ≡ sort_of y
-same_sort (SideFunction f) (SideFunction g) h = refl
-same_sort (SideLink l) (SideLink k) h = refl
-same_sort (SideInline x n is) (SideInline y m js) h = refl
-same_sort x y h = absurd h
 
 abbrev id_called : Id → List Called
 id_called id = named_so id.name.now id.span ∷ []
@@ -170,7 +162,10 @@ same_item_called (SideInline x n is) (SideInline y m js) h = ap (λ (z : Name). 
 same_item_called x y h = absurd h
 
 same_sorted : (x y : SideItem) → SameSide x y → item_sorted x ≡ item_sorted y
-same_sorted x y h = ap₂ (λ (sort : List ℕ) (names : List Called). map (sorted_as sort) names) (same_sort x y h) (same_item_called x y h)
+same_sorted (SideFunction f) (SideFunction g) h = ap (λ (name : List ℕ). (name, codes "func") ∷ []) h.name
+same_sorted (SideLink l) (SideLink k) h = ap (map (sorted_as (codes "interface"))) (same_item_called (SideLink l) (SideLink k) h)
+same_sorted (SideInline x n is) (SideInline y m js) h = ap (map (sorted_as (codes "interface"))) (same_item_called (SideInline x n is) (SideInline y m js) h)
+same_sorted x y h = absurd h
 
 -- what is made of each, where that is equal
 pub flat_same : {A B : Type 0} (R : A → A → Type 0) (f : A → List B) → ((x y : A) → R x y → f x ≡ f y) → (xs ys : List A) → AllZip R xs ys → flat_map f xs ≡ flat_map f ys

@@ -1,6 +1,6 @@
 -- What is gathered from files, one file and one item at a time.
 use Rattle.std.proofs.Common.{◌≡◌, ◌<◌, ℕ, zero, suc, ◌+◌, List, [], ◌∷◌, ◌++◌, length, map, take, Option, Some, None, inl, inr, refl, sym, ap, ◌∙◌, subst, arith, append_assoc, length-append, Vec, Global, Bor}
-use Rattle.wit_syntax.proofs.Common.{AllDiffer, AreAccepted, AstItem, CyclicItem, DuplicateItem, DuplicateTopName, Fault, ForeignStability, Id, IsBrokenItems, IsBrokenNames, IsOrder, Item, Items, MissingItem, PackageFile, Row, TopName, TopUse, all_items, append-nil, at_back, at_contains, at_either, at_prefix, bytes_eq, declared_items, entry_row, file_items, flat_map, foreign_visits, insert_entry, item_name, item_row, item_rows, item_word, map-append, map_map, missing_at, no_cyclic_edge, no_missing_edge, none_if, option_map, option_or, place_by_key, place_of, place_of-Some, position, rows, slice_get, slice_get-map, slice_get_cases, slice_get_within, take_next, target, top_names, ForeignVisit}
+use Rattle.wit_syntax.proofs.Common.{AllDiffer, AreAccepted, AstItem, CyclicItem, DuplicateItem, DuplicateTopName, Fault, ForeignStability, ForeignVisit, Id, IsBrokenItems, IsBrokenNames, IsOrder, Item, Items, MissingItem, PackageFile, Row, TopName, TopUse, all_items, append-nil, at_back, at_contains, at_either, at_prefix, bytes_eq, declared_items, entry_row, file_items, flat_map, foreign_visits, insert_entry, item_name, item_row, item_rows, item_word, map-append, map_map, missing_at, no_cyclic_edge, no_missing_edge, none_if, option_map, option_or, place_by_key, place_of, place_of-Some, position, rows, slice_get, slice_get-map, slice_get_cases, slice_get_within, take_next, target, top_names}
 use Rattle.wit_graph.proofs.Rows.{key_eq, rows-insert}
 use Rattle.wit_first.specs.FileFaults.{file_fault, files_fault, paths_fault, tops_fault}
 use Rattle.wit_first.specs.First.{IsOr, first_in}
@@ -8,13 +8,13 @@ use Rattle.wit_first.specs.Laws.{AgreesBy}
 use Rattle.wit_first.specs.NameFaults.{item_names_fault, top_names_fault}
 use Rattle.wit_first.specs.OrderFaults.{IsItemOrderFault, IsNamesFault, IsOrderedFault, items_prefix, names_prefix}
 use Rattle.wit_first.proofs.Bridge.{in_only, item_names_agree, or_none_both, or_some, top_names_agree}
-use Rattle.wit_first.proofs.FileFaults.{tops_agree, visits_agree}
+use Rattle.wit_first.proofs.FileFaults.{tops_agree, visits_agree, files_broken}
 use Rattle.wit_first.proofs.OrderFaults.{or_back, or_prefix, or_is, or_neither, order_broken}
 use Rattle.wit_top_names.specs.Tops.{Named, AreNamed, AreDeclared}
 use Rattle.wit_files.specs.FileNames.{AreTopsOf, AreTablesOf, AddsTop, names_at_top, top_at}
 use Rattle.wit_files.specs.declared.tables.Tables.{Tables}
 use Rattle.wit_top_names.proofs.FirstNames.{rows_items}
-use Rattle.wit_top_names.proofs.Lost.{files_broken, flat_more}
+use Rattle.wit_top_names.proofs.Lost.{flat_more}
 use Rattle.wit_first.specs.AttributeFaults.{stability_fault}
 
 -- what one of these gives comes after what those before it give

@@ -1,6 +1,6 @@
 -- Paths with a package among those of files, and the items of other packages by their keys.
-use Rattle.std.proofs.Common.{◌≡◌, ℕ, zero, suc, ◌||◌, ◌&&◌, Bool, true, false, not, cond, length, List, [], ◌∷◌, ◌++◌, ◌+◌, map, Option, Some, None, inl, inr, refl, sym, ap, ◌∙◌}
-use Rattle.wit_syntax.proofs.Common.{Address, AstItem, Attribute, Exported, ExternKind, ForeignVisit, Id, Imported, InterfaceItem, PackageFile, Part, Use, WorldItem, WorldSide, append-nil, at_side, both_ways, bytes_eq, cases_Bool, cond-false, cond-true, declaration_visits, extern_paths, extern_visits, firsts, firsts-more, firsts_at, firsts_has, flat_map, flat_map-append, inline_uses, insert_key, interface_part, item_uses, keys_of, length-map, list_any, map-append, map_at, nat_lt, option_eq, option_map, part_visits as the_part_visits, path_visits, position, prefix_len, same_address, same_address-equal, same_address-from, same_item, same_side, same_version, slice_get, slice_get-map, visited, world_part}
+use Rattle.std.proofs.Common.{◌≡◌, ◌||◌, ◌&&◌, Bool, true, false, not, cond, length, List, [], ◌∷◌, ◌++◌, ◌+◌, map, Option, Some, None, inl, inr, refl, sym, ap, ◌∙◌}
+use Rattle.wit_syntax.proofs.Common.{Address, AstItem, Attribute, Exported, ExternKind, ForeignVisit, Id, Imported, InterfaceItem, PackageFile, Part, Use, WorldItem, WorldSide, any_found, append-nil, at_side, both_ways, bytes_eq, cases_Bool, cond-false, cond-true, declaration_visits, extern_paths, extern_visits, firsts, firsts-more, firsts_at, firsts_has, flat_map, flat_map-append, inline_uses, insert_key, interface_part, item_uses, keys_of, length-map, list_any, map-append, map_at, nat_lt, option_eq, option_map, part_visits as the_part_visits, path_visits, position, prefix_len, same_address, same_address-equal, same_address-from, same_item, same_side, same_version, slice_get-map, visited, world_part}
 use Rattle.wit_tree.specs.declared.tree.ExternKind.TheVariants as extern
 use Rattle.wit_tree.specs.declared.tree.InterfaceItem.TheVariants as interface_item
 use Rattle.wit_tree.specs.declared.tree.WorldItem.TheVariants as world_item
@@ -13,6 +13,7 @@ use Rattle.wit_files.specs.declared.foreign.VersionKey.{VersionKey}
 use Rattle.wit_files.specs.declared.foreign.ForeignKey.{ForeignKey}
 use Rattle.wit_files.specs.contracts.foreign.VersionKeyPartialEq.TheImpl.{eq-value as version_test}
 use Rattle.wit_files.specs.contracts.foreign.ForeignKeyPartialEq.TheImpl.{eq-value as key_test}
+use Rattle.wit_first.proofs.First.{any_some}
 
 -- the visit of an item of another package that a path makes
 abbrev pub foreign_of : Visit → List ForeignVisit
@@ -94,22 +95,6 @@ of_item (ast.Use u) = append-nil (path_visits u.attributes.items false u.item)
 pub of_file : (f : PackageFile) → flat_map foreign_of (visits f.decl_list) ≡ flat_map declaration_visits f.decl_list.items.items
 of_file f = flat_inside foreign_of item_visits declaration_visits of_item f.decl_list.items.items
 
--- a test that passes somewhere, and one that passes nowhere
-any_at : {X : Type 0} (p : X → Bool) (xs : List X) → list_any p xs ≡ true → (i : ℕ) × (x : X) × (slice_get xs i ≡ Some x) × (p x ≡ true)
-any_at p [] h = absurd (let f : ⊥ = cc in f)
-any_at p (x ∷ xs) h = elim (cases_Bool (p x)) [
-  | inl hit ↦ (0, x, refl, hit)
-  | inr miss ↦ (let it = any_at p xs (rw miss at h) in (suc it.0, it.1, it.2, it.3))
-]
-
-any_from : {X : Type 0} (p : X → Bool) (xs : List X) (i : ℕ) (x : X) → slice_get xs i ≡ Some x → p x ≡ true → list_any p xs ≡ true
-any_from p [] i x at hit = absurd (let f : ⊥ = cc in f)
-any_from p (y ∷ xs) zero x at hit = (let here : y ≡ x = cc in rw (ap p here ∙ hit) refl)
-any_from p (y ∷ xs) (suc i) x at hit = elim (cases_Bool (p y)) [
-  | inl first ↦ rw first refl
-  | inr miss ↦ rw miss (any_from p xs i x at hit)
-]
-
 any-mapped : {X Y : Type 0} (p : Y → Bool) (f : X → Y) (xs : List X) → list_any (λ x. p (f x)) xs ≡ list_any p (map f xs)
 any-mapped p f [] = refl
 any-mapped p f (x ∷ xs) = ap (λ b. p (f x) || b) (any-mapped p f xs)
@@ -149,7 +134,7 @@ pub firsts-known : (vs : List ForeignVisit) (v : ForeignVisit) → list_any (sam
 firsts-known vs v known = elim (firsts-more same_item vs v) [
   | inl both ↦ both.1
   | inr new ↦ absurd (
-      let it = any_at (same_address (visited v)) (map visited (firsts same_item vs)) known in
+      let it = any_found (same_address (visited v)) (map visited (firsts same_item vs)) known in
       let w = map_at visited (firsts same_item vs) it.0 it.1 it.2 in
       let there = firsts_at same_item vs it.0 w.0 w.1 in
       let same : visited w.0 ≡ visited v = w.2 ∙ sym (same_address-equal (visited v) it.1 it.3) in
@@ -164,7 +149,7 @@ firsts-new vs v new = elim (firsts-more same_item vs v) [
       let it = firsts_has same_item visited (λ a b h. same_address-from (visited a) (visited b) h) (λ a b h. same_address-equal (visited a) (visited b) h) vs listed.place listed.y listed.at in
       let same : visited v ≡ visited it.1 = sym (it.3 ∙ same_address-equal (visited listed.y) (visited v) listed.is) in
       let at = slice_get-map visited (firsts same_item vs) it.0 ∙ ap (option_map visited) it.2 in
-      both_ways (list_any (same_address (visited v)) (map visited (firsts same_item vs))) new (any_from (same_address (visited v)) (map visited (firsts same_item vs)) it.0 (visited it.1) at (same_address-from (visited v) (visited it.1) same)))
+      both_ways (list_any (same_address (visited v)) (map visited (firsts same_item vs))) new (any_some (same_address (visited v)) (map visited (firsts same_item vs)) it.0 (visited it.1) at (same_address-from (visited v) (visited it.1) same)))
   | inr fresh ↦ fresh.1
 ]
 

@@ -1,13 +1,8 @@
 -- The first fault is a broken rule; and where there is no first fault, no rule is broken.
 use Rattle.std.proofs.Common.{◌≡◌, ◌≢◌, ℕ, zero, suc, ◌<◌, Bool, true, false, List, [], ◌∷◌, ◌++◌, take, Option, Some, None, ◌⊎◌, inl, inr, refl, sym, ap, ◌∙◌, subst, append_assoc, arith}
-use Rattle.wit_syntax.proofs.Common.{AllDiffer, AreBroken, Attribute, AttributeKind, CanBeKey, Case, Contains, DeprecatedAlone, DeprecatedTwice, ExternalId, Fault, Id, IsBrokenList, IsBrokenMetadata, IsBrokenStability, IsDuplicateName, IsEmpty, IsFlagTooMany, IsInvalidKey, IsKey, IsSecond, IsSecondIn, IsTwice, Item, PackageFile, ParseError, Primitive, Refused, SinceAndUnstable, SinceTwice, Span, TopName, TypeBody, UnstableTwice, about, all_items, append-nil, at_contains, at_take, attribute_span, bytes_eq, clash, codes, contains_at, fault, fault_in, find, find_at, find_passes, find_some, first_of, lower_case, is_of, item_name, item_twice, kind_of, list_any, map, map_at, name_equal, name_itself, name_twice, none-some, not, option_or, slice_get, slice_get-take, top_names, top_text, top_twice, option_map}
+use Rattle.wit_syntax.proofs.Common.{AllDiffer, AreBroken, Attribute, AttributeKind, CanBeKey, Case, Contains, Deprecated, DeprecatedAlone, DeprecatedTwice, EnumCase, ExternalId, Fault, Field, Flag, Id, IsBrokenList, IsBrokenMetadata, IsBrokenStability, IsDuplicateName, IsEmpty, IsFlagTooMany, IsInvalidKey, IsKey, IsSecond, IsSecondIn, IsTwice, Item, PackageFile, ParseError, Primitive, Refused, Since, SinceAndUnstable, SinceTwice, Span, TopName, TypeBody, Unstable, UnstableTwice, about, all_items, any_found, append-nil, at_contains, at_take, attribute_span, bytes_eq, clash, codes, contains_at, fault, fault_in, find, find_at, find_passes, find_some, first_of, is_of, item_name, item_twice, kind_of, list_any, lower_case, map, map_at, name_equal, name_itself, name_twice, none-some, not, option_map, option_or, slice_get, slice_get-take, top_names, top_text, top_twice, «Type» as Written}
 use Rattle.wit_type_tree.specs.declared.leaves.Attribute.TheVariants as attribute
-use Rattle.wit_type_tree.specs.declared.attribute_kind.AttributeKind.TheVariants.{Since, Unstable, Deprecated}
-use Rattle.wit_type_tree.specs.declared.types.Field.{Field}
-use Rattle.wit_type_tree.specs.declared.types.Flag.{Flag}
-use Rattle.wit_type_tree.specs.declared.types.EnumCase.{EnumCase}
 use Rattle.wit_type_tree.specs.declared.types.Primitive.TheVariants as primitive
-use Rattle.wit_type_tree.specs.declared.types.«Type».{«Type» as Written}
 use Rattle.wit_type_tree.specs.declared.types.«Type».TheVariants as written
 use Rattle.wit_type_tree.specs.declared.types.TypeBody.TheVariants as body
 use Rattle.wit_first.specs.AttributeFaults.{number_of, repeat_fault, counted_fault, each_once_fault, kinds_fault, stability_fault, external_fault, metadata_fault}
@@ -202,14 +197,6 @@ pub metadata_agree : (xs : List Attribute) → Agrees (metadata_fault xs) (IsBro
 metadata_agree xs = record { broken = metadata_broken xs; unbroken = metadata_unbroken xs }
 
 -- items whose keys repeat
-pub any_found : {X : Type 0} (p : X → Bool) (xs : List X) → list_any p xs ≡ true → (i : ℕ) × (x : X) × (slice_get xs i ≡ Some x) × (p x ≡ true)
-any_found p [] h = absurd (let f : ⊥ = cc in f)
-any_found {X} p (x ∷ xs) h = by (p x) refl (λ k. any_found p xs k)
-  where
-    by : (b : Bool) → p x ≡ b → (list_any p xs ≡ true → (i : ℕ) × (y : X) × (slice_get xs i ≡ Some y) × (p y ≡ true)) → (i : ℕ) × (y : X) × (slice_get (x ∷ xs) i ≡ Some y) × (p y ≡ true)
-    by true is far = (0, x, refl, is)
-    by false is far = (let rest = far (rw is at h) in (suc rest.0, rest.1, rest.2, rest.3))
-
 pub repeat_some : {X : Type 0} (key : X → List ℕ) (as_fault : X → Fault) (before : List X) (x : X) (f : Fault) → repeat_of key as_fault before x ≡ Some f → (list_any (λ y. bytes_eq (key y) (key x)) before ≡ true) × (f ≡ as_fault x)
 repeat_some key as_fault before x f h = by (list_any (λ y. bytes_eq (key y) (key x)) before) refl
   where

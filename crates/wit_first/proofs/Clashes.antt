@@ -1,6 +1,6 @@
 -- Items whose keys repeat, where the fault is made of both.
 use Rattle.std.proofs.Common.{◌≡◌, ℕ, Bool, true, false, List, [], ◌∷◌, ◌++◌, take, Option, Some, None, refl, sym, ap, ◌∙◌}
-use Rattle.wit_syntax.proofs.Common.{AllDiffer, Fault, IsRepeatAt, bytes_eq, find, find-map, find_at, find_passes, find_some, key_at, list_any, map, map-append, name_equal, name_itself, option_map, option_or, slice_get, slice_get-take, take-map}
+use Rattle.wit_syntax.proofs.Common.{AllDiffer, Fault, IsRepeatAt, bytes_eq, find, find-map, find-only, find_at, find_passes, key_at, list_any, map, map-append, name_equal, name_itself, option_map, option_or, slice_get, slice_get-take, take-map}
 use Rattle.wit_first.specs.First.{first_after, repeat_of, clash_of}
 use Rattle.wit_first.proofs.First.{any_some, no_repeat-after, none_both, after-at}
 
@@ -11,14 +11,6 @@ find_none {X} p xs h = by (find p xs) refl
     by : (o : Option X) → find p xs ≡ o → find p xs ≡ None
     by None is = is
     by (Some y) is = (let it = find_at p xs y is in let wrong : true ≡ false = sym (any_some p xs it.0 y it.1 (find_passes p xs y is)) ∙ h in let g : ⊥ = cc in absurd g)
-
--- what is found is the only one that passes
-pub find-only : {X : Type 0} (p : X → Bool) (xs : List X) (t : ℕ) (x : X) → slice_get xs t ≡ Some x → p x ≡ true → ((i : ℕ) (y : X) → slice_get xs i ≡ Some y → p y ≡ true → i ≡ t) → find p xs ≡ Some x
-find-only p xs t x at pass only =
-    let it = find_some p xs t x at pass in
-    let q = find_at p xs it.0 it.1 in
-    let place = only q.0 it.0 q.1 (find_passes p xs it.0 it.1) in
-    it.1 ∙ sym q.1 ∙ ap (slice_get xs) place ∙ at
 
 -- an item that repeats none clashes with none
 clash_none : {X : Type 0} (key : X → List ℕ) (plain : X → Fault) (as_fault : X → X → Fault) (before : List X) (x : X) → repeat_of key plain before x ≡ None → clash_of key as_fault before x ≡ None

@@ -1,13 +1,14 @@
 -- The first fault of the names of files is a broken rule; and where there is none, no rule about them is broken.
-use Rattle.std.proofs.Common.{◌≡◌, ◌≢◌, ℕ, List, [], ◌∷◌, Option, Some, None, inl, inr, refl, ap, ◌∙◌, is_none, ◌⊎◌}
-use Rattle.wit_syntax.proofs.Common.{AstItem, Attribute, AttributedUse, Contains, Fault, Foreign, ForeignVisit, Id, IsBrokenStability, IsWrongTop, Item, Local, LostUse, PackageFile, Span, Target, TopName, UsePath, all_items, at_contains, bytes_eq, contains_at, fault, find, item_named, item_word, leads, missing_at, option_map_or, slice_get, top_text, if◌then◌else◌, option_or}
+use Rattle.std.proofs.Common.{◌≡◌, ◌≢◌, ℕ, List, [], ◌∷◌, Option, Some, None, inl, inr, refl, ap, ◌∙◌, is_none, ◌⊎◌, sym}
+use Rattle.wit_syntax.proofs.Common.{AstItem, Attribute, AttributedUse, Contains, DuplicateTopName, Fault, Foreign, ForeignVisit, Id, IsBrokenItems, IsBrokenStability, IsWrongTop, Item, Local, LostUse, MissingItem, PackageFile, Span, Target, TopName, UsePath, all_items, at_contains, bytes_eq, contains_at, fault, file_items, find, find_some, flat_map_has, if◌then◌else◌, item_name, item_named, item_row, item_row_at, item_word, leads, local_target, map, map_at, missing_at, name_itself, needed_paths, none-some, none_if, option_map_or, option_or, place_of, place_of-Some, slice_get, top_text}
 use Rattle.wit_tree.specs.declared.tree.UsePath.TheVariants as path
 use Rattle.wit_tree.specs.declared.tree.AstItem.TheVariants as ast
 use Rattle.wit_first.specs.AttributeFaults.{stability_fault}
 use Rattle.wit_first.specs.First.{first_in}
-use Rattle.wit_first.specs.FileFaults.{lost_fault, unnamed_fault, top_fault, tops_fault}
+use Rattle.wit_first.specs.FileFaults.{lost_fault, unnamed_fault, top_fault, tops_fault, file_fault, files_fault, paths_fault}
+use Rattle.wit_first.specs.NameFaults.{top_names_fault}
 use Rattle.wit_first.specs.Laws.{Agrees}
-use Rattle.wit_first.proofs.Bridge.{in_agrees, in_only, in_some, stability_agrees}
+use Rattle.wit_first.proofs.Bridge.{in_agrees, in_only, in_some, stability_agrees, or_some, top_names_agree}
 
 -- before a path with a package
 pub visits_agree : (visits : List ForeignVisit) → Agrees (first_in (λ (v : ForeignVisit). stability_fault v.attributes) visits) (λ f. (v : ForeignVisit) × Contains visits v × IsBrokenStability v.attributes f)
@@ -90,3 +91,35 @@ file_tops_agree all file = record {
 -- at the tops of files
 pub tops_agree : (files : List PackageFile) → Agrees (tops_fault files) (λ f. (file : PackageFile) × Contains files file × IsWrongTop (all_items files) file.decl_list.items.items f)
 tops_agree files = in_agrees (λ (file : PackageFile). first_in (top_fault (all_items files)) file.decl_list.items.items) (λ (file : PackageFile). IsWrongTop (all_items files) file.decl_list.items.items) files (file_tops_agree (all_items files))
+
+-- a name that is no item's has no row
+missing_row : (is : List Item) (name : List ℕ) → item_named is name ≡ None → place_of (map item_row is) name ≡ None
+missing_row is name none = none_if (place_of (map item_row is) name) (λ b some. (
+    let r = place_of-Some (map item_row is) name b some in
+    let w = map_at item_row is b r.0 r.1 in
+    let called : item_name w.0 ≡ name = ap (λ row. row.name) w.2 ∙ sym r.2 in
+    let it = find_some (λ (i : Item). bytes_eq (item_name i) name) is b w.0 w.1 (ap (λ n. bytes_eq n name) called ∙ name_itself name) in
+    none-some it.0 (sym none ∙ it.1)))
+
+-- a path that leads to a name which is no item's is an edge to no row
+lost_path : (files : List PackageFile) (p : ℕ) (w : Item) (k : ℕ) (path : UsePath) (f : Fault) → slice_get (all_items files) p ≡ Some w → slice_get (needed_paths w) k ≡ Some path → IsLost (all_items files) (leads w.top path) f → IsBrokenItems files f
+lost_path files p w k path f at there lost =
+    let edges : UsePath → List Id = λ path. local_target (leads w.top path) in
+    let e = flat_map_has edges (needed_paths w) k 0 path lost.id there (ap (λ (t : Target). slice_get (local_target t) 0) lost.local) in
+    MissingItem (p, e.0, lost.id, (item_row w, item_row_at files p w at, e.1), missing_row (all_items files) lost.id.name.now lost.missing, lost.is)
+
+-- the first fault of a file, and of files, is a broken rule
+file_broken : (files : List PackageFile) (i : ℕ) (file : PackageFile) (f : Fault) → slice_get files i ≡ Some file → file_fault (all_items files) file ≡ Some f → IsBrokenItems files f
+file_broken files i file f at h =
+    let all = all_items files in
+    elim (or_some (top_names_fault file) (first_in (paths_fault all) (file_items file)) f h) [
+      | inl top ↦ DuplicateTopName file (contains_at files i file at) ((top_names_agree file).broken f top)
+      | inr far ↦ (
+          let own = in_some (paths_fault all) (file_items file) f far.1 in
+          let it = in_some (unnamed_fault all own.1.top) (needed_paths own.1) f own.3 in
+          let p = flat_map_has file_items files i own.0 file own.1 at own.2 in
+          lost_path files p.0 own.1 it.0 it.1 f p.1 it.2 (unnamed_broken all own.1.top it.1 f it.3))
+    ]
+
+pub files_broken : (files : List PackageFile) (f : Fault) → files_fault files ≡ Some f → IsBrokenItems files f
+files_broken files f h = let it = in_some (file_fault (all_items files)) files f h in file_broken files it.0 it.1 f it.2 it.3

@@ -99,6 +99,11 @@ any_none : {X : Type 0} (p : X → Bool) (xs : List X) → ((i : ℕ) (x : X) �
 any_none p [] failed = refl
 any_none p (y ∷ ys) failed = rw (failed 0 y refl) (any_none p ys (λ i x at. failed (suc i) x at))
 
+-- what comes after a list
+pub at_middle : {X : Type 0} (xs : List X) (y : X) (ys : List X) → slice_get (xs ++ y ∷ ys) (length xs) ≡ Some y
+at_middle [] y ys = refl
+at_middle (z ∷ xs) y ys = at_middle xs y ys
+
 -- where all keys differ, no item is a repeat
 pub no_repeat-after : {X : Type 0} (key : X → List ℕ) (as_fault : X → Fault) (before xs : List X) → AllDiffer (map key (before ++ xs)) → first_after (repeat_of key as_fault) before xs ≡ None
 no_repeat-after key as_fault before [] d = refl
@@ -110,10 +115,6 @@ no_repeat-after key as_fault before (x ∷ xs) d =
     let within = slice_get_within before i y at in
     (let wrong : ⊥ = omega arith in wrong))) in
     rw none (no_repeat-after key as_fault (before ++ x ∷ []) xs (rw (append_assoc before (x ∷ []) xs) d))
-  where
-    at_middle : {X : Type 0} (xs : List X) (y : X) (ys : List X) → slice_get (xs ++ y ∷ ys) (length xs) ≡ Some y
-    at_middle [] y ys = refl
-    at_middle (z ∷ xs) y ys = at_middle xs y ys
 
 pub no_repeats : {X : Type 0} (key : X → List ℕ) (as_fault : X → Fault) (xs : List X) → AllDiffer (map key xs) → first_repeat key as_fault xs ≡ None
 no_repeats key as_fault xs d = no_repeat-after key as_fault [] xs d
@@ -133,7 +134,7 @@ repeat_first key as_fault xs first second later r d at =
     after-at (repeat_of key as_fault) xs second later (as_fault later) at (no_repeats key as_fault (take second xs) (rw (take-map key second xs) at d)) (rw found refl)
 
 -- items that are made of others
-any-map : {X Y : Type 0} (p : Y → Bool) (f : X → Y) (xs : List X) → list_any p (map f xs) ≡ list_any (λ (x : X). p (f x)) xs
+pub any-map : {X Y : Type 0} (p : Y → Bool) (f : X → Y) (xs : List X) → list_any p (map f xs) ≡ list_any (λ (x : X). p (f x)) xs
 any-map p f [] = refl
 any-map p f (x ∷ xs) = ap (λ (b : Bool). p (f x) || b) (any-map p f xs)
 

@@ -1,8 +1,7 @@
 -- The first fault of what a function is given, and of what it gives, is a broken rule; and where there is none, no rule is broken.
 use Rattle.std.proofs.Common.{◌≡◌, ◌⊎◌, Bool, true, false, List, [], ◌∷◌, length, Option, Some, None, inl, inr, refl, sym, ap, ◌∙◌, subst, arith}
-use Rattle.wit_syntax.proofs.Common.{Constructor, Fault, Freestanding, FuncForm, Id, IsConstructorOfOther, IsConstructorWithoutResult, IsGetterGiven, IsGetterWithoutResult, IsSetterGiven, IsSetterWithResult, IsWrittenAs, Method, None', OnSide, Param, Role, ScopeName, Some', SourceFunction, Span, Static, Word, bytes_eq, fault, name_equal, name_itself, ok_span, option_map_or, result_ok, slice_get, type_span}
+use Rattle.wit_syntax.proofs.Common.{Constructor, Fault, Freestanding, FuncForm, Id, IsConstructorOfOther, IsConstructorWithoutResult, IsGetterGiven, IsGetterWithoutResult, IsSetterGiven, IsSetterWithResult, IsWrittenAs, Method, None', OnSide, Param, Role, ScopeName, Some', SourceFunction, Span, Static, Word, bytes_eq, fault, name_equal, name_itself, ok_span, option_map_or, result_ok, slice_get, type_span, «Type» as Written}
 use Rattle.wit_type_tree.specs.declared.types.FuncForm.TheVariants as form
-use Rattle.wit_type_tree.specs.declared.types.«Type».{«Type» as Written}
 use Rattle.wit_type_tree.specs.declared.types.«Type».TheVariants as written
 use Rattle.wit_first.specs.FunctionFaults.{params_fault, given_fault, getter_fault, setter_fault, is_written_as, made_fault, result_fault}
 use Rattle.wit_first.specs.Laws.{Agrees}

@@ -1,8 +1,8 @@
 -- The first of items that repeat, by its place; and items beside those before them, where nothing is wrong with them.
 use Rattle.std.proofs.Common.{◌≡◌, ℕ, ◌≤◌, ◌<◌, List, [], ◌∷◌, ◌++◌, take, Option, Some, None, refl, ◌∙◌, subst, arith}
-use Rattle.wit_syntax.proofs.Common.{Fault, IsSecond, at_take, bytes_eq, name_equal, slice_get, slice_get-take, take-map, take-take}
+use Rattle.wit_syntax.proofs.Common.{Fault, IsSecond, any_found, at_take, bytes_eq, name_equal, slice_get, slice_get-take, take-map, take-take}
 use Rattle.wit_first.specs.First.{first_after, repeat_of, IsFirstRepeat}
-use Rattle.wit_first.proofs.Bridge.{after_only, any_found, or_none_both, repeat_some}
+use Rattle.wit_first.proofs.Bridge.{after_only, or_none_both, repeat_some}
 use Rattle.wit_first.proofs.First.{found_before, no_repeats, none_both}
 
 -- the item at the place of the first repeat has the key of an earlier one

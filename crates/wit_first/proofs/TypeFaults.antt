@@ -1,12 +1,11 @@
 -- Written types by their parts: what holds of a type where it holds of its parts, and the first fault of one by those of its parts.
 use Rattle.std.proofs.Common.{◌≡◌, ℕ, zero, suc, List, [], ◌∷◌, Option, Some, None, refl, sym, ap, ◌∙◌, subst, Vec}
-use Rattle.wit_syntax.proofs.Common.{Both', Err', Fault, Global, Id, Neither, None', Ok', ResultTypes, Row_of-Type, Some', Span, Tuple, end_of-Type, more_of-Type, option_or, part_types, result_types, row_types, slice_get, tuple_types}
-use Rattle.wit_type_tree.specs.declared.types.«Type».{«Type» as Written}
+use Rattle.wit_syntax.proofs.Common.{Both', Err', Fault, Global, Id, Neither, None', Ok', ResultTypes, Row_of-Type, Some', Span, Tuple, end_of-Type, more_of-Type, option_or, part_types, result_types, row_types, slice_get, tuple_types, «Type» as Written}
 use Rattle.wit_type_tree.specs.declared.types.«Type».TheVariants as written
 use Rattle.wit_first.specs.First.{first_in}
 use Rattle.wit_first.specs.KeyFaults.{key_fault}
 use Rattle.wit_first.specs.ListFaults.{empty_fault}
-use Rattle.wit_first.specs.TypeFaults.{type_fault, outcome_fault, row_fault, prefix_fault, back_fault}
+use Rattle.wit_first.specs.TypeFaults.{type_fault, row_fault, prefix_fault, back_fault}
 use Rattle.wit_first.proofs.Bridge.{or_none_both}
 use Rattle.wit_first.proofs.First.{none_both, or_none}
 
@@ -62,11 +61,11 @@ two None None o = refl
 two None (Some y) o = refl
 two (Some x) b o = refl
 
-of_result : (word handle : Id → Option Fault) (of : ResultTypes) → outcome_fault word handle of ≡ option_or (first_in (type_fault word handle) (result_types of)) None
-of_result word handle Neither = refl
-of_result word handle (Ok' p t) = only (type_fault word handle t)
-of_result word handle (Err' p t) = only (type_fault word handle t)
-of_result word handle (Both' p t q u) = both (type_fault word handle t) (type_fault word handle u)
+of_result : (word handle : Id → Option Fault) (span : Span) (of : ResultTypes) → type_fault word handle (written.Result span of) ≡ option_or (first_in (type_fault word handle) (result_types of)) None
+of_result word handle span Neither = refl
+of_result word handle span (Ok' p t) = only (type_fault word handle t)
+of_result word handle span (Err' p t) = only (type_fault word handle t)
+of_result word handle span (Both' p t q u) = both (type_fault word handle t) (type_fault word handle u)
 
 of_row : (word handle : Id → Option Fault) {m : _} (ts : Row_of-Type m) → row_fault word handle ts ≡ first_in (type_fault word handle) (row_types ts)
 of_row word handle end_of-Type = refl
@@ -80,7 +79,7 @@ fault_parts word handle (written.List' span p t) = only (type_fault word handle 
 fault_parts word handle (written.FixedLengthList' span p t size) = only (type_fault word handle t)
 fault_parts word handle (written.Map' span p key q value) = two (type_fault word handle key) (type_fault word handle value) (key_fault key span)
 fault_parts word handle (written.Option' span p t) = only (type_fault word handle t)
-fault_parts word handle (written.Result span of) = of_result word handle of
+fault_parts word handle (written.Result span of) = of_result word handle span of
 fault_parts word handle (written.Tuple' span shape ts) = ap (option_or (empty_fault 22 (row_types ts) span)) (of_row word handle ts ∙ sym (or_none (first_in (type_fault word handle) (row_types ts))))
 fault_parts word handle (written.Future' span None') = refl
 fault_parts word handle (written.Future' span (Some' p t)) = only (type_fault word handle t)

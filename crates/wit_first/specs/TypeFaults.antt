@@ -4,7 +4,7 @@ use Rattle.std.specs.Option.{option_or}
 use Rattle.wit_type_tree.specs.declared.leaves.Id.{Id}
 use Rattle.wit_type_tree.specs.declared.types.«Type».{«Type» as Written, Some', Row_of-Type, end_of-Type, more_of-Type}
 use Rattle.wit_type_tree.specs.declared.types.«Type».TheVariants as written
-use Rattle.wit_type_tree.specs.declared.types.ResultTypes.{ResultTypes, Neither, Ok', Err', Both'}
+use Rattle.wit_type_tree.specs.declared.types.ResultTypes.{Ok', Err', Both'}
 use Rattle.wit_type_tree.specs.TypeParts.{row_types}
 use Rattle.wit_syntax.specs.Fault.{Fault}
 use Rattle.wit_first.specs.KeyFaults.{key_fault}
@@ -18,20 +18,15 @@ abbrev mutual
   type_fault word handle (written.FixedLengthList' span p t size) = type_fault word handle t
   type_fault word handle (written.Map' span p key q value) = option_or (type_fault word handle key) (option_or (type_fault word handle value) (key_fault key span))
   type_fault word handle (written.Option' span p t) = type_fault word handle t
-  type_fault word handle (written.Result span of) = outcome_fault word handle of
+  type_fault word handle (written.Result span (Ok' p t)) = type_fault word handle t
+  type_fault word handle (written.Result span (Err' p t)) = type_fault word handle t
+  type_fault word handle (written.Result span (Both' p t q u)) = option_or (type_fault word handle t) (type_fault word handle u)
   type_fault word handle (written.Tuple' span shape ts) = option_or (empty_fault 22 (row_types ts) span) (row_fault word handle ts)
   type_fault word handle (written.Future' span (Some' p t)) = type_fault word handle t
   type_fault word handle (written.Stream' span (Some' p t)) = type_fault word handle t
   type_fault word handle (written.Own span id) = handle id
   type_fault word handle (written.Borrow span id) = handle id
   type_fault word handle _ = None
-
-  -- of the types that a result is written with
-  pub outcome_fault : (word handle : Id → Option Fault) → ResultTypes → Option Fault
-  outcome_fault word handle Neither = None
-  outcome_fault word handle (Ok' p t) = type_fault word handle t
-  outcome_fault word handle (Err' p t) = type_fault word handle t
-  outcome_fault word handle (Both' p t q u) = option_or (type_fault word handle t) (type_fault word handle u)
 
   -- of types in a row
   pub row_fault : (word handle : Id → Option Fault) → {m : _} → Row_of-Type m → Option Fault

@@ -11,16 +11,16 @@ use Rattle.wit_names.specs.Prefix.{rest_after}
 use Rattle.wit_functions.specs.declared.function.Function.{Function}
 use Rattle.wit_functions.specs.declared.function.FunctionKind.{FunctionKind}
 use Rattle.wit_functions.specs.declared.function.FunctionKind.TheVariants as kind
-use Rattle.wit_functions.specs.SettersPlaced.{prefixes, goes_on_alike, goes_with, is_getter, is_same_text}
+use Rattle.wit_functions.specs.SettersPlaced.{prefixes, goes_on_alike, is_getter, both, is_getter_of}
 use Rattle.wit_functions.proofs.Names.{name_equal}
 use Rattle.wit_functions.specs.MaybeFunction.{is_setter, offered, turned, wanted}
 
 -- no text is the same as none
-pub same_as_none : (o : Option (List ℕ)) → is_same_text o None ≡ false
+pub same_as_none : (o : Option (List ℕ)) → both (pointwise nat_eq) o None ≡ false
 same_as_none None = refl
 same_as_none (Some a) = refl
 
-same_after : (rest prefix name : List ℕ) → is_same_text (Some rest) (rest_after prefix name) ≡ pointwise nat_eq (prefix ++ rest) name
+same_after : (rest prefix name : List ℕ) → both (pointwise nat_eq) (Some rest) (rest_after prefix name) ≡ pointwise nat_eq (prefix ++ rest) name
 same_after rest [] name = refl
 same_after rest (a ∷ prefix) [] = refl
 same_after rest (a ∷ prefix) (b ∷ name) = elim (cases_Bool (nat_eq a b)) [
@@ -28,21 +28,21 @@ same_after rest (a ∷ prefix) (b ∷ name) = elim (cases_Bool (nat_eq a b)) [
   | inr miss ↦ rw miss refl
 ]
 
-alike_turned : (f : Option (List ℕ × List ℕ)) (s g : List ℕ) → goes_on_alike f s g ≡ is_same_text (turned f s) (Some g)
+alike_turned : (f : Option (List ℕ × List ℕ)) (s g : List ℕ) → goes_on_alike f s g ≡ both (pointwise nat_eq) (turned f s) (Some g)
 alike_turned None s g = refl
 alike_turned (Some f) s g = go (rest_after f.0 s)
   where
-    go : (o : Option (List ℕ)) → is_same_text o (rest_after f.1 g) ≡ is_same_text (option_map (λ rest. f.1 ++ rest) o) (Some g)
+    go : (o : Option (List ℕ)) → both (pointwise nat_eq) o (rest_after f.1 g) ≡ both (pointwise nat_eq) (option_map (λ rest. f.1 ++ rest) o) (Some g)
     go None = refl
     go (Some rest) = same_after rest f.1 g
 
 -- a setter's getter offers the name that it wants
-pub goes_wanted : (s g : Option Function) → goes_with s g ≡ is_same_text (wanted s) (offered g)
+pub goes_wanted : (s g : Option Function) → both is_getter_of s g ≡ both (pointwise nat_eq) (wanted s) (offered g)
 goes_wanted None g = refl
 goes_wanted (Some s) None = sym (same_as_none (wanted (Some s)))
 goes_wanted (Some s) (Some g) = ap (λ b. is_getter g.kind && b) (alike_turned (prefixes s.kind) s.name g.name) ∙ go (is_getter g.kind)
   where
-    go : (b : Bool) → (b && is_same_text (wanted (Some s)) (Some g.name)) ≡ is_same_text (wanted (Some s)) (if b then Some g.name else None)
+    go : (b : Bool) → (b && both (pointwise nat_eq) (wanted (Some s)) (Some g.name)) ≡ both (pointwise nat_eq) (wanted (Some s)) (if b then Some g.name else None)
     go true = refl
     go false = sym (same_as_none (wanted (Some s)))
 

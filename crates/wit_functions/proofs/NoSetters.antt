@@ -1,8 +1,9 @@
 -- Where no item is a setter, all stay where they are.
-use Rattle.std.proofs.Common.{◌≡◌, ◌||◌, Bool, true, false, List, [], ◌∷◌, refl, ap, ◌∙◌}
+use Rattle.std.proofs.Common.{◌≡◌, ◌||◌, Bool, true, false, List, [], ◌∷◌, nat_eq, refl, ap, ◌∙◌}
 use Rattle.std.specs.Prelude.{Option}
+use Rattle.std.specs.Cmp.Lexicographic.{pointwise}
 use Rattle.std.specs.List.{flat_map, list_any}
-use Rattle.wit_functions.specs.SettersPlaced.{early, is_same_text, others, setters_placed, with_setters}
+use Rattle.wit_functions.specs.SettersPlaced.{early, others, setters_placed, with_setters, both}
 use Rattle.wit_functions.specs.declared.function.Function.{Function}
 use Rattle.wit_functions.specs.MaybeFunction.{goes, is_setter, offered}
 use Rattle.wit_functions.proofs.GetterNames.{goes_wanted, wants_none}
@@ -20,7 +21,7 @@ module _ {X : Type 0} (function_at : X → Option Function) where
   none_goes : (s : X) (es : List X) → is_setter (function_at s) ≡ false → list_any (goes function_at s) es ≡ false
   none_goes s [] h = refl
   none_goes s (e ∷ es) h =
-      let one : goes function_at s e ≡ false = goes_wanted (function_at s) (function_at e) ∙ ap (λ o. is_same_text o (offered (function_at e))) (wants_none (function_at s) h) in
+      let one : goes function_at s e ≡ false = goes_wanted (function_at s) (function_at e) ∙ ap (λ o. both (pointwise nat_eq) o (offered (function_at e))) (wants_none (function_at s) h) in
       rw one (none_goes s es h)
 
   early_none : (es : List X) → list_any (λ e. is_setter (function_at e)) es ≡ false → early (goes function_at) es ≡ []

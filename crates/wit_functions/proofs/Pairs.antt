@@ -6,7 +6,7 @@ use Rattle.std.proofs.lemmas.Slice.Eq.{bytes_eq-Decides}
 use Rattle.std.specs.Cmp.Lexicographic.{pointwise}
 use Rattle.std.specs.List.{AllByRecursion, IsDistinct, list_any, starts_with}
 use Rattle.wit_names.specs.Prefix.{rest_after}
-use Rattle.wit_functions.specs.SettersPlaced.{HaveDistinctNames, prefixes, goes_on_alike, goes_with, is_getter, is_same_text, name_in, pairs, placed, stated_names}
+use Rattle.wit_functions.specs.SettersPlaced.{HaveDistinctNames, prefixes, goes_on_alike, is_getter, name_in, pairs, placed, stated_names, both, is_getter_of}
 use Rattle.wit_functions.specs.declared.function.Function.{Function}
 use Rattle.wit_functions.specs.declared.function.FunctionKind.{FunctionKind}
 use Rattle.wit_functions.specs.declared.function.FunctionKind.TheVariants as kind
@@ -39,7 +39,7 @@ prefixes-of_getter (kind.AsyncStatic r) h = refl
 prefixes-of_getter (kind.StaticSetter r) h = cc
 prefixes-of_getter (kind.Constructor r) h = refl
 
-getter_no_setter : (o p q : Option Function) → goes_with o p ≡ true → goes_with p q ≡ false
+getter_no_setter : (o p q : Option Function) → both is_getter_of o p ≡ true → both is_getter_of p q ≡ false
 getter_no_setter None p q h = cc
 getter_no_setter (Some s) None q h = cc
 getter_no_setter (Some s) (Some g) None h = refl
@@ -57,7 +57,7 @@ rest_after-text prefix text rest h = elim (cases_Bool (starts_with nat_eq text p
   | inr miss ↦ let none : None ≡ Some rest = rw miss at h in cc
 ]
 
-same_text-first : (p q : Option (List ℕ)) → is_same_text p q ≡ true → (x : List ℕ) × (p ≡ Some x) × (q ≡ Some x)
+same_text-first : (p q : Option (List ℕ)) → both (pointwise nat_eq) p q ≡ true → (x : List ℕ) × (p ≡ Some x) × (q ≡ Some x)
 same_text-first None q h = cc
 same_text-first (Some a) None h = cc
 same_text-first (Some a) (Some b) h = (a, refl, ap (λ (l : List ℕ). Some l) (sym ((bytes_eq-Decides a b).0 h)))
@@ -74,7 +74,7 @@ alike-name (Some f) s g h a b =
     rest_after-text f.1 g x.0 x.2 ∙ ap (λ l. f.1 ++ l) same ∙ sym (rest_after-text f.1 h y.0 y.2)
 
 -- two getters of one setter have one name
-getter_name : (s : Option Function) (g h : Function) → goes_with s (Some g) ≡ true → goes_with s (Some h) ≡ true → g.name ≡ h.name
+getter_name : (s : Option Function) (g h : Function) → both is_getter_of s (Some g) ≡ true → both is_getter_of s (Some h) ≡ true → g.name ≡ h.name
 getter_name None g h a b = cc
 getter_name (Some s) g h a b =
     alike-name (prefixes s.kind) s.name g.name h.name
@@ -85,10 +85,10 @@ abbrev Differs : List ℕ → List (List ℕ) → Type 0
 Differs n ns = AllByRecursion (λ y. pointwise nat_eq n y ≡ false) ns
 
 -- another function is no getter of the setter, where its name differs
-apart-one : (s : Option Function) (g : Function) (o : Option Function) (ns : List (List ℕ)) → goes_with s (Some g) ≡ true → Differs g.name (name_in o ++ ns) → goes_with s o ≡ false
+apart-one : (s : Option Function) (g : Function) (o : Option Function) (ns : List (List ℕ)) → both is_getter_of s (Some g) ≡ true → Differs g.name (name_in o ++ ns) → both is_getter_of s o ≡ false
 apart-one None g o ns pair differs = cc
 apart-one (Some s) g None ns pair differs = refl
-apart-one (Some s) g (Some h) ns pair differs = elim (cases_Bool (goes_with (Some s) (Some h))) [
+apart-one (Some s) g (Some h) ns pair differs = elim (cases_Bool (both is_getter_of (Some s) (Some h))) [
   | inl hit ↦ let same = (bytes_eq-Decides g.name h.name).1 (getter_name (Some s) g h pair hit) in let not_same = differs.0 in cc
   | inr miss ↦ miss
 ]
@@ -107,13 +107,13 @@ unfolding IsDistinct
 distinct-first g ns d = d.0
 
 module _ {K V : Type 0} (function_at : V → Option Function) where
-  apart : (s : Option Function) (g : Function) (es : List (K × V)) → goes_with s (Some g) ≡ true → Differs g.name (stated_names function_at es) → list_any (λ x. goes_with s (function_at x.1)) es ≡ false
+  apart : (s : Option Function) (g : Function) (es : List (K × V)) → both is_getter_of s (Some g) ≡ true → Differs g.name (stated_names function_at es) → list_any (λ x. both is_getter_of s (function_at x.1)) es ≡ false
   apart s g [] pair differs = refl
   apart s g (e ∷ es) pair differs =
       let one = apart-one s g (function_at e.1) (stated_names function_at es) pair differs in
       rw one (apart s g es pair (differs-rest g.name (function_at e.1) (stated_names function_at es) differs))
 
-  apart-maybe_function : (s o : Option Function) (es : List (K × V)) → goes_with s o ≡ true → IsDistinct (pointwise nat_eq) (name_in o ++ stated_names function_at es) → list_any (λ x. goes_with s (function_at x.1)) es ≡ false
+  apart-maybe_function : (s o : Option Function) (es : List (K × V)) → both is_getter_of s o ≡ true → IsDistinct (pointwise nat_eq) (name_in o ++ stated_names function_at es) → list_any (λ x. both is_getter_of s (function_at x.1)) es ≡ false
   apart-maybe_function None None es pair d = cc
   apart-maybe_function (Some s) None es pair d = cc
   apart-maybe_function s (Some g) es pair d = apart s g es pair (distinct-first g (stated_names function_at es) d)

@@ -8,7 +8,7 @@ use Rattle.std.specs.Str.{bytes_eq}
 use Rattle.std.proofs.lemmas.Bool.{cases_Bool}
 use Rattle.std.proofs.lemmas.List.{reverse-append}
 use Rattle.wit_functions.specs.declared.function.Function.{Function}
-use Rattle.wit_functions.specs.SettersPlaced.{early, is_same_text, name_in, others}
+use Rattle.wit_functions.specs.SettersPlaced.{early, name_in, others, both}
 use Rattle.wit_functions.proofs.Names.{name_cases, name_equal, name_itself}
 use Rattle.wit_functions.specs.MaybeFunction.{goes, offered, wanted, HaveOwnNames}
 use Rattle.wit_functions.specs.Parted.{known, IsParted}
@@ -29,7 +29,7 @@ known_test has n = elim (cases_Bool (has n)) [
   | inr miss ↦ rw miss refl
 ]
 
-same_text : (o : Option (List ℕ)) (name : List ℕ) → is_same_text o (Some name) ≡ true → o ≡ Some name
+same_text : (o : Option (List ℕ)) (name : List ℕ) → both (pointwise nat_eq) o (Some name) ≡ true → o ≡ Some name
 same_text None name h = cc
 same_text (Some n) name h = ap Some (name_equal n name h)
 
@@ -61,12 +61,12 @@ chosen x xs false o none was = was
 module _ {X : Type 0} (function_at : X → Option Function) where
   -- these want the name
   abbrev wanting : List ℕ → X → Bool
-  wanting name s = is_same_text (wanted (function_at s)) (Some name)
+  wanting name s = both (pointwise nat_eq) (wanted (function_at s)) (Some name)
 
   -- no function of another name wants what a setter does
-  other_wants : (f : Function) (name : List ℕ) (o : Option Function) (ns : List (List ℕ)) → wanted (Some f) ≡ Some name → Differs f.name (name_in o ++ ns) → is_same_text (wanted o) (Some name) ≡ false
+  other_wants : (f : Function) (name : List ℕ) (o : Option Function) (ns : List (List ℕ)) → wanted (Some f) ≡ Some name → Differs f.name (name_in o ++ ns) → both (pointwise nat_eq) (wanted o) (Some name) ≡ false
   other_wants f name None ns wants d = refl
-  other_wants f name (Some g) ns wants d = elim (cases_Bool (is_same_text (wanted (Some g)) (Some name))) [
+  other_wants f name (Some g) ns wants d = elim (cases_Bool (both (pointwise nat_eq) (wanted (Some g)) (Some name))) [
     | inl hit ↦ (
         let same = one_setter f g name wants (same_text (wanted (Some g)) name hit) in
         let wrong : false ≡ true = sym d.0 ∙ ap (pointwise nat_eq f.name) (sym same) ∙ name_itself f.name in
@@ -91,7 +91,7 @@ module _ {X : Type 0} (function_at : X → Option Function) where
       go None is = (let none : None ≡ Some name = ap wanted (sym is) ∙ wants in absurd (let f : ⊥ = cc in f))
       go (Some f) is = none_want f name es (ap wanted (sym is) ∙ wants) (own_head function_at s f es is own)
 
-  no_name : (es : List X) → list_any (λ g. is_same_text None (offered (function_at g))) es ≡ false
+  no_name : (es : List X) → list_any (λ g. both (pointwise nat_eq) None (offered (function_at g))) es ≡ false
   no_name [] = refl
   no_name (e ∷ es) = no_name es
 
@@ -100,7 +100,7 @@ module _ {X : Type 0} (function_at : X → Option Function) where
     inverse : (s : X) → list_any (goes function_at s) es ≡ is_some (known has (wanted (function_at s)))
     inverse s = (λ i. list_any (λ g. goes_wanted (function_at s) (function_at g) i) es) ∙ go (wanted (function_at s))
       where
-        go : (o : Option (List ℕ)) → list_any (λ g. is_same_text o (offered (function_at g))) es ≡ is_some (known has o)
+        go : (o : Option (List ℕ)) → list_any (λ g. both (pointwise nat_eq) o (offered (function_at g))) es ≡ is_some (known has o)
         go None = no_name es
         go (Some n) = sym (was.offer n) ∙ sym (known_test has n)
 
@@ -111,23 +111,23 @@ module _ {X : Type 0} (function_at : X → Option Function) where
         let wants = known_name has (wanted (function_at s)) name h in
         record {
           stay = was.stay ∙ sym (others_early (goes function_at) s es hit);
-          offer = λ n. was.offer n ∙ ap (λ o. is_same_text (Some n) o || list_any (λ g. is_same_text (Some n) (offered (function_at g))) es) (sym (offers_none (function_at s) name wants));
+          offer = λ n. was.offer n ∙ ap (λ o. both (pointwise nat_eq) (Some n) o || list_any (λ g. both (pointwise nat_eq) (Some n) (offered (function_at g))) es) (sym (offers_none (function_at s) name wants));
           wait = λ n. (
               let mine = filter (wanting n) (early (goes function_at) es) in
               let none : pointwise nat_eq name n ≡ true → mine ≡ [] = λ same. ap (λ q. filter (wanting q) (early (goes function_at) es)) (sym (name_equal name n same)) ∙ alone s es name wants own in
               ap option_to_list (put n)
               ∙ chosen s mine (pointwise nat_eq name n) (waits n) none (was.wait n)
-              ∙ ap (λ o. if is_same_text o (Some n) then s ∷ mine else mine) (sym wants)
+              ∙ ap (λ o. if both (pointwise nat_eq) o (Some n) then s ∷ mine else mine) (sym wants)
               ∙ ap (filter (wanting n)) (sym (early_early (goes function_at) s es hit)));
         }
 
     -- an item more that waits for none
-    pub parted_kept : (kept_now : List X) (has_now : List ℕ → Bool) (x : X) → known has (wanted (function_at x)) ≡ None → kept_now ≡ kept ++ x ∷ [] → ((n : List ℕ) → has_now n ≡ (is_same_text (Some n) (offered (function_at x)) || has n)) → IsParted function_at (x ∷ es) kept_now has_now waits
+    pub parted_kept : (kept_now : List X) (has_now : List ℕ → Bool) (x : X) → known has (wanted (function_at x)) ≡ None → kept_now ≡ kept ++ x ∷ [] → ((n : List ℕ) → has_now n ≡ (both (pointwise nat_eq) (Some n) (offered (function_at x)) || has n)) → IsParted function_at (x ∷ es) kept_now has_now waits
     parted_kept kept_now has_now x h more put =
         let miss : list_any (goes function_at x) es ≡ false = inverse x ∙ ap is_some h in
         record {
           stay = ap reverse more ∙ reverse-append kept (x ∷ []) ∙ ap (λ l. x ∷ l) was.stay ∙ sym (others_kept (goes function_at) x es miss);
-          offer = λ n. put n ∙ ap (λ b. is_same_text (Some n) (offered (function_at x)) || b) (was.offer n);
+          offer = λ n. put n ∙ ap (λ b. both (pointwise nat_eq) (Some n) (offered (function_at x)) || b) (was.offer n);
           wait = λ n. was.wait n ∙ ap (filter (wanting n)) (sym (early_kept (goes function_at) x es miss));
         }
 
@@ -145,5 +145,5 @@ same_either_way m n = elim (name_cases m n) [
   ]
 ]
 
-pub offered_more : (k n name : List ℕ) (o : Option (List ℕ)) (b : Bool) → k ≡ n → o ≡ Some n → cond (bytes_eq k name) true b ≡ (is_same_text (Some name) o || b)
-offered_more k n name o b same is = ap (λ m. cond (bytes_eq m name) true b) same ∙ or_cond (bytes_eq n name) b ∙ ap (λ a. a || b) (same_either_way n name) ∙ ap (λ m. is_same_text (Some name) m || b) (sym is)
+pub offered_more : (k n name : List ℕ) (o : Option (List ℕ)) (b : Bool) → k ≡ n → o ≡ Some n → cond (bytes_eq k name) true b ≡ (both (pointwise nat_eq) (Some name) o || b)
+offered_more k n name o b same is = ap (λ m. cond (bytes_eq m name) true b) same ∙ or_cond (bytes_eq n name) b ∙ ap (λ a. a || b) (same_either_way n name) ∙ ap (λ m. both (pointwise nat_eq) (Some name) m || b) (sym is)

@@ -7,7 +7,7 @@ use Rattle.std.proofs.lemmas.Bool.{cases_Bool}
 use Rattle.std.proofs.lemmas.Option.{slice_get_within}
 use Rattle.wit_functions.specs.declared.function.Function.{Function}
 use Rattle.wit_functions.specs.Reordered.{IsOrder, Shows}
-use Rattle.wit_functions.specs.SettersPlaced.{HaveDistinctNames, early, goes_with, name_in, others, pairs, setters_placed, stated_names, with_setters}
+use Rattle.wit_functions.specs.SettersPlaced.{HaveDistinctNames, early, name_in, others, pairs, setters_placed, stated_names, with_setters, both, is_getter_of}
 use Rattle.wit_functions.specs.MaybeFunction.{HaveOwnNames, goes}
 use Rattle.wit_functions.proofs.InTurn.{in_turn, put_at}
 use Rattle.wit_functions.proofs.Keys.{Differ, Lacks, differ-in_turn}
@@ -179,7 +179,7 @@ module _ {E : Type 0} (function_at : E → Option Function) where
   -- the places of the stated functions, once setters are placed among these, are the order of the entries
   pub placed_order : {T : Type 0} (place : T → ℕ) (maybe_function : T → Option Function) (ts : List T) (es : List E)
       → map {B = ℕ × Option Function} (λ t. (place t, maybe_function t)) ts ≡ map (λ z. (z.0, function_at z.1)) (enumerate_from 0 es) → HaveOwnNames function_at es
-      → IsOrder es (map place (setters_placed (λ s g. goes_with (maybe_function s) (maybe_function g)) ts)) (setters_placed (goes function_at) es)
+      → IsOrder es (map place (setters_placed (λ s g. both is_getter_of (maybe_function s) (maybe_function g)) ts)) (setters_placed (goes function_at) es)
   placed_order {T = T} place maybe_function ts es are names =
       let zs = enumerate_from 0 es in
       let by_entry = pairs {K = ℕ} function_at in
@@ -189,10 +189,10 @@ module _ {E : Type 0} (function_at : E → Option Function) where
       let is = in_order es (in_turn by_entry zs) (are_present-in_turn by_entry es zs (numbered-are_present es 0 es (λ k. (let same : 0 + k ≡ k = omega arith in ap (slice_get es) same)))) (differ-in_turn numbers by_entry zs (numbered-differ 0 es)) (long-in_turn by_entry zs ∙ long-numbered 0 es) in
       let view : T → ℕ × Option Function = λ t. (place t, maybe_function t) in
       let tell : ℕ × E → ℕ × Option Function = λ z. (z.0, function_at z.1) in
-      let both = λ (s g : ℕ × Option Function). goes_with s.1 g.1 in
-      let order : map place (setters_placed (λ s g. goes_with (maybe_function s) (maybe_function g)) ts) ≡ map numbers (in_turn by_entry zs) =
-      sym (map-map view (λ p. p.0) (setters_placed (λ s g. goes_with (maybe_function s) (maybe_function g)) ts))
-      ∙ ap (map (λ p. p.0)) (placed-map view (λ s g. goes_with (maybe_function s) (maybe_function g)) both (λ a b. refl) ts ∙ ap (setters_placed both) are ∙ sym (placed-map tell by_entry both (λ a b. refl) zs) ∙ ap (map tell) (sym turned))
+      let by_number = λ (s g : ℕ × Option Function). both is_getter_of s.1 g.1 in
+      let order : map place (setters_placed (λ s g. both is_getter_of (maybe_function s) (maybe_function g)) ts) ≡ map numbers (in_turn by_entry zs) =
+      sym (map-map view (λ p. p.0) (setters_placed (λ s g. both is_getter_of (maybe_function s) (maybe_function g)) ts))
+      ∙ ap (map (λ p. p.0)) (placed-map view (λ s g. both is_getter_of (maybe_function s) (maybe_function g)) by_number (λ a b. refl) ts ∙ ap (setters_placed by_number) are ∙ sym (placed-map tell by_entry by_number (λ a b. refl) zs) ∙ ap (map tell) (sym turned))
       ∙ map-map tell (λ p. p.0) (in_turn by_entry zs) in
       let entries : map (λ z. z.1) (in_turn by_entry zs) ≡ setters_placed (goes function_at) es =
       ap (map (λ z. z.1)) turned ∙ placed-map (λ z. z.1) by_entry (goes function_at) (λ a b. refl) zs ∙ ap (setters_placed (goes function_at)) (numbered-entries 0 es) in

@@ -1,11 +1,12 @@
 -- Items, each with the setter that waits for it after it, are the placed ones.
-use Rattle.std.proofs.Common.{◌≡◌, ℕ, suc, ◌++◌, ◌∷◌, Bool, true, false, List, [], Option, Some, None, reverse, inl, inr, refl, sym, ap, ◌∙◌, append_assoc}
+use Rattle.std.proofs.Common.{◌≡◌, ℕ, suc, ◌++◌, ◌∷◌, Bool, true, false, List, [], Option, Some, None, reverse, nat_eq, inl, inr, refl, sym, ap, ◌∙◌, append_assoc}
 use Rattle.std.specs.Prelude.{if◌then◌else◌, slice_get}
+use Rattle.std.specs.Cmp.Lexicographic.{pointwise}
 use Rattle.std.specs.List.{filter, flat_map, list_any}
 use Rattle.std.specs.Option.{option_and_then, option_to_list}
 use Rattle.std.proofs.lemmas.Bool.{cases_Bool}
 use Rattle.wit_functions.specs.declared.function.Function.{Function}
-use Rattle.wit_functions.specs.SettersPlaced.{early, is_getter, is_same_text, others, setters_placed, with_setters}
+use Rattle.wit_functions.specs.SettersPlaced.{early, is_getter, others, setters_placed, with_setters, both}
 use Rattle.wit_functions.specs.MaybeFunction.{goes, offered, wanted, HaveOwnNames}
 use Rattle.wit_functions.specs.Parted.{served, waiting_for, without, IsParted}
 use Rattle.wit_functions.proofs.GetterNames.{goes_wanted, same_as_none}
@@ -36,10 +37,10 @@ module _ {X : Type 0} (function_at : X → Option Function) where
   -- one more is served
   pub served_next : (waits now : List ℕ → Option X) (was placed : List X) (x : X) (rest : List X) → placed ≡ was ++ x ∷ option_to_list (waiting_for function_at waits x) → ((name : List ℕ) → now name ≡ without (offered (function_at x)) waits name) → placed ++ served function_at now rest ≡ was ++ served function_at waits (x ∷ rest)
   served_next waits now was placed x rest put left =
-      let both = x ∷ option_to_list (waiting_for function_at waits x) in
+      let pair = x ∷ option_to_list (waiting_for function_at waits x) in
       ap (λ l. l ++ served function_at now rest) put
-      ∙ append_assoc was both (served function_at now rest)
-      ∙ (λ i. was ++ (both ++ served function_at (λ name. left name i) rest))
+      ∙ append_assoc was pair (served function_at now rest)
+      ∙ (λ i. was ++ (pair ++ served function_at (λ name. left name i) rest))
 
   serves : (waits now : List ℕ → Option X) (es : List X) → HaveOwnNames function_at es → ((i : ℕ) (x : X) → slice_get es i ≡ Some x → waiting_for function_at now x ≡ waiting_for function_at waits x) → served function_at now (others (goes function_at) es) ≡ flat_map (with_waiting waits) (others (goes function_at) es)
   serves waits now [] own agree = refl
@@ -53,12 +54,12 @@ module _ {X : Type 0} (function_at : X → Option Function) where
             rw miss (λ i. e ∷ (option_to_list (agree 0 e refl i) ++ rest i)))
       ]
 
-  wanted_none : (ss : List X) → filter (λ s. is_same_text (wanted (function_at s)) None) ss ≡ []
+  wanted_none : (ss : List X) → filter (λ s. both (pointwise nat_eq) (wanted (function_at s)) None) ss ≡ []
   wanted_none [] = refl
   wanted_none (s ∷ ss) = rw (same_as_none (wanted (function_at s))) (wanted_none ss)
 
   module _ (es kept : List X) (has : List ℕ → Bool) (waits : List ℕ → Option X) (was : IsParted function_at es kept has waits) where
-    waits_for : (o : Option (List ℕ)) → option_to_list (option_and_then waits o) ≡ filter (λ s. is_same_text (wanted (function_at s)) o) (early (goes function_at) es)
+    waits_for : (o : Option (List ℕ)) → option_to_list (option_and_then waits o) ≡ filter (λ s. both (pointwise nat_eq) (wanted (function_at s)) o) (early (goes function_at) es)
     waits_for None = sym (wanted_none (early (goes function_at) es))
     waits_for (Some n) = was.wait n
 

@@ -4,7 +4,7 @@ use Rattle.std.specs.Cmp.Lexicographic.{pointwise}
 use Rattle.std.specs.List.{IsDistinct, flat_map}
 use Rattle.std.specs.Option.{is_some, option_map}
 use Rattle.wit_names.specs.Prefix.{rest_after}
-use Rattle.wit_functions.specs.SettersPlaced.{prefixes, goes_with, is_getter, name_in}
+use Rattle.wit_functions.specs.SettersPlaced.{prefixes, is_getter, name_in, both, is_getter_of}
 use Rattle.wit_functions.specs.declared.function.Function.{Function}
 
 -- it is a function, and a setter
@@ -30,7 +30,7 @@ offered (Some f) = if is_getter f.kind then Some f.name else None
 module _ {X : Type 0} (function_at : X → Option Function) where
   -- the one is a setter, and the other its getter
   abbrev pub goes : X → X → Bool
-  goes s g = goes_with (function_at s) (function_at g)
+  goes s g = both is_getter_of (function_at s) (function_at g)
 
   -- no two functions have one name
   abbrev pub HaveOwnNames : List X → Type 0

@@ -5,7 +5,7 @@ use Rattle.std.specs.BTreeSet.{contains_text}
 use Rattle.std.specs.Cmp.Lexicographic.{pointwise}
 use Rattle.std.specs.List.{filter, list_any}
 use Rattle.std.specs.Option.{option_and_then, option_to_list}
-use Rattle.wit_functions.specs.SettersPlaced.{early, is_same_text, others}
+use Rattle.wit_functions.specs.SettersPlaced.{early, others, both}
 use Rattle.wit_functions.specs.declared.function.Function.{Function}
 use Rattle.wit_functions.specs.declared.parted.Parted.{Parted}
 use Rattle.wit_functions.specs.MaybeFunction.{HaveOwnNames, goes, offered, wanted}
@@ -22,7 +22,7 @@ without (Some gone) waits name = if pointwise nat_eq gone name then None else wa
 
 -- besides those names are these, of which this one is offered
 abbrev pub OffersBeside : Option (List ℕ) → (List ℕ → Bool) → (List ℕ → Bool) → Type 0
-OffersBeside offer old new = (name : List ℕ) → new name ≡ (is_same_text (Some name) offer || old name)
+OffersBeside offer old new = (name : List ℕ) → new name ≡ (both (pointwise nat_eq) (Some name) offer || old name)
 
 module _ {X : Type 0} (function_at : X → Option Function) where
   -- the setter that waits for an item
@@ -37,8 +37,8 @@ module _ {X : Type 0} (function_at : X → Option Function) where
   -- the items are parted: those that wait for none, the last first, the names of getters, and under these the setters that wait
   pub record IsParted (es kept : List X) (has : List ℕ → Bool) (waits : List ℕ → Option X) : Type 0 where
     pub stay : reverse kept ≡ others (goes function_at) es
-    pub offer : (name : List ℕ) → has name ≡ list_any (λ g. is_same_text (Some name) (offered (function_at g))) es
-    pub wait : (name : List ℕ) → option_to_list (waits name) ≡ filter (λ s. is_same_text (wanted (function_at s)) (Some name)) (early (goes function_at) es)
+    pub offer : (name : List ℕ) → has name ≡ list_any (λ g. both (pointwise nat_eq) (Some name) (offered (function_at g))) es
+    pub wait : (name : List ℕ) → option_to_list (waits name) ≡ filter (λ s. both (pointwise nat_eq) (wanted (function_at s)) (Some name)) (early (goes function_at) es)
 
   -- these items are parted so
   abbrev pub AreParted : List X → Parted X → Type 0

@@ -3,7 +3,7 @@ use Rattle.std.specs.Prelude.{◌≡◌, ℕ, ◌&&◌, Bool, true, false, List,
 use Rattle.std.specs.Cmp.Lexicographic.{pointwise}
 use Rattle.std.specs.Fn.{FnReturnsAt}
 use Rattle.std.specs.List.{IsDistinct, filter, flat_map, list_any}
-use Rattle.std.specs.Option.{option_copied}
+use Rattle.std.specs.Option.{option_copied, option_map_or}
 use denote.Param.Members.{Shared}
 use denote.Ref.{Bor}
 use Rattle.wit_names.specs.Prefix.{rest_after}
@@ -25,26 +25,17 @@ is_getter (kind.MethodGetter r) = true
 is_getter (kind.StaticGetter r) = true
 is_getter _ = false
 
--- both texts are there and the same
-abbrev pub is_same_text : Option (List ℕ) → Option (List ℕ) → Bool
-is_same_text None q = false
-is_same_text (Some a) None = false
-is_same_text (Some a) (Some b) = pointwise nat_eq a b
+-- both are there, and pass the test together
+abbrev pub both : {A B : Type 0} → (A → B → Bool) → Option A → Option B → Bool
+both test p q = option_map_or (λ a. option_map_or (test a) q false) p false
 
 -- after the one prefix the first name goes on as the second does after the other
 abbrev pub goes_on_alike : Option (List ℕ × List ℕ) → List ℕ → List ℕ → Bool
-goes_on_alike None s g = false
-goes_on_alike (Some f) s g = is_same_text (rest_after f.0 s) (rest_after f.1 g)
+goes_on_alike f s g = option_map_or (λ (f : List ℕ × List ℕ). both (pointwise nat_eq) (rest_after f.0 s) (rest_after f.1 g)) f false
 
 -- g is the getter of the setter s: its name is that of s with `[get]` for `[set]`
 abbrev pub is_getter_of : Function → Function → Bool
 is_getter_of s g = is_getter g.kind && goes_on_alike (prefixes s.kind) s.name g.name
-
--- the same of two functions that may be missing
-abbrev pub goes_with : Option Function → Option Function → Bool
-goes_with None g = false
-goes_with (Some s) None = false
-goes_with (Some s) (Some g) = is_getter_of s g
 
 -- each call at a value shows what `says` says of it
 abbrev pub Computes : {F V : Type 0} → Shared F (Bor V × Unit {0}) (Option (Bor Function)) → F → (V → Option Function) → Type 0
@@ -76,7 +67,7 @@ name_in (Some f) = f.name ∷ []
 module _ {K V : Type 0} (function_at : V → Option Function) where
   -- the function of the second entry is the getter of that of the first, a setter
   abbrev pub pairs : K × V → K × V → Bool
-  pairs s g = goes_with (function_at s.1) (function_at g.1)
+  pairs s g = both is_getter_of (function_at s.1) (function_at g.1)
 
   -- the names of the functions of the entries
   abbrev pub stated_names : List (K × V) → List (List ℕ)

@@ -27,7 +27,7 @@ first_cases i k j l = elim (cases_order i j) [
   ]
 ]
 
-same_id : (rs : List Row) (i k : ℕ) (a b : Id) → IsEdge rs i k a → IsEdge rs i k b → a ≡ b
+pub same_id : (rs : List Row) (i k : ℕ) (a b : Id) → IsEdge rs i k a → IsEdge rs i k b → a ≡ b
 same_id rs i k a b (r, at, there) (r', at', there') =
     let rows : Some r ≡ Some r' = sym at ∙ at' in
     let ends : Some a ≡ Some b = sym there ∙ ap (λ (v : Row). slice_get v.needs k) (same_Some r r' rows) ∙ there' in
@@ -40,7 +40,7 @@ first_place rs P i k j l a b f g = elim (first_cases i k j l) [
   | inr (inr after) ↦ absurd (f.earlier j l b g.is after g.holds)
 ]
 
-first_same : (rs : List Row) (P : ℕ → Id → Type 0) (i k j l : ℕ) (a b : Id) → IsFirstEdge (IsEdge rs) P i k a → IsFirstEdge (IsEdge rs) P j l b → a ≡ b
+pub first_same : (rs : List Row) (P : ℕ → Id → Type 0) (i k j l : ℕ) (a b : Id) → IsFirstEdge (IsEdge rs) P i k a → IsFirstEdge (IsEdge rs) P j l b → a ≡ b
 first_same rs P i k j l a b f g =
     let e = first_place rs P i k j l a b f g in
     same_id rs j l a b (subst (λ x. IsEdge rs x l a) e.0 (subst (λ x. IsEdge rs i x a) e.1 f.is)) g.is

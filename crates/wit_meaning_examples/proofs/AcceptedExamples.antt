@@ -1,10 +1,11 @@
 -- A file breaks no rule where a path has the name of its own package: that the path leads to an item of another package, and not to the interface around it.
 use Rattle.std.proofs.Common.{◌≡◌, ℕ, zero, suc, List, [], ◌∷◌, map, Some, inl, sym, ap, ◌∙◌, subst}
-use Rattle.wit_syntax.proofs.Common.{Address, AllDiffer, AttributedUse, Body, Contains, CrossedTwice, CyclicItem, CyclicType, Defined, DefinedTwice, DuplicateItem, DuplicateTopName, Exported, Fault, FoldedTwice, ForeignName, ForeignStability, ForeignVisit, Function, Global, Handle, Headerless, Imported, IncludeStability, InterfaceIncluded, InterfaceMetadata, IsBrokenMetadata, IsBrokenNames, IsBrokenScope, IsBrokenSides, IsBrokenStability, IsBrokenUse, IsLegal, IsLinkedTwice, Item, ItemStability, Items, LinkedTwice, LostUse, MissingItem, MissingName, MissingType, MissingUse, Names, PackageFile, Scope, ScopeName, Setter, Sides, TopUse, Use as WrittenUse, UseMetadata, UsePath, Used, WorldSide, WorldUsed, about, address, all_handles, all_items, all_scopes, at_contains, bytes_eq, called_key, codes, differ_none, find_among, functions, include_paths, includes, is_world_at, item_name, item_rows, item_types, item_word, items_on, leads, local_name, missing_at, missing_type_at, no_crossed, no_cyclic_edge, no_fold, no_missing_edge, no_repeat, on_side, rows_of, scope_names, side_called, side_items, slice_get, top_names, top_text, type_word, unbroken_metadata, uses}
+use Rattle.wit_arena.proofs.Common.{Address, AllDiffer, AttributedUse, Body, Contains, CrossedTwice, CyclicItem, CyclicType, Defined, DefinedTwice, DuplicateItem, DuplicateTopName, Exported, Fault, FoldedTwice, ForeignName, ForeignStability, ForeignVisit, Global, Handle, Headerless, Imported, IncludeStability, InterfaceIncluded, InterfaceMetadata, IsBrokenMetadata, IsBrokenNames, IsBrokenScope, IsBrokenSides, IsBrokenStability, IsBrokenUse, IsLegal, IsLinkedTwice, Item, ItemStability, Items, LinkedTwice, LostUse, MissingItem, MissingName, MissingType, MissingUse, PackageFile, Scope, ScopeName, Setter, Sides, TopUse, UseMetadata, UsePath, Used, WorldSide, WorldUsed, about, address, all_handles, all_items, all_scopes, at_contains, bytes_eq, called_key, codes, differ_none, find_among, functions, include_paths, includes, is_world_at, item_name, item_rows, item_types, item_word, items_on, leads, local_name, missing_at, missing_type_at, no_crossed, no_cyclic_edge, no_fold, no_missing_edge, no_repeat, on_side, rows_of, scope_names, side_called, side_items, slice_get, top_names, top_text, type_word, unbroken_metadata, uses}
+use Rattle.wit_syntax.proofs.Common.{Function, Names, Use as WrittenUse}
+use Rattle.wit_syntax.specs.Broken.{Metadata, Use}
 use denote.RawPtr.{Ptr}
 use Rattle.wit_tree.specs.declared.tree.AstItem.TheVariants as ast
 use Rattle.wit_type_tree.specs.declared.types.TypeDef.{TypeDef}
-use Rattle.wit_syntax.specs.Broken.{Metadata, Use}
 use Rattle.wit_meaning_examples.proofs.SideExamples.{none_among, one_differs}
 use Rattle.wit_meaning_examples.proofs.SignatureExamples.{one_order}
 use Rattle.wit_meaning_examples.proofs.ElsewhereExamples.{own_file, i_item, use_own, visit, t_used, other}

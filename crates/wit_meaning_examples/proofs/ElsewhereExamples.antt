@@ -1,6 +1,8 @@
 -- Paths that lead to an item of another package: an include of an interface, a `use` of a world, and a path that has the package's own name.
 use Rattle.std.proofs.Common.{◌≡◌, ℕ, true, false, List, [], ◌∷◌, map, Some, None, refl, lit<}
-use Rattle.wit_syntax.proofs.Common.{Address, AliasForm, Foreign, ForeignName, ForeignNamed, ForeignVisit, Global, Head, Id, Interface as WrittenInterface, InterfaceIncluded, InterfaceNamed, IsBroken, IsOrder, Item, Named, PackageFile, PackageName, Span, TheInterface, TheWorld, ToplevelUse, Tree, TypeDef, TypeDefKind, Unknown, UnknownForm, Use as WrittenUse, UseName, UsePath, Used, Word, World as WrittenWorld, WorldItem, WorldUsed, codes, fault_in, foreign_items, foreign_uses, foreign_visits, is_world_at, item_rows, leads, no_docs, path_scope, rows_of, scope_names, source_tree, top_names}
+use Rattle.wit_arena.proofs.Common.{Address, AliasForm, Collects, Def, Foreign, ForeignName, ForeignNamed, ForeignVisit, Global, Head, Id, InterfaceIncluded, InterfaceNamed, IsBroken, IsOccurrence, IsOrder, Item, Named, NamesOthers, Occurrence, Ordered, PackageFile, PackageName, Span, TheInterface, TheWorld, ToplevelUse, Tree, TypeDef, TypeDefKind, Unknown, UnknownForm, UnresolvedPackage, UseName, UsePath, Used, Word, WorldUsed, all_occurrences, codes, declarations, fault_in, foreign_items, foreign_uses, foreign_visits, interface_addresses, is_world_at, item_rows, leads, no_docs, owner_of, package_tree, path_scope, rows_of, scope_names, source_tree, top_names, turned}
+use Rattle.wit_syntax.proofs.Common.{Interface as WrittenInterface, Use as WrittenUse, World as WrittenWorld, WorldItem}
+use Rattle.wit_syntax.specs.Broken.{Use}
 use denote.RawPtr.{Ptr}
 use Rattle.wit_tree.specs.declared.tree.UsePath.TheVariants as path
 use Rattle.wit_tree.specs.declared.tree.InterfaceItem.TheVariants as interface_item
@@ -11,8 +13,6 @@ use Rattle.wit_types.specs.declared.types.«Type».TheVariants as type
 use Rattle.wit_types.specs.declared.types.TypeDefKind.TheVariants as kind
 use Rattle.wit_types.specs.declared.types.TypeOwner.TheVariants as owner
 use Rattle.wit_model.specs.declared.ast_item.AstItem.TheVariants as entry
-use Rattle.wit_arena.proofs.Common.{Collects, Def, IsOccurrence, NamesOthers, Occurrence, Ordered, UnresolvedPackage, all_occurrences, declarations, interface_addresses, owner_of, package_tree, turned}
-use Rattle.wit_syntax.specs.Broken.{Use}
 use Rattle.wit_meaning_examples.proofs.Examples.{at, id, vec, no_comments, unstated, header}
 use Rattle.wit_meaning_examples.proofs.SignatureExamples.{one_order}
 use Rattle.wit_meaning_examples.proofs.FirstSeen.{collects_each, none_seen, seen_named}

@@ -1,11 +1,11 @@
 -- Worked rows, computed by the definitions.
 use Rattle.std.proofs.Common.{◌≡◌, ℕ, ◌<◌, ◌^◌, true, List, [], ◌∷◌, length, map, Some, None, zero, suc, inl, inr, refl, lit<, arith}
-use Rattle.wit_syntax.proofs.Common.{AliasForm, Attribute, Box, Cyclic, Defined, Field, Global, Head, Headerless, Id, Interface as WrittenInterface, InterfaceNamed, IsBroken, IsCyclic, IsCyclicEdge, IsDuplicateName, IsMissing, IsMissingEdge, IsOrder, IsSecond, IsWrongTop, Item, Leads, Leaf, ListForm, Local, LostUse, Member, Missing, Named, PackageFile, Plain, ReachesCycle, Record, RecordForm, Row, ScopeName, Span, TheInterface, TopName, ToplevelUse, Tree, TypeDef, Unknown, Unnamed, Use, UseName, Used, Vec, Word, all_items, codes, fault, fault_in, lower_case, in_turn, is_label, item_rows, last_header, missing_type_at, no_docs, path_id, rows_of, scope_names, source_tree, top_names, top_text, top_twice, type_word}
+use Rattle.wit_arena.proofs.Common.{AliasForm, Attribute, Box, Collects, Cyclic, Def, Defined, Field as WrittenField, Global, Head, Headerless, Id, Interface, InterfaceNamed, IsBroken, IsCyclic, IsCyclicEdge, IsDuplicateName, IsMissing, IsMissingEdge, IsOrder, IsSecond, IsSeen, IsWrongTop, Item, Leads, Leaf, ListForm, Local, LostUse, Member, Missing, Named, Occurrence, PackageFile, Plain, Prim, ReachesCycle, Record, RecordForm, Row, ScopeName, Span, TheInterface, TopName, ToplevelUse, Tree, TypeDef, Unknown, Unnamed, UnresolvedPackage, UseName, Used, Vec, Whole, Word, all_items, codes, fault, fault_in, in_turn, is_label, item_rows, kind_of, last_header, lower_case, missing_type_at, no_docs, occurrences, one, package_tree, path_id, rows_of, scope_names, source_tree, top_names, top_text, top_twice, turned, type_word, «Type» as Written}
+use Rattle.wit_types.specs.declared.types.Field.{Field}
+use Rattle.wit_syntax.proofs.Common.{Interface as WrittenInterface, Use}
 use denote.RawPtr.{Ptr}
 use Rattle.wit_type_tree.specs.declared.leaves.Docs.{Docs as Comments}
-use Rattle.wit_type_tree.specs.declared.types.Field.{Field as WrittenField}
 use Rattle.wit_type_tree.specs.declared.types.Primitive.TheVariants as primitive
-use Rattle.wit_type_tree.specs.declared.types.«Type».{«Type» as Written}
 use Rattle.wit_type_tree.specs.declared.types.«Type».TheVariants as written
 use Rattle.wit_type_tree.specs.declared.types.TypeDef.{TypeDef as Definition}
 use Rattle.wit_tree.specs.declared.tree.UsePath.TheVariants as path
@@ -16,7 +16,6 @@ use Rattle.wit_types.specs.declared.types.«Type».{«Type» as Ty}
 use Rattle.wit_types.specs.declared.types.«Type».TheVariants as type
 use Rattle.wit_types.specs.declared.types.TypeDefKind.TheVariants as kind
 use Rattle.wit_types.specs.declared.types.TypeOwner.TheVariants as owner
-use Rattle.wit_arena.proofs.Common.{Collects, Def, Interface, IsSeen, Occurrence, Prim, UnresolvedPackage, Whole, kind_of, occurrences, one, package_tree, turned}
 use Rattle.wit_meaning_examples.proofs.SmallOrders.{two, three, two_order, three_order}
 
 folded_names : map lower_case (codes "P-q1" ∷ codes "p-Q1" ∷ []) ≡ (codes "p-q1" ∷ codes "p-q1" ∷ [])

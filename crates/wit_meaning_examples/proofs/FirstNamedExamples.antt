@@ -1,6 +1,8 @@
 -- Worked rows in which a path means the first item of a name alone: what a later one has breaks no rule of used names, of handles or of paths.
 use Rattle.std.proofs.Common.{◌≡◌, ℕ, ◌<◌, ◌^◌, zero, suc, Bool, true, false, List, [], ◌∷◌, length, Some, None, refl, sym, ap, ◌∙◌, lit<}
-use Rattle.wit_syntax.proofs.Common.{AstItem, Declared, Elsewhere, EndsAt, Exported, Fault, Global, Id, Imported, Interface, InterfaceItem as Part, InterfaceNamed, IsBroken, IsLinkedTwice, Item, Link, NamedFunc, PackageFile, Plain, Resource, ScopeName, SideLink, Span, TheInline, TheInterface, TheWorld, TopName, Use as WrittenUse, World, WorldItem, WorldSide, WorldUsed, about, about_name, address, all_items, codes, fault_in, is_world, is_world_at, item_name, item_named, items_on, leads, map, nat_eq, option_map, scope, scope_names, side_items, slice_get, top_names}
+use Rattle.wit_syntax.proofs.Common.{AstItem, Interface, Use as WrittenUse, World, WorldItem}
+use Rattle.wit_arena.proofs.Common.{Declared, Elsewhere, EndsAt, Exported, Fault, Global, Id, Imported, InterfaceItem as Part, InterfaceNamed, IsBroken, IsLinkedTwice, Item, Link, NamedFunc, PackageFile, Plain, Resource, ScopeName, SideLink, Span, TheInline, TheInterface, TheWorld, TopName, WorldSide, WorldUsed, about, about_name, address, all_items, codes, fault_in, is_world, is_world_at, item_name, item_named, items_on, leads, map, nat_eq, option_map, scope, scope_names, side_items, slice_get, top_names}
+use Rattle.wit_syntax.specs.Broken.{Use}
 use denote.RawPtr.{Ptr}
 use Rattle.wit_type_tree.specs.declared.types.FuncForm.TheVariants as form
 use Rattle.wit_type_tree.specs.declared.types.Primitive.TheVariants as primitive
@@ -10,7 +12,6 @@ use Rattle.wit_tree.specs.declared.tree.ExternKind.TheVariants as extern
 use Rattle.wit_tree.specs.declared.tree.InterfaceItem.TheVariants as interface_item
 use Rattle.wit_tree.specs.declared.tree.WorldItem.TheVariants as world_item
 use Rattle.wit_tree.specs.declared.tree.AstItem.TheVariants as ast
-use Rattle.wit_syntax.specs.Broken.{Use}
 use Rattle.wit_meaning_examples.proofs.Examples.{at, id, vec, no_comments, unstated, header}
 
 -- whether the first of some spans starts there

@@ -1,7 +1,6 @@
 -- What occurs for the first time, given by marks, and the entries of it, one after the other.
 use Rattle.std.proofs.Common.{◌≡◌, ℕ, zero, suc, Bool, true, false, not, ◌&&◌, List, [], ◌∷◌, ◌++◌, Some, inr, refl, sym, ap, ◌∙◌, subst, append_assoc}
-use Rattle.wit_syntax.proofs.Common.{Address, BorrowForm, ForeignNamed, Form, InlineAt, InterfaceNamed, ListForm, ResultForm, ScopeName, Span, Stability, TypeDef, TypeDefKind, WorldNamed, about_name, and_parts, append-nil, bytes_eq, differ_none, local_name, name_itself, slice_get}
-use Rattle.wit_arena.proofs.Common.{AreAt, Collects, Decls, Def, Exprs, IsEntry, IsOccurrence, IsSeen, IsSettled, Key, Occurrence, Whole, keys, keys-append, kind_of, name_exprs, named, occurrence_more, unnamed}
+use Rattle.wit_arena.proofs.Common.{Address, AreAt, BorrowForm, Collects, Decls, Def, Exprs, ForeignNamed, Form, InlineAt, InterfaceNamed, IsEntry, IsOccurrence, IsSeen, IsSettled, Key, ListForm, Occurrence, ResultForm, ScopeName, Span, Stability, TypeDef, TypeDefKind, Whole, WorldNamed, about_name, and_parts, append-nil, bytes_eq, differ_none, keys, keys-append, kind_of, local_name, name_exprs, name_itself, named, occurrence_more, slice_get, unnamed}
 use Rattle.wit_arena.specs.Occurrences.{settled}
 
 -- a mark of a scope, of a form, and of what occurs: it says some of it

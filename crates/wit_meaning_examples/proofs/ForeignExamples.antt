@@ -1,6 +1,7 @@
 -- A worked row with an item of another package, computed by the definitions.
 use Rattle.std.proofs.Common.{◌≡◌, ℕ, false, List, [], ◌∷◌, map, Some, None, refl, lit<}
-use Rattle.wit_syntax.proofs.Common.{Address, AliasForm, ForeignNamed, Global, Head, Id, Interface as WrittenInterface, InterfaceNamed, Item, Named, PackageFile, PackageName, TheInterface, ToplevelUse, Tree, TypeDef, TypeDefKind, Unknown, UnknownForm, UseName, Word, codes, foreign_items, foreign_uses, item_rows, no_docs, source_tree, top_names}
+use Rattle.wit_arena.proofs.Common.{Address, AliasForm, Def, ForeignNamed, Global, Head, Id, Interface, InterfaceNamed, Item, Named, NamesOthers, Occurrence, PackageFile, PackageName, TheInterface, ToplevelUse, Tree, TypeDef, TypeDefKind, Unknown, UnknownForm, UnresolvedPackage, UseName, Word, all_occurrences, codes, foreign_items, foreign_type, foreign_uses, item_rows, no_docs, owner_of, package_tree, source_tree, top_names, turned}
+use Rattle.wit_syntax.proofs.Common.{Interface as WrittenInterface}
 use denote.RawPtr.{Ptr}
 use Rattle.wit_tree.specs.declared.tree.UsePath.TheVariants as path
 use Rattle.wit_tree.specs.declared.tree.InterfaceItem.TheVariants.{Use as UseItem}
@@ -10,7 +11,6 @@ use Rattle.wit_types.specs.declared.types.«Type».TheVariants as type
 use Rattle.wit_types.specs.declared.types.TypeDefKind.TheVariants as kind
 use Rattle.wit_types.specs.declared.types.TypeOwner.TheVariants as owner
 use Rattle.wit_model.specs.declared.ast_item.AstItem.TheVariants as entry
-use Rattle.wit_arena.proofs.Common.{Def, Interface, NamesOthers, Occurrence, UnresolvedPackage, all_occurrences, foreign_type, owner_of, package_tree, turned}
 use Rattle.wit_meaning_examples.proofs.Examples.{at, id, vec, no_comments, unstated, header}
 
 -- package foo:foo; use a:b/c as d; interface i { use d.{t}; }

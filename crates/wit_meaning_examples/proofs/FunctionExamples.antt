@@ -1,9 +1,9 @@
 -- A worked row with the functions of a resource and of an interface, computed by the definitions.
 use Rattle.std.proofs.Common.{◌≡◌, ℕ, zero, suc, false, true, List, [], ◌∷◌, length, map, Option, Some, None, refl, subst, lit<}
-use Rattle.wit_syntax.proofs.Common.{Address, Borrow, BorrowForm, Box, Constructor, FixedLengthListForm, Freestanding, FunctionKey, FutureForm, Global, Id, Interface as WrittenInterface, InterfaceNamed, Item, MapForm, Method, NamedFunc, None', OptionForm, PackageFile, Param as WrittenParam, Primitive, Resource, Shape, Some', SourceFunction, SourceParam, Span, Static, StreamForm, TheInterface, TypeDef, TypeDefKind, Unknown, Word, all_handles, codes, flat_map, folded_key, free_function, functions, item_types, no_docs, resource_function, role_names, rows_of, scope_names, signature, slice_get, source_tree, top_names}
+use Rattle.wit_arena.proofs.Common.{Address, AreFunctions, Borrow, BorrowForm, Box, Constructor, Def, End, Expr, FixedLengthListForm, Freestanding, Function, FunctionKey, FunctionKind, FutureForm, Global, Id, Interface, InterfaceNamed, IsAt, IsFunction, IsParam, Item, Key, MapForm, Method, More, NamedFunc, None', Occurrence, Of, OneByOne, OptionForm, PackageFile, Param, Prim, Primitive, Resource, Shape, Some', SourceFunction, SourceParam, Span, Static, StreamForm, TheInterface, TypeDef, TypeDefKind, Unknown, UnresolvedPackage, Use, Whole, Word, all_handles, codes, expr_of, flat_map, folded_key, free_function, function_types, functions, functions_of, item_types, no_docs, occurrences, one, package_tree, placed_functions, resource_function, role_names, rows_of, scope_names, signature, slice_get, source_tree, top_names, turned, «Type» as Written}
+use Rattle.wit_syntax.proofs.Common.{Interface as WrittenInterface, Param as WrittenParam}
 use denote.RawPtr.{Ptr}
 use Rattle.wit_type_tree.specs.declared.types.Primitive.TheVariants as primitive
-use Rattle.wit_type_tree.specs.declared.types.«Type».{«Type» as Written}
 use Rattle.wit_type_tree.specs.declared.types.«Type».TheVariants as written
 use Rattle.wit_type_tree.specs.declared.types.TypeDef.{TypeDef as Definition}
 use Rattle.wit_type_tree.specs.declared.types.ResourceFunc.TheVariants as resource
@@ -14,7 +14,6 @@ use Rattle.wit_types.specs.declared.types.«Type».{«Type» as Ty}
 use Rattle.wit_types.specs.declared.types.«Type».TheVariants as type
 use Rattle.wit_types.specs.declared.types.TypeDefKind.TheVariants as kind
 use Rattle.wit_types.specs.declared.types.TypeOwner.TheVariants as owner
-use Rattle.wit_arena.proofs.Common.{AreFunctions, Def, End, Expr, Function, FunctionKind, Interface, IsAt, IsFunction, IsParam, Key, More, Occurrence, Of, OneByOne, Param, Prim, UnresolvedPackage, Use, Whole, expr_of, function_types, functions_of, occurrences, one, package_tree, placed_functions, turned}
 use Rattle.wit_functions.specs.declared.function.FunctionKind.TheVariants as function_kind
 use Rattle.wit_syntax.specs.Shape as shape
 use Rattle.wit_meaning_examples.proofs.Examples.{at, id, vec, no_comments, unstated, header}

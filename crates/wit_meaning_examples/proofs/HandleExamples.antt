@@ -1,9 +1,9 @@
 -- Worked rows with handles: of a resource, of another word for it, of a name of another package, and of no resource.
 use Rattle.std.proofs.Common.{◌≡◌, ℕ, ◌<◌, ◌^◌, zero, suc, Bool, true, false, List, [], ◌∷◌, length, map, Option, Some, None, inr, refl, ap, lit<}
-use Rattle.wit_syntax.proofs.Common.{Address, AtForeign, AtResource, Borrow, BorrowForm, Elsewhere, EndsAt, ForeignNamed, Global, Handle, Id, Interface, InterfaceItem as Part, InterfaceNamed, IsBroken, Item, NamedFunc, PackageFile, Param, Plain, Resource, Span, TheInterface, TypeDef, TypeDefKind, Unknown, UseName, UsePath, bytes_eq, codes, fault_in, no_docs, shape_of, top_names}
+use Rattle.wit_arena.proofs.Common.{Address, AreRequired, AtForeign, AtResource, Borrow, BorrowForm, Collects, Def, Elsewhere, EndsAt, ForeignNamed, Global, Handle, Id, InterfaceItem as Part, InterfaceNamed, IsAt, IsBroken, IsOther, IsResource, IsSeen, IsUnknown, Item, Key, More, NamedFunc, Occurrence, Ordered, PackageFile, Plain, Resource, Span, TheInterface, TypeDef, TypeDefKind, Unknown, Use, UseName, UsePath, Whole, all_occurrences, bytes_eq, codes, entry_end, expr_of, fault_in, no_docs, one, required_more, required_none, shape_of, top_names, turn_handles, turned, «Type» as Written}
+use Rattle.wit_syntax.proofs.Common.{Interface, Param}
 use denote.RawPtr.{Ptr}
 use Rattle.wit_type_tree.specs.declared.types.Primitive.TheVariants as primitive
-use Rattle.wit_type_tree.specs.declared.types.«Type».{«Type» as Written}
 use Rattle.wit_type_tree.specs.declared.types.«Type».TheVariants as written
 use Rattle.wit_type_tree.specs.declared.types.TypeDef.{TypeDef as Definition}
 use Rattle.wit_type_tree.specs.declared.types.FuncForm.TheVariants as form
@@ -13,7 +13,6 @@ use Rattle.wit_tree.specs.declared.tree.AstItem.TheVariants.{Interface as Interf
 use Rattle.wit_types.specs.declared.types.«Type».TheVariants as type
 use Rattle.wit_types.specs.declared.types.TypeDefKind.TheVariants as kind
 use Rattle.wit_types.specs.declared.types.TypeOwner.TheVariants as owner
-use Rattle.wit_arena.proofs.Common.{AreRequired, Collects, Def, IsAt, IsOther, IsResource, IsSeen, IsUnknown, Key, More, Occurrence, Ordered, Use, Whole, all_occurrences, entry_end, expr_of, one, required_more, required_none, turn_handles, turned}
 use Rattle.wit_meaning_examples.proofs.Examples.{at, id, vec, no_comments, unstated, header}
 
 none_is_seen : {k : Key} → IsSeen [] k → ⊥

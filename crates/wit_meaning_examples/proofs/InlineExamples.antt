@@ -1,11 +1,11 @@
 -- A world with two interfaces that are written in it, computed by the definitions.
 use Rattle.std.proofs.Common.{◌≡◌, ℕ, List, [], ◌∷◌, map, Some, None, refl, lit<}
-use Rattle.wit_syntax.proofs.Common.{Address, AliasForm, Defined, Exported, Extern, ExternKind, Func, Global, Head, Id, Imported, InlineAt, Interface as WrittenInterface, InterfaceItem, InterfaceNamed, Item, Leaf, Named, PackageFile, Plain, Span, TheInline, TheWorld, TypeDef, TypeOwner, Unknown, Use, UseName, Used, Word, World as WrittenWorld, WorldSide, address, codes, inline_items, item_rows, no_docs, scope_names, side_items, source_tree, top_names, uses}
+use Rattle.wit_arena.proofs.Common.{Address, AliasForm, AreSideItems, Defined, Exported, Extern, ExternKind, Func, Function, Global, Head, Id, Imported, InlineAt, Interface, InterfaceItem, InterfaceNamed, Item, Leaf, Named, PackageFile, Plain, Span, TheInline, TheWorld, TypeDef, TypeOwner, Unknown, UnresolvedPackage, UseName, Used, Word, WorldItem, WorldKey, WorldSide, address, codes, function_item, inline_entry, inline_items, item_rows, names_of, no_docs, owner_of, package_tree, scope_names, side_items, source_tree, top_names, uses, «Type» as Written}
+use Rattle.wit_syntax.proofs.Common.{Interface as WrittenInterface, Use, World as WrittenWorld}
 use denote.RawPtr.{Ptr}
 use Rattle.wit_tree.specs.declared.tree.ExternKind.TheVariants as extern
 use Rattle.wit_type_tree.specs.declared.types.FuncForm.TheVariants as form
 use Rattle.wit_type_tree.specs.declared.types.Primitive.TheVariants as primitive
-use Rattle.wit_type_tree.specs.declared.types.«Type».{«Type» as Written}
 use Rattle.wit_type_tree.specs.declared.types.«Type».TheVariants as written
 use Rattle.wit_type_tree.specs.declared.types.TypeDef.{TypeDef as Definition}
 use Rattle.wit_tree.specs.declared.tree.UsePath.TheVariants as path
@@ -16,7 +16,6 @@ use Rattle.wit_types.specs.declared.types.«Type».{«Type» as Ty}
 use Rattle.wit_types.specs.declared.types.«Type».TheVariants as type
 use Rattle.wit_types.specs.declared.types.TypeDefKind.TheVariants as kind
 use Rattle.wit_types.specs.declared.types.TypeOwner.TheVariants as owner
-use Rattle.wit_arena.proofs.Common.{AreSideItems, Function, Interface, UnresolvedPackage, WorldItem, WorldKey, function_item, inline_entry, names_of, owner_of, package_tree}
 use Rattle.wit_functions.specs.declared.function.FunctionKind.TheVariants as function_kind
 use Rattle.wit_meaning_examples.proofs.Examples.{at, id, vec, no_comments, unstated, header}
 

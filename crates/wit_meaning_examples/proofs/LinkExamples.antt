@@ -1,6 +1,7 @@
 -- Worked rows about interfaces that a world imports and exports by their paths.
 use Rattle.std.proofs.Common.{◌≡◌, ℕ, zero, suc, true, false, List, [], ◌∷◌, map, Option, Some, None, refl, sym, ap, ◌∙◌, subst, lit<, take, Contains}
-use Rattle.wit_syntax.proofs.Common.{AllDiffer, Attribute, CrossedTwice, Exported, ExternKind, Fault, FoldedTwice, Global, Id, Imported, Interface as WrittenInterface, InterfaceMetadata, InterfaceNamed, IsBroken, IsBrokenMetadata, IsBrokenSides, IsLinkedTwice, Item, Link, LinkedTwice, PackageFile, SideItem, SideLink, Span, TheWorld, ToplevelUse, World as WrittenWorld, WorldItem, WorldSide, at_contains, bytes_eq, called_key, codes, differ_none, fault_in, interface_attributes, items_on, no_crossed, no_fold, path_scope, side_called, side_items, slice_get, top_names, unbroken_metadata}
+use Rattle.wit_arena.proofs.Common.{AllDiffer, Attribute, CrossedTwice, Exported, ExternKind, Fault, FoldedTwice, Global, Id, Imported, InterfaceMetadata, InterfaceNamed, IsBroken, IsBrokenMetadata, IsBrokenSides, IsLinkedTwice, Item, Link, LinkedTwice, PackageFile, SideItem, SideLink, Span, TheWorld, ToplevelUse, WorldSide, at_contains, bytes_eq, called_key, codes, differ_none, fault_in, interface_attributes, items_on, no_crossed, no_fold, path_scope, side_called, side_items, slice_get, top_names, unbroken_metadata}
+use Rattle.wit_syntax.proofs.Common.{Interface as WrittenInterface, World as WrittenWorld, WorldItem}
 use denote.RawPtr.{Ptr}
 use Rattle.wit_tree.specs.declared.tree.UsePath.TheVariants as path
 use Rattle.wit_tree.specs.declared.tree.ExternKind.TheVariants as extern

@@ -1,6 +1,7 @@
 -- Worked rows with docs and attributes: what they say, what occurs in a definition with a stability, and what breaks the rules of docs and attributes.
 use Rattle.std.proofs.Common.{◌≡◌, ℕ, List, [], ◌∷◌, Some, None, inr, refl, ap, lit<, rules}
-use Rattle.wit_syntax.proofs.Common.{Address, AreMetadata, Attribute, AttributedUse, Box, Defined, DeprecatedAlone, ExternalId, Global, InterfaceNamed, IsBrokenMetadata, IsBrokenStability, IsSecondDocs, IsWrongTop, ListForm, Plain, Release, SinceAndUnstable, SinceTwice, Span, Stability, Stable, ToplevelUse, TypeDef, Unknown, Version, about_name, chars-IsAscii, codes, docs_of, drop_trailing_whitespace, encode_utf8_all, fault, first_known, no_docs, stability_of, stated_text}
+use Rattle.wit_arena.proofs.Common.{Address, AreMetadata, Attribute, AttributedUse, Box, Def, Defined, DeprecatedAlone, ExternalId, Global, InterfaceNamed, IsBrokenMetadata, IsBrokenStability, IsSecondDocs, IsSettled, IsWrongTop, ListForm, Occurrence, Plain, Prim, Release, SinceAndUnstable, SinceTwice, Span, Stability, Stable, ToplevelUse, TypeDef, Unknown, Version, Whole, about_name, chars-IsAscii, codes, docs_of, drop_trailing_whitespace, encode_utf8_all, fault, first_known, name_occurrences, named, no_docs, one, stability_of, stated_text, unnamed}
+use Rattle.wit_types.specs.declared.stability.Stability.TheVariants.{Unstable}
 use Rattle.std.specs.Str.{trim_end}
 use Rattle.std.proofs.Math.Utf8.{encode}
 use Rattle.std.proofs.lemmas.Str.Ascii.{IsAscii-from_all}
@@ -13,11 +14,9 @@ use Rattle.wit_type_tree.specs.declared.types.«Type».TheVariants as written
 use Rattle.wit_type_tree.specs.declared.types.TypeDef.{TypeDef as Definition}
 use Rattle.wit_tree.specs.declared.tree.UsePath.TheVariants as path
 use Rattle.wit_tree.specs.declared.tree.PackageName.{PackageName as Header}
-use Rattle.wit_types.specs.declared.stability.Stability.TheVariants.{Unstable}
 use Rattle.wit_types.specs.declared.types.«Type».TheVariants as type
 use Rattle.wit_types.specs.declared.types.TypeDefKind.TheVariants as kind
 use Rattle.wit_types.specs.declared.types.TypeOwner.TheVariants as owner
-use Rattle.wit_arena.proofs.Common.{Def, IsSettled, Occurrence, Prim, Whole, name_occurrences, named, one, unnamed}
 use Rattle.wit_arena.specs.Occurrences.{settled}
 use Rattle.wit_meaning_examples.proofs.Examples.{at, id, vec, no_comments}
 

@@ -1,9 +1,9 @@
 -- Rules of functions that no worked row shows, and a world whose resource has functions, computed by the definitions.
 use Rattle.std.proofs.Common.{◌≡◌, ℕ, zero, suc, Bool, true, false, List, [], ◌∷◌, ◌++◌, map, Option, Some, None, refl, sym, ap, ◌∙◌, arith, lit<}
-use Rattle.wit_syntax.proofs.Common.{Borrow, ConstructorOfOther, ConstructorWithoutResult, Defined, Freestanding, Function, GetterGiven, GetterWithoutResult, Global, Id, Imported, Interface, IsBroken, IsEntered, IsSetterAlone, Item, Missing, MissingInSignature, NamedFunc, Neither, OfNothing, Ok', PackageFile, Plain, Role, ScopeName, SetterGiven, SetterWithResult, Shape, SourceFunction, Span, TheWorld, TypeDef, Unknown, World as WrittenWorld, WorldNamed, at_contains, bytes_eq, codes, fault, fault_in, flat_map, functions, no_docs, option_map, result_ok, signature, slice_get, source_tree, top_names}
+use Rattle.wit_arena.proofs.Common.{Borrow, ConstructorOfOther, ConstructorWithoutResult, Defined, Freestanding, Function as Made, GetterGiven, GetterWithoutResult, Global, Id, Imported, IsBroken, IsEntered, IsSetterAlone, Item, Missing, MissingInSignature, NamedFunc, Neither, OfNothing, Ok', Ordered, PackageFile, Plain, Role, ScopeName, SetterGiven, SetterWithResult, Shape, SourceFunction, Span, TheWorld, TypeDef, Unknown, UnresolvedPackage, WorldNamed, at_contains, bytes_eq, codes, fault, fault_in, flat_map, function_item, function_types, functions, functions_of, names_of, no_docs, option_map, ordered_names, package_tree, result_ok, signature, slice_get, source_tree, top_names, type_imports, «Type» as Written}
+use Rattle.wit_syntax.proofs.Common.{Function, Interface, World as WrittenWorld}
 use denote.RawPtr.{Ptr}
 use Rattle.wit_type_tree.specs.declared.types.Primitive.TheVariants as primitive
-use Rattle.wit_type_tree.specs.declared.types.«Type».{«Type» as Written}
 use Rattle.wit_type_tree.specs.declared.types.«Type».TheVariants as written
 use Rattle.wit_type_tree.specs.declared.types.TypeDef.{TypeDef as Definition}
 use Rattle.wit_type_tree.specs.declared.types.FuncForm.TheVariants as form
@@ -14,7 +14,6 @@ use Rattle.wit_tree.specs.declared.tree.AstItem.TheVariants as ast
 use Rattle.wit_types.specs.declared.types.«Type».TheVariants as type
 use Rattle.wit_types.specs.declared.types.TypeDefKind.TheVariants as kind
 use Rattle.wit_types.specs.declared.types.TypeOwner.TheVariants as owner
-use Rattle.wit_arena.proofs.Common.{Function as Made, Ordered, UnresolvedPackage, function_item, function_types, functions_of, names_of, ordered_names, package_tree, type_imports}
 use Rattle.wit_functions.specs.declared.function.FunctionKind.TheVariants as function_kind
 use Rattle.wit_meaning_examples.proofs.Examples.{at, id, vec, no_comments, unstated, header}
 use Rattle.wit_meaning_examples.proofs.SignatureExamples.{i_of, file_of, item_of, in_scope, f_id, r_id, t_id, x_id, param, func, func_of, v_u8, resource_of}

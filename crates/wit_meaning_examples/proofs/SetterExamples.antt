@@ -1,6 +1,7 @@
 -- Setters of worlds, computed by the definitions: placed where nothing is included, and alone on their side.
 use Rattle.std.proofs.Common.{◌≡◌, ℕ, zero, suc, true, false, List, [], ◌∷◌, map, Some, None, refl, ap, ◌∙◌, lit<}
-use Rattle.wit_syntax.proofs.Common.{Exported, Extern, Global, Imported, Include, IsBroken, Item, NamedFunc, PackageFile, Setter, SourceFunction, TheWorld, Unknown, World as WrittenWorld, WorldSide, at_contains, bytes_eq, codes, fault_in, functions, no_docs, on_side, option_map, slice_get, top_names}
+use Rattle.wit_arena.proofs.Common.{Exported, Extern, Function, Global, Imported, Include, IsBroken, Item, NamedFunc, PackageFile, Setter, SourceFunction, TheWorld, Unknown, WorldItem, WorldKey, WorldSide, at_contains, bytes_eq, codes, fault_in, function_item, functions, no_docs, on_side, option_map, settled, slice_get, top_names}
+use Rattle.wit_syntax.proofs.Common.{World as WrittenWorld}
 use denote.RawPtr.{Ptr}
 use Rattle.wit_tree.specs.declared.tree.ExternKind.TheVariants as extern
 use Rattle.wit_type_tree.specs.declared.types.FuncForm.TheVariants as form
@@ -9,7 +10,6 @@ use Rattle.wit_tree.specs.declared.tree.WorldItem.TheVariants as world_item
 use Rattle.wit_type_tree.specs.declared.types.Primitive.TheVariants as primitive
 use Rattle.wit_type_tree.specs.declared.types.«Type».TheVariants as written
 use Rattle.wit_types.specs.declared.types.«Type».TheVariants as type
-use Rattle.wit_arena.proofs.Common.{Function, WorldItem, WorldKey, function_item, settled}
 use Rattle.wit_functions.specs.declared.function.FunctionKind.TheVariants as kind
 use Rattle.wit_meaning_examples.proofs.Examples.{at, id, vec, no_comments, unstated, header}
 use Rattle.wit_meaning_examples.proofs.SignatureExamples.{x_id, func, func_of, v_u8}

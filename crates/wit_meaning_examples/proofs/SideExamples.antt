@@ -1,6 +1,8 @@
 -- Worked rows about functions that a world imports and exports.
 use Rattle.std.proofs.Common.{◌≡◌, ℕ, zero, suc, List, [], ◌∷◌, map, Some, None, refl, sym, ap, ◌∙◌, subst, arith, lit<, Contains}
-use Rattle.wit_syntax.proofs.Common.{AllDiffer, Attribute, Body, BrokenMetadata, BrokenTypes, ConstructorOfOther, ConstructorWithoutResult, CrossedTwice, CyclicType, Defined, DefinedTwice, DuplicateParam, Exported, Extern, Fault, FoldedTwice, Func, Function, GetterGiven, GetterWithoutResult, Global, Id, Imported, InterfaceMetadata, IsBroken, IsBrokenFunction, IsBrokenMetadata, IsBrokenScope, IsBrokenSides, IsCrossedTwice, IsFoldedTwice, IsOrder, Item, MissingInSignature, MissingType, PackageFile, Plain, SetterGiven, SetterWithResult, SideFunction, SideItem, Sides, SourceFunction, Span, TheWorld, Unknown, World as WrittenWorld, WorldSide, at_contains, called_key, codes, fault_in, flat_map, functions, interface_attributes, items_on, no_crossed, no_docs, no_fold, role_names, scope_names, side_called, side_function, side_items, slice_get, top_names, unbroken_metadata}
+use Rattle.wit_arena.proofs.Common.{AllDiffer, Attribute, Body, BrokenMetadata, BrokenTypes, ConstructorOfOther, ConstructorWithoutResult, CrossedTwice, CyclicType, Defined, DefinedTwice, DuplicateParam, Exported, Extern, Fault, FoldedTwice, Func, Function as Made, GetterGiven, GetterWithoutResult, Global, Id, Imported, InterfaceMetadata, IsBroken, IsBrokenFunction, IsBrokenMetadata, IsBrokenScope, IsBrokenSides, IsCrossedTwice, IsFoldedTwice, IsOrder, Item, MissingInSignature, MissingType, PackageFile, Plain, SetterGiven, SetterWithResult, SideFunction, SideItem, Sides, SourceFunction, Span, TheWorld, Unknown, UnresolvedPackage, WorldSide, at_contains, called_key, codes, fault_in, flat_map, function_item, functions, functions_of, interface_attributes, items_on, no_crossed, no_docs, no_fold, role_names, scope_names, side_called, side_function, side_items, slice_get, top_names, unbroken_metadata}
+use Rattle.wit_syntax.proofs.Common.{Function, World as WrittenWorld}
+use Rattle.wit_syntax.specs.Broken.{Metadata}
 use denote.RawPtr.{Ptr}
 use Rattle.wit_type_tree.specs.declared.types.FuncForm.TheVariants as form
 use Rattle.wit_type_tree.specs.declared.types.Primitive.TheVariants as primitive
@@ -9,9 +11,7 @@ use Rattle.wit_tree.specs.declared.tree.ExternKind.TheVariants as extern
 use Rattle.wit_tree.specs.declared.tree.WorldItem.TheVariants as world_item
 use Rattle.wit_tree.specs.declared.tree.AstItem.TheVariants as ast
 use Rattle.wit_types.specs.declared.types.TypeOwner.TheVariants as owner
-use Rattle.wit_arena.proofs.Common.{Function as Made, UnresolvedPackage, function_item, functions_of}
 use Rattle.wit_functions.specs.declared.function.FunctionKind.TheVariants as function_kind
-use Rattle.wit_syntax.specs.Broken.{Metadata}
 use Rattle.wit_meaning_examples.proofs.Examples.{at, id, vec, no_comments, unstated, header}
 use Rattle.wit_meaning_examples.proofs.SignatureExamples.{one_order}
 use Rattle.wit_arena.proofs.MadeOn.{made_on}

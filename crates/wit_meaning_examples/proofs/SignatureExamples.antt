@@ -1,9 +1,9 @@
 -- Worked rows about names of functions, their results, and the names in them.
 use Rattle.std.proofs.Common.{◌≡◌, ℕ, ◌<◌, ◌≤◌, ◌^◌, zero, suc, Bool, true, false, List, [], ◌∷◌, length, map, Option, Some, None, refl, ap, ◌∙◌, arith, lit<, lit≤}
-use Rattle.wit_syntax.proofs.Common.{Box, Called, ConstructorOfOther, DuplicateParam, Err', Fault, FoldedTwice, FuncForm, Function, Global, Id, Imported, Interface, InterfaceItem as Part, InterfaceNamed, IsBroken, IsBrokenScope, IsDependencyFirst, IsEdge, IsOrder, IsWrittenAs, Item, Leads, Missing, MissingInSignature, MissingName, MissingType, NamedFunc, OfFunction, Ok', PackageFile, Param, Plain, Resource, ResourceFunc, ResultForm, Row, Scope, Setter, SetterWithResult, Shape, Sides, SourceFunction, Span, TheInterface, Unknown, UseName, Word, all_scopes, at_contains, bytes_eq, called_key, codes, contains_at, fault, fault_in, flat_map, functions, items_on, no_docs, result_ok, role_names, scope_names, shape_of, side_called, side_items, slice_get, slice_index, take, top_names}
+use Rattle.wit_arena.proofs.Common.{Box, Called, ConstructorOfOther, Def, DuplicateParam, Err', Fault, FoldedTwice, FuncForm, Function as Made, FunctionKind, Global, Id, Imported, InterfaceItem as Part, InterfaceNamed, IsBroken, IsBrokenScope, IsDependencyFirst, IsEdge, IsOrder, IsWrittenAs, Item, Leads, Missing, MissingInSignature, MissingName, MissingType, NamedFunc, Ok', PackageFile, Plain, Resource, ResourceFunc, ResultForm, Row, Scope, Setter, SetterWithResult, Shape, Sides, SourceFunction, Span, TheInterface, Unknown, Use, UseName, Whole, Word, all_scopes, at_contains, bytes_eq, called_key, codes, contains_at, fault, fault_in, flat_map, functions, items_on, no_docs, occurrences, one, placed_functions, result_ok, role_names, scope_names, shape_of, side_called, side_items, slice_get, slice_index, take, top_names, turned, «Type» as Written}
+use Rattle.wit_syntax.proofs.Common.{Function, Interface, OfFunction, Param}
 use denote.RawPtr.{Ptr}
 use Rattle.wit_type_tree.specs.declared.types.Primitive.TheVariants as primitive
-use Rattle.wit_type_tree.specs.declared.types.«Type».{«Type» as Written}
 use Rattle.wit_type_tree.specs.declared.types.«Type».TheVariants as written
 use Rattle.wit_type_tree.specs.declared.types.TypeDef.{TypeDef as Definition}
 use Rattle.wit_type_tree.specs.declared.types.FuncForm.TheVariants as form
@@ -11,7 +11,6 @@ use Rattle.wit_type_tree.specs.declared.types.ResourceFunc.TheVariants as resour
 use Rattle.wit_tree.specs.declared.tree.UsePath.TheVariants as path
 use Rattle.wit_tree.specs.declared.tree.InterfaceItem.TheVariants.{TypeDef as TypeItem, Use as UseItem, Func as FuncItem}
 use Rattle.wit_tree.specs.declared.tree.AstItem.TheVariants.{Interface as InterfaceItem}
-use Rattle.wit_arena.proofs.Common.{Def, Function as Made, FunctionKind, Use, Whole, occurrences, one, placed_functions, turned}
 use Rattle.wit_functions.specs.declared.function.FunctionKind.TheVariants as kind
 use Rattle.wit_meaning_examples.proofs.Examples.{at, id, vec, no_comments, unstated, header}
 

@@ -1,6 +1,6 @@
 -- The orders of two rows and of three, of which at most one needs another one.
 use Rattle.std.proofs.Common.{◌≡◌, ◌≢◌, ℕ, zero, suc, ◌<◌, ◌≤◌, List, [], ◌∷◌, length, Some, IsSome, get_or, refl, sym, ap, ◌∙◌, subst, arith}
-use Rattle.wit_syntax.proofs.Common.{Id, IsBefore, IsEdge, IsGreedy, IsOrder, Leads, Row, greedy_least, greedy_sorted, slice_get, target}
+use Rattle.wit_arena.proofs.Common.{Id, IsBefore, IsEdge, IsGreedy, IsOrder, Leads, Row, greedy_least, greedy_sorted, slice_get, target}
 
 abbrev pub two : List ℕ → List ℕ → Id → List Row
 two a b id = record { name = a; needs = id ∷ [] } ∷ record { name = b; needs = [] } ∷ []

@@ -1,16 +1,16 @@
 -- Where a `use` is at the top of a file it matters that files are split: these break no rule, and the one file with their declarations does.
 use Rattle.std.proofs.Common.{◌≡◌, ◌↔◌, ℕ, zero, suc, true, false, List, [], ◌∷◌, map, Some, None, ◌⊎◌, inl, inr, refl, sym, ap, ◌∙◌, subst, lit<}
-use Rattle.wit_syntax.proofs.Common.{Address, AllDiffer, Attribute, AttributedUse, Body, Contains, CrossedTwice, CyclicItem, CyclicType, Defined, DefinedTwice, DuplicateItem, DuplicateTopName, Exported, Fault, FoldedTwice, ForeignNamed, ForeignStability, ForeignVisit, Function, Global, Handle, Headerless, Imported, IncludeStability, Inside, Interface, InterfaceIncluded, InterfaceMetadata, IsBroken, IsBrokenBody, IsBrokenMetadata, IsBrokenNames, IsBrokenScope, IsBrokenSides, IsBrokenStability, IsBrokenType, IsBrokenUse, IsLegal, IsLinkedTwice, Item, ItemStability, Items, Itself, LinkedTwice, LostUse, MissingItem, MissingName, MissingType, MissingUse, Names, PackageFile, Plain, Scope, ScopeName, Setter, Sides, TheInterface, TopUse, ToplevelUse, Use as WrittenUse, UseMetadata, UseName, UsePath, Used, WorldSide, WorldUsed, about, address, all_handles, all_items, all_scopes, at_contains, bytes_eq, called_key, codes, declarations, differ_none, fault_in, file_declarations, find_among, functions, headers, include_paths, includes, is_world_at, item_name, item_rows, item_types, item_word, items_on, leads, local_name, missing_at, missing_type_at, no_crossed, no_cyclic_edge, no_fold, no_missing_edge, no_repeat, on_side, rows_of, scope_names, side_called, side_items, slice_get, top_names, top_text, type_word, unbroken_metadata, uses}
+use Rattle.wit_arena.proofs.Common.{Address, AllDiffer, Attribute, AttributedUse, Body, Contains, CrossedTwice, CyclicItem, CyclicType, Defined, DefinedTwice, DuplicateItem, DuplicateTopName, Exported, Fault, FoldedTwice, ForeignNamed, ForeignStability, ForeignVisit, Global, Handle, Headerless, Imported, IncludeStability, Inside, InterfaceIncluded, InterfaceMetadata, IsBroken, IsBrokenBody, IsBrokenMetadata, IsBrokenNames, IsBrokenScope, IsBrokenSides, IsBrokenStability, IsBrokenType, IsBrokenUse, IsLegal, IsLinkedTwice, Item, ItemStability, Items, Itself, LinkedTwice, LostUse, MissingItem, MissingName, MissingType, MissingUse, PackageFile, Plain, Scope, ScopeName, Setter, Sides, TheInterface, TopUse, ToplevelUse, UseMetadata, UseName, UsePath, Used, WorldSide, WorldUsed, about, address, all_handles, all_items, all_scopes, at_contains, bytes_eq, called_key, codes, differ_none, fault_in, file_declarations, find_among, functions, headers, include_paths, includes, is_world_at, item_name, item_rows, item_types, item_word, items_on, leads, local_name, missing_at, missing_type_at, no_crossed, no_cyclic_edge, no_fold, no_missing_edge, no_repeat, on_side, rows_of, scope_names, side_called, side_items, slice_get, top_names, top_text, type_word, unbroken_metadata, uses, «Type» as Written}
+use Rattle.wit_syntax.proofs.Common.{Function, Interface, Names, Use as WrittenUse, declarations}
+use Rattle.wit_syntax.specs.Broken.{Metadata, Use}
 use denote.RawPtr.{Ptr}
 use Rattle.wit_tree.specs.declared.tree.AstItem.TheVariants as ast
 use Rattle.wit_tree.specs.declared.tree.InterfaceItem.TheVariants.{TypeDef as TypeItem, Use as UseItem}
 use Rattle.wit_tree.specs.declared.tree.PackageName.{PackageName as Header}
 use Rattle.wit_type_tree.specs.declared.types.TypeDef.{TypeDef}
 use Rattle.wit_type_tree.specs.declared.types.Primitive.TheVariants as primitive
-use Rattle.wit_type_tree.specs.declared.types.«Type».{«Type» as Written}
 use Rattle.wit_type_tree.specs.declared.types.«Type».TheVariants as written
 use Rattle.wit_tree.specs.declared.tree.UsePath.TheVariants as path
-use Rattle.wit_syntax.specs.Broken.{Metadata, Use}
 use Rattle.wit_meaning_examples.proofs.Examples.{at, id, vec, no_comments, unstated, header}
 use Rattle.wit_meaning_examples.proofs.SideExamples.{none_among, one_differs}
 use Rattle.wit_meaning_examples.proofs.SignatureExamples.{one_order}

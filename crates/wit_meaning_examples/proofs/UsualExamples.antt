@@ -1,6 +1,7 @@
 -- A package as it is usually written, computed by the definitions: a version, docs, a stability, a name of another package, a method, and a world.
 use Rattle.std.proofs.Common.{◌≡◌, ℕ, false, true, List, [], ◌∷◌, map, Some, None, refl, ap, lit<}
-use Rattle.wit_syntax.proofs.Common.{Address, Borrow, BorrowForm, Both', Box, Defined, Exported, Extern, ExternKind, ForeignName, ForeignNamed, Global, Id, Imported, Interface as WrittenInterface, InterfaceNamed, IsOrder, Item, ListForm, Metadata, NamedFunc, Neither, PackageFile, PackageName, Release, Resource, ResultForm, Shape, Span, Stable, TheInterface, TheWorld, TypeDef, Unknown, Use as WrittenUse, UseName, Used, Version, Word, World as WrittenWorld, WorldNamed, WorldSide, all_items, codes, declared_metadata, flat_map, foreign_items, foreign_uses, functions, in_order, item_rows, joined, metadata, no_docs, package_of, rows_of, scope_names, side_items, signature, source_tree, take, top_names}
+use Rattle.wit_arena.proofs.Common.{Address, AreSideItems, Borrow, BorrowForm, Both', Box, Collects, Def, Defined, End, Exported, Extern, ExternKind, ForeignName, ForeignNamed, Function, Global, Id, Imported, Interface, InterfaceNamed, IsOccurrence, IsOrder, Item, Key, ListForm, Metadata, More, NamedFunc, NamesOthers, Neither, Occurrence, Of, PackageFile, PackageName, Prim, Release, Resource, ResultForm, Shape, Span, Stable, TheInterface, TheWorld, Turned, TypeDef, Unknown, UnresolvedPackage, Use, UseName, Used, Version, Whole, Word, WorldItem, WorldKey, WorldNamed, WorldSide, all_items, all_occurrences, all_turns, codes, declarations, declared_metadata, flat_map, foreign_items, foreign_uses, function_item, function_types, functions, in_order, interface_addresses, item_rows, metadata, named, no_docs, one, owner_of, package_of, package_tree, rows_of, scope_names, side_items, signature, source_tree, take, top_names, turn_handles, unnamed, «Type» as Written}
+use Rattle.wit_syntax.proofs.Common.{Interface as WrittenInterface, Use as WrittenUse, World as WrittenWorld, joined}
 use denote.RawPtr.{Ptr}
 use Rattle.wit_type_tree.specs.declared.leaves.Attribute.TheVariants as attribute
 use Rattle.wit_type_tree.specs.declared.leaves.Docs.{Docs as Comments}
@@ -8,7 +9,6 @@ use Rattle.wit_tree.specs.declared.tree.ExternKind.TheVariants as extern
 use Rattle.wit_type_tree.specs.declared.types.FuncForm.TheVariants as form
 use Rattle.wit_type_tree.specs.declared.types.ResourceFunc.TheVariants as resource
 use Rattle.wit_type_tree.specs.declared.types.Primitive.TheVariants as primitive
-use Rattle.wit_type_tree.specs.declared.types.«Type».{«Type» as Written}
 use Rattle.wit_type_tree.specs.declared.types.«Type».TheVariants as written
 use Rattle.wit_type_tree.specs.declared.types.TypeDef.{TypeDef as Definition}
 use Rattle.wit_tree.specs.declared.tree.UsePath.TheVariants as path
@@ -20,7 +20,6 @@ use Rattle.wit_types.specs.declared.types.«Type».TheVariants as type
 use Rattle.wit_types.specs.declared.types.TypeDefKind.TheVariants as kind
 use Rattle.wit_types.specs.declared.types.TypeOwner.TheVariants as owner
 use Rattle.wit_model.specs.declared.ast_item.AstItem.TheVariants as entry
-use Rattle.wit_arena.proofs.Common.{AreSideItems, Collects, Def, End, Function, Interface, IsOccurrence, Key, More, NamesOthers, Occurrence, Of, Prim, Turned, UnresolvedPackage, Use, Whole, WorldItem, WorldKey, all_occurrences, all_turns, declarations, function_item, function_types, interface_addresses, named, one, owner_of, package_tree, turn_handles, unnamed}
 use Rattle.wit_functions.specs.declared.function.FunctionKind.TheVariants as function_kind
 use Rattle.wit_model.specs.declared.world.WorldItem.TheVariants as item
 use Rattle.wit_model.specs.declared.world.WorldKey.TheVariants as key

@@ -1,6 +1,7 @@
 -- A world with all that can be in one, computed by the definitions: a `use`, an interface that is written there, paths on both sides, a function, and an include.
 use Rattle.std.proofs.Common.{◌≡◌, ℕ, List, [], ◌∷◌, map, Some, None, refl, lit<}
-use Rattle.wit_syntax.proofs.Common.{Address, Defined, Exported, Extern, ExternKind, Func, Global, Id, Imported, Include, InlineAt, Interface as WrittenInterface, InterfaceItem, InterfaceNamed, IsOrder, Item, PackageFile, Plain, Shape, Span, TheInline, TheInterface, TheWorld, TypeDef, TypeOwner, Unknown, Use, UseName, Used, Word, World as WrittenWorld, WorldItem as WorldPart, WorldNamed, WorldSide, all_items, codes, flat_map, functions, in_order, inline_items, interfaces_of, item_rows, no_docs, rows_of, scope_names, side_items, signature, source_tree, take, top_names, worlds_of}
+use Rattle.wit_arena.proofs.Common.{Address, AreSideItems, Collects, Def, Defined, Exported, Extern, ExternKind, Func, Function, Global, Id, Imported, Include, InlineAt, InterfaceItem, InterfaceNamed, IsInclude, IsOccurrence, IsOrder, Item, Occurrence, Ordered, OrderedWorld, PackageFile, Param, Plain, Shape, Span, TheInline, TheInterface, TheWorld, TypeDef, TypeOwner, Unknown, UnresolvedPackage, UseName, Used, Word, World, WorldInclude, WorldItem, WorldKey, WorldNamed, WorldSide, all_items, all_occurrences, all_turns, codes, declarations, flat_map, function_item, function_types, functions, in_order, inline_entry, inline_items, interface_addresses, interfaces_of, item_rows, names_of, no_docs, owner_of, package_tree, rows_of, scope_names, side_items, signature, source_tree, take, top_names, world_addresses, worlds_of}
+use Rattle.wit_syntax.proofs.Common.{Interface as WrittenInterface, Use, World as WrittenWorld, WorldItem as WorldPart}
 use denote.RawPtr.{Ptr}
 use Rattle.wit_tree.specs.declared.tree.ExternKind.TheVariants as extern
 use Rattle.wit_type_tree.specs.declared.types.TypeDef.{TypeDef as Definition}
@@ -15,7 +16,6 @@ use Rattle.wit_types.specs.declared.types.«Type».{«Type» as Ty}
 use Rattle.wit_types.specs.declared.types.«Type».TheVariants as type
 use Rattle.wit_types.specs.declared.types.TypeDefKind.TheVariants as kind
 use Rattle.wit_types.specs.declared.types.TypeOwner.TheVariants as owner
-use Rattle.wit_arena.proofs.Common.{AreSideItems, Collects, Def, Function, IsInclude, IsOccurrence, Occurrence, Ordered, OrderedWorld, Param, UnresolvedPackage, World, WorldInclude, WorldItem, WorldKey, all_occurrences, all_turns, declarations, function_item, function_types, inline_entry, interface_addresses, names_of, owner_of, package_tree, world_addresses}
 use Rattle.wit_functions.specs.declared.function.FunctionKind.TheVariants as function_kind
 use Rattle.wit_model.specs.declared.world.WorldItem.TheVariants as item
 use Rattle.wit_model.specs.declared.world.WorldKey.TheVariants as key

@@ -1,5 +1,6 @@
 //! Resolved packages.
 ghost use Rattle.std.specs.Prelude.{◌≡◌, IfOk};
+ghost use Rattle.wit_model.specs.Packages.{package_of_parts};
 
 mod spans;
 
@@ -64,16 +65,7 @@ impl UnresolvedPackage {
         name_span: Span,
         foreign: ForeignItems,
     ) -> Self
-        ensures name { result.name ≡ name }
-        ensures worlds { result.worlds ≡ arenas.worlds }
-        ensures interfaces { result.interfaces ≡ arenas.interfaces }
-        ensures types { result.types ≡ arenas.types }
-        ensures docs { result.docs ≡ docs }
-        ensures name_span { result.name_span ≡ name_span }
-        ensures foreign_deps { result.foreign_deps ≡ foreign.deps }
-        ensures foreign_dep_spans { result.foreign_dep_spans ≡ foreign.dep_spans }
-        ensures unknown_type_spans { result.unknown_type_spans ≡ foreign.unknown_type_spans }
-        ensures required_resource_types { result.required_resource_types ≡ foreign.required_resource_types }
+        ensures { result ≡ package_of_parts name arenas docs name_span foreign }
     {
         UnresolvedPackage {
             name,

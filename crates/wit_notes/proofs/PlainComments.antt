@@ -1,8 +1,8 @@
 -- Texts without a CR, line by line; and the indent of the first of some texts as the least.
 use Rattle.std.proofs.Common.{◌≡◌, ℕ, zero, suc, ◌+◌, ◌-◌, ◌<◌, ◌≤◌, ◌==◌, true, false, List, [], ◌∷◌, ◌++◌, length, get_or, take, append-nil, slice_index, Option, Some, None, is_some, inl, inr, refl, sym, ap, ◌∙◌, subst, arith, cond}
 use Rattle.wit_syntax.proofs.Common.{All-cons, All-head, All-nil, All-push, All-same, All-tail, after_spaces, cases_Bool, common_indent, ended_lines, eqb-true, flat_map, flat_map-append, fold, indent, is_ascii_whitespace, is_written, lines, lines_of_parts, map, map-append, min, ne_eqb, onto_first, prefix_len, said, slice_split, strip_carriage_return, take_more, without_spaces}
-use Rattle.std.specs.Prelude.{filter}
 use Rattle.std.specs.List.{All}
+use Rattle.std.specs.Prelude.{filter}
 use denote.Ref.{Bor}
 use Rattle.memchr.specs.Find.{IsFirstByte, is_byte}
 use Rattle.wit_notes.specs.PlainComments.{HasNoReturn, IsIndented, IsPushed, all_lines, ends_in_line, first_indent}

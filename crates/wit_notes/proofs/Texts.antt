@@ -1,12 +1,13 @@
 -- Marks at both ends of texts, spaces in front, and lines.
 use Rattle.std.proofs.Common.{◌≡◌, ◌≢◌, ℕ, zero, suc, ◌-◌, ◌<◌, ◌==◌, ◌&&◌, true, false, List, [], ◌∷◌, ◌++◌, length, take, drop, append-nil, slice_index, Option, Some, None, is_some, IfSome, inl, inr, refl, sym, ap, ◌∙◌, arith, lit<, if◌then◌else◌}
-use Rattle.wit_syntax.proofs.Common.{Bool, IsCharBoundary, after_slashes, after_spaces, cases_Bool, codes, docs_text, drop-length, encode_ascii, ended_lines, ends_with, eqb-true, filter_map, flat_map, indent, is_written, joined, lines_of_parts, map, map_map, name_equal, nat_eq, ne_eqb, rest_after, said, slice_split, starts_with, take-append-drop, unmarked, without_end, without_last_lines}
+use Rattle.wit_syntax.proofs.Common.{IsCharBoundary, after_slashes, after_spaces, cases_Bool, codes, docs_text, drop-length, encode_ascii, ended_lines, ends_with, eqb-true, filter_map, flat_map, indent, is_written, joined, lines_of_parts, map, map_map, nat_eq, ne_eqb, rest_after, said, slice_split, take-append-drop, unmarked, without_end, without_last_lines}
 use Rattle.std.specs.Prelude.{filter}
 use Rattle.std.specs.Str.Pattern.{CutsPrefixes, CutsSuffixes, IsTrimStartMatches, IsTrimEndMatches, FindsCharPrefix, FindsCharSuffix, FindsTextSuffix, HasCharAt, StripsSuffix}
 use Rattle.std.proofs.lemmas.Str.Pattern.{drop_at_char, ends_text}
 use denote.Ref.{Bor}
 use Rattle.memchr.specs.Find.{IsFirstByte, is_byte}
 use Rattle.wit_notes.specs.Indents.{written_indent}
+use Rattle.wit_refusals.proofs.Scoping.{rest_after-some}
 
 -- a text whose end was taken off
 pub without_end-stripped : (n s : List ℕ) (x : Bor (List ℕ)) → StripsSuffix (FindsTextSuffix n) s x.now → x.now ≡ without_end n s
@@ -111,18 +112,6 @@ lines-one text None h none =
 pub lines-many : (text : List ℕ) (found : Option ℕ) → IsFirstByte (is_byte 10) text found → is_some found ≡ true → (length text == 0) ≡ false
 lines-many text None h some = absurd (let f : ⊥ = cc in f)
 lines-many text (Some place) h some = ne_eqb (length text) 0 (λ z. (let high = h.0.high in let f : ⊥ = omega arith in f))
-
--- the text after a prefix comes after it
-rest_after-some : (prefix text rest : List ℕ) → rest_after prefix text ≡ Some rest → text ≡ prefix ++ rest
-rest_after-some prefix text rest h = by (starts_with nat_eq text prefix) refl
-  where
-    by : (b : Bool) → starts_with nat_eq text prefix ≡ b → text ≡ prefix ++ rest
-    by true e =
-        let some : Some (drop (length prefix) text) ≡ Some rest = rw e at h in
-        let is : drop (length prefix) text ≡ rest = cc in
-        let starts : prefix ≡ take (length prefix) text = name_equal prefix (take (length prefix) text) e in
-        sym (take-append-drop (length prefix) text) ∙ ap (λ t. t ++ drop (length prefix) text) (sym starts) ∙ ap (λ t. prefix ++ t) is
-    by false e = absurd (let wrong : None ≡ Some rest = rw e at h in let f : ⊥ = cc in f)
 
 -- a comment that begins with three slashes has no other mark
 pub unmarked-slashes : (comment rest : List ℕ) → rest_after (codes "///") comment ≡ Some rest → after_slashes rest ≡ unmarked comment

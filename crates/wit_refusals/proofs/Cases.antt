@@ -1,6 +1,6 @@
 -- Texts without a letter in upper case, and the keys of names.
 use Rattle.std.proofs.Common.{◌≡◌, ℕ, ◌||◌, Bool, true, false, List, [], ◌∷◌, refl, sym, ap, ◌∙◌, arith}
-use Rattle.wit_syntax.proofs.Common.{Id, lower_case, is_ascii_uppercase, list_any, map, map_map, nat_tests, to_ascii_lowercase}
+use Rattle.wit_syntax.proofs.Common.{Id, is_ascii_uppercase, list_any, lower_case, map, map_map, nat_tests, to_ascii_lowercase}
 use denote.Ref.{Bor}
 
 none_of : (a b : Bool) → (a || b) ≡ false → (a ≡ false) × (b ≡ false)

@@ -1,6 +1,6 @@
 -- Scopes: what a key finds among their names, and setters with their getters.
 use Rattle.std.proofs.Common.{◌≡◌, ℕ, ◌<◌, Bool, true, false, List, [], ◌∷◌, ◌++◌, length, take, drop, Some, None, Option, nat_eq, inl, inr, IfNone, IfSome, refl, subst, sym, ap, ◌∙◌}
-use Rattle.wit_syntax.proofs.Common.{ParseError, Refused, at_either, at_within, cases_Bool, codes, differ_at, differ_more, find, find_passes, folded_key, getter_of, is_after, is_dotted, is_label, is_mangled, is_setter, keys_of, lookup, map, map-append, map_at, name_equal, option_map, passes, pointwise, position, rest_after, slice_get, slice_get-map, starts_with, take-append-drop, lone_setter}
+use Rattle.wit_syntax.proofs.Common.{ParseError, Refused, at_either, at_within, cases_Bool, codes, differ_at, differ_more, find, find_passes, folded_key, getter_of, is_after, is_dotted, is_label, is_mangled, is_setter, keys_of, lone_setter, lookup, map, map-append, map_at, name_equal, option_map, passes, pointwise, position, rest_after, slice_get, slice_get-map, starts_with, take-append-drop}
 use Rattle.wit_names.proofs.MadeNames.{is_mangled-get, is_mangled-method_get, is_mangled-static_get}
 use Rattle.indexmap.proofs.MapLemmas.{Found-position}
 use Rattle.wit_maps.proofs.Indexed.{lookup_nowhere}

@@ -11,6 +11,6 @@ abbrev pub defined_on : WorldSide → Sides → List Name
 defined_on Imported s = s.imports
 defined_on Exported s = s.exports
 
--- what a name on one side adds to a side
-abbrev pub only_on : WorldSide → WorldSide → Name → List Name
-only_on s side n = if same_side s side then n ∷ [] else []
+-- what a name on one side adds to a side, or something else there
+abbrev pub only_on : {X : Type 0} → WorldSide → WorldSide → X → List X
+only_on s side x = if same_side s side then x ∷ [] else []

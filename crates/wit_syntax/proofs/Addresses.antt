@@ -13,7 +13,7 @@ use Rattle.wit_syntax.proofs.Names.{name_itself, name_equal}
 number_itself : (n : ℕ) → nat_eq n n ≡ true
 number_itself n = eq-eqb n n refl
 
-number_equal : (m n : ℕ) → nat_eq m n ≡ true → m ≡ n
+pub number_equal : (m n : ℕ) → nat_eq m n ≡ true → m ≡ n
 number_equal m n h = eqb-true m n h
 
 abbrev release : ℕ → ℕ → ℕ → List ℕ → List ℕ → Release

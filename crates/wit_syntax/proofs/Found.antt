@@ -1,6 +1,7 @@
 -- Elements of a list with their places, and the first one that passes a test.
 use Rattle.std.proofs.Common.{◌≡◌, ℕ, List, Option, Some, None, IsSome, refl, ap, ◌∙◌, suc, Bool, [], ◌∷◌, inl, inr, zero, true, sym}
 use Rattle.std.specs.Prelude.{slice_get, Contains, find}
+use Rattle.std.specs.List.{list_any}
 use Rattle.std.proofs.lemmas.Option.{slice_get-get_or, slice_get_within, get_or_from_slice_get}
 use Rattle.std.proofs.lemmas.Bool.{cases_Bool}
 
@@ -43,4 +44,20 @@ find_some p (y ∷ xs) zero x at pass =
 find_some p (y ∷ xs) (suc t) x at pass = elim (cases_Bool (p y)) [
   | inl hit ↦ (y, rw hit refl)
   | inr miss ↦ (let it = find_some p xs t x at pass in (it.0, rw miss it.1))
+]
+
+-- what is found is the only one that passes
+pub find-only : {X : Type 0} (p : X → Bool) (xs : List X) (t : ℕ) (x : X) → slice_get xs t ≡ Some x → p x ≡ true → ((i : ℕ) (y : X) → slice_get xs i ≡ Some y → p y ≡ true → i ≡ t) → find p xs ≡ Some x
+find-only p xs t x at pass only =
+    let it = find_some p xs t x at pass in
+    let q = find_at p xs it.0 it.1 in
+    let place = only q.0 it.0 q.1 (find_passes p xs it.0 it.1) in
+    it.1 ∙ sym q.1 ∙ ap (slice_get xs) place ∙ at
+
+-- what passes a test that one of a list passes
+pub any_found : {X : Type 0} (p : X → Bool) (xs : List X) → list_any p xs ≡ true → (i : ℕ) × (x : X) × (slice_get xs i ≡ Some x) × (p x ≡ true)
+any_found p [] h = absurd (let f : ⊥ = cc in f)
+any_found p (x ∷ xs) h = elim (cases_Bool (p x)) [
+  | inl hit ↦ (0, x, refl, hit)
+  | inr miss ↦ (let it = any_found p xs (rw miss at h) in (suc it.0, it.1, it.2, it.3))
 ]

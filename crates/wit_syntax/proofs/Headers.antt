@@ -11,7 +11,7 @@ option_or-assoc : (a b c : Option Header) → option_or (option_or a b) c ≡ op
 option_or-assoc None b c = refl
 option_or-assoc (Some h) b c = refl
 
-option_or-none : (a : Option Header) → option_or a None ≡ a
+pub option_or-none : (a : Option Header) → option_or a None ≡ a
 option_or-none None = refl
 option_or-none (Some h) = refl
 

@@ -186,7 +186,7 @@ module _ (w : Item) (k : ℕ) (i : Item) (at : slice_get (inline_items w) k ≡ 
   inline_outer = ap (λ (v : Item). outer_name (address v)) (sym (inline_items_at w k i at).is)
 
 -- the uses of an interface that is written in an item are among the item's
-inline_part_uses : (items : List InterfaceItem) → flat_map part_uses (map interface_part items) ≡ flat_map item_uses items
+pub inline_part_uses : (items : List InterfaceItem) → flat_map part_uses (map interface_part items) ≡ flat_map item_uses items
 inline_part_uses [] = refl
 inline_part_uses (interface_item.TypeDef d ∷ items) = inline_part_uses items
 inline_part_uses (interface_item.Use u ∷ items) = ap (λ (l : List Use). u ∷ l) (inline_part_uses items)

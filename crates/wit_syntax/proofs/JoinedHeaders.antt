@@ -6,6 +6,7 @@ use Rattle.wit_tree.specs.declared.tree.PackageName.{PackageName as Header}
 use Rattle.wit_tree.specs.declared.tree.PackageFile.{PackageFile}
 use Rattle.wit_syntax.specs.Broken.{last_header, headers}
 use Rattle.wit_syntax.specs.Splitting.{IsJoined}
+use Rattle.wit_syntax.proofs.Headers.{option_or-none}
 
 -- the headers of files are the same, and so is the last one
 pub record HaveSameHeaders (files others : List PackageFile) : Type 0 where
@@ -20,12 +21,8 @@ abbrev last_of : List Header → Option Header
 last_of [] = None
 last_of (h ∷ hs) = option_or (last_of hs) (Some h)
 
-none_after : (o : Option Header) → option_or o None ≡ o
-none_after None = refl
-none_after (Some h) = refl
-
 one_more : (o : Option Header) (hs : List Header) (last : Option Header) → last ≡ last_of hs → option_or last o ≡ last_of (cons_option o hs)
-one_more None hs last same = none_after last ∙ same
+one_more None hs last same = option_or-none last ∙ same
 one_more (Some h) hs last same = ap (λ (l : Option Header). option_or l (Some h)) same
 
 last_stated : (files : List PackageFile) → last_header files ≡ last_of (headers files)

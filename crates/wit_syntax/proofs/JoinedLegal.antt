@@ -40,7 +40,7 @@ module _ (i : Item) (top : List TopName) (own : AreThemselves i.top) (other : Ar
   scope_onward f h = subst (λ (xs : List ScopeName). IsBrokenScope xs (functions i) f) twin_names h
 
 -- a name ends where it does wherever its parts end alike
-named_by : (f g : Shape → Option End) → ((x : Shape) → f x ≡ g x) → (s : Address) (name : List ℕ) (form : Form) (xs : Shapes) → named_end f s name form xs ≡ named_end g s name form xs
+pub named_by : (f g : Shape → Option End) → ((x : Shape) → f x ≡ g x) → (s : Address) (name : List ℕ) (form : Form) (xs : Shapes) → named_end f s name form xs ≡ named_end g s name form xs
 named_by f g same s name AliasForm (More x xs) = same x
 named_by f g same s name _ xs = refl
 

@@ -1,5 +1,5 @@
 -- Where a table was ordered and a scope resolved, no rule is broken in them.
-use Rattle.std.proofs.Common.{◌≡◌, ◌⊎◌, ◌<◌, ◌+◌, ◌++◌, ℕ, zero, suc, List, [], ◌∷◌, Some, length, take, drop, map, inl, inr, refl, sym, ap, ◌∙◌, subst, arith, append_assoc}
+use Rattle.std.proofs.Common.{◌≡◌, ◌<◌, ◌+◌, ◌++◌, ℕ, zero, suc, List, [], ◌∷◌, Some, length, take, drop, map, inl, inr, refl, sym, ap, ◌∙◌, subst, arith, append_assoc}
 use Rattle.std.specs.Prelude.{slice_get, Contains}
 use Rattle.std.specs.List.{flat_map}
 use Rattle.std.proofs.lemmas.Bool.{cases_Bool, cond-true, cond-false}
@@ -31,6 +31,7 @@ use Rattle.wit_syntax.proofs.Repeated.{no_repeat, differ_by, differ_at, called_k
 use Rattle.wit_syntax.proofs.Lists.{at_prefix, at_back, flat_map_has}
 use Rattle.wit_syntax.proofs.Found.{at_contains}
 use Rattle.wit_syntax.proofs.Addresses.{side_itself}
+use Rattle.wit_syntax.proofs.Orders.{three_ways}
 
 -- no edge of an ordered table is missing
 pub no_missing_edge : (as_stated : Id → Fault) (rs : List Row) (places : List ℕ) (f : Fault) → IsOrder rs places → IsMissingEdge as_stated rs f → ⊥
@@ -73,9 +74,6 @@ no_crossed xs items order f least differ h =
     let same : h.1 ≡ order = (one_answer (rows_of xs)).one h.1 order h.2 least in
     let among = subst (λ places. Contains (side_called h.0 xs (take h.3 (items_on h.0 items)) places) h.9) same h.10 in
     none_before called_key item_called (map name_called (names_on h.0 (in_turn xs order))) (items_on h.0 items) h.3 h.9 h.7 h.4 (differ h.0) among h.5 h.8 (ap folded_key h.11)
-
-pub three_ways : (m n : ℕ) → (m < n) ⊎ ((m ≡ n) ⊎ (n < m))
-three_ways m n = grind arith
 
 abbrev pub function_name : SourceFunction → List ℕ
 function_name fn = fn.name
@@ -182,14 +180,15 @@ functions_differ xs items order least legal = differ_by function_key (flat_map i
   ]
 ])
 
+-- functions as what is on a side, and back
+pub resource_items : (fns : List SourceFunction) → flat_map item_function (map SideFunction fns) ≡ fns
+resource_items [] = refl
+resource_items (fn ∷ fns) = ap (λ l. fn ∷ l) (resource_items fns)
+
 -- the functions of an item are those among what is on its sides
 pub functions_items : (i : Item) → functions i ≡ flat_map item_function (side_items i)
 functions_items i = by_parts (parts i)
   where
-    resource_items : (fns : List SourceFunction) → flat_map item_function (map SideFunction fns) ≡ fns
-    resource_items [] = refl
-    resource_items (fn ∷ fns) = ap (λ l. fn ∷ l) (resource_items fns)
-
     extern_function : (x : Extern) (kind : ExternKind) → extern_functions x kind ≡ flat_map item_function (extern_items x kind)
     extern_function x (extern.Interface name items) = refl
     extern_function x (extern.Path path) = refl

@@ -82,7 +82,7 @@ apart rs places first second p q order before at_p at_q same =
     let b : slice_index places second ≡ q = get_or_from_slice_get places second q 0 at_q in
     order.sorted.once first second before (omega arith) (a ∙ same ∙ sym b)
 
-three_ways : (m n : ℕ) → (m < n) ⊎ ((m ≡ n) ⊎ (n < m))
+pub three_ways : (m n : ℕ) → (m < n) ⊎ ((m ≡ n) ⊎ (n < m))
 three_ways m n = grind arith
 
 -- each place is once in an order

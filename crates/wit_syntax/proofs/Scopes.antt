@@ -13,11 +13,11 @@ use Rattle.wit_syntax.specs.Repeats.{AllDiffer}
 use Rattle.wit_syntax.specs.Source.{TopName, top_names, Declared, TheInterface, TheWorld, TheInline, Item, address, item_name, declared_items, file_items, all_items, item_named, item_at, about}
 use Rattle.wit_syntax.specs.Sides.{inline_items, all_scopes}
 use Rattle.wit_syntax.proofs.Lists.{map_at, flat_map_at, flat_map_has}
-use Rattle.wit_syntax.proofs.Names.{name_itself}
+use Rattle.wit_syntax.proofs.Names.{name_equal, name_itself}
 use Rattle.wit_syntax.proofs.Addresses.{same_address-itself, same_address-equal}
 use Rattle.wit_syntax.proofs.Kept.{after_one, differ_cons, differ_head, differ_tail}
 use Rattle.wit_syntax.proofs.Repeated.{differ_at, differ_by, differ_none, differ_join}
-use Rattle.wit_syntax.proofs.Found.{contains_at, at_contains, find_at, find_passes, find_some}
+use Rattle.wit_syntax.proofs.Found.{contains_at, at_contains, find-only, find_at, find_passes, find_some}
 use Rattle.wit_syntax.proofs.Inline.{outer_name, is_inside, inline_items_differ, inline_inside, inline_outer}
 
 -- declared items, which are written in no other
@@ -153,3 +153,11 @@ module _ (files : List PackageFile) where
         | inl own ↦ inl (subst (λ (w : Item). Contains (all_items files) w) own (contains_at (all_items files) it.0 it.1 it.2))
         | inr inside ↦ inr (it.1, contains_at (all_items files) it.0 it.1 it.2, contains_at (inline_items it.1) inside.0 i inside.1)
       ]
+
+-- where no two are called the same, what is called so is found
+pub found_by : {X : Type 0} (key : X → List ℕ) (xs : List X) (p : ℕ) (x : X) (name : List ℕ) → AllDiffer (map key xs) → slice_get xs p ≡ Some x → key x ≡ name → find (λ y. bytes_eq (key y) name) xs ≡ Some x
+found_by key xs p x name differ at same = find-only (λ y. bytes_eq (key y) name) xs p x at (ap (λ n. bytes_eq n name) same ∙ name_itself name) (λ i y at_y passes. differ_at key xs differ i p y x at_y at (name_equal (key y) name passes ∙ sym same))
+
+-- where names differ, an item is the first of its name
+pub named_found : (is : List Item) (p : ℕ) (w : Item) → AllDiffer (map item_name is) → slice_get is p ≡ Some w → item_named is (item_name w) ≡ Some w
+named_found is p w differ at = found_by item_name is p w (item_name w) differ at refl

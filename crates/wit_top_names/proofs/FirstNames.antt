@@ -1,9 +1,8 @@
 -- Tables of names with what they mean, one name more, and what is found in them.
 use Rattle.std.proofs.Common.{◌≡◌, ℕ, zero, suc, Bool, true, false, cond, List, [], ◌∷◌, ◌++◌, map, Option, Some, None, inl, inr, refl, sym, ap, ◌∙◌, subst, Result, Ok, Err, Vec, Global, Bor, is_none}
 use Rattle.std.specs.Prelude.{IfOk}
-use Rattle.wit_syntax.proofs.Common.{AllDiffer, Id, Item, Local, Row, TopName, bytes_eq, cases_Bool, cond-false, cond-true, differ_more, entry_row, find, find-append, find_at, find_passes, insert_entry, is_some, item_name, item_named, item_row, leads, list_any, lookup, map-append, map_at, map_map, name_cases, name_equal, name_itself, none-some, option_copied, option_map, option_map_or, option_or, slice_get, top_text, if◌then◌else◌}
+use Rattle.wit_syntax.proofs.Common.{AllDiffer, Id, Item, Local, ParseError, Row, TopName, bytes_eq, cases_Bool, cond-false, cond-true, differ_more, entry_row, find, find-append, find_at, find_passes, if◌then◌else◌, insert_entry, is_some, item_name, item_named, item_row, leads, list_any, lookup, map-append, map_at, map_map, name_cases, name_equal, name_itself, none-some, option_copied, option_map, option_map_or, option_or, slice_get, top_text}
 use Rattle.wit_graph.proofs.Rows.{key_eq}
-use Rattle.wit_type_tree.specs.declared.error.ParseError.{ParseError}
 use Rattle.wit_tree.specs.declared.tree.UsePath.TheVariants as path
 use Rattle.wit_top_names.specs.declared.top_name.Target.{Target as Borrowed}
 use Rattle.wit_first.specs.FileFaults.{lost_fault, unnamed_fault}

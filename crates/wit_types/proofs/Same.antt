@@ -3,7 +3,7 @@ use Rattle.std.proofs.Common.{◌≡◌, ℕ, nat_eq, List, Bool, ◌&&◌, Opti
 use Rattle.std.specs.Bool.{Decides}
 use Rattle.std.specs.Option.{option_eq}
 use Rattle.std.specs.Cmp.Lexicographic.{pointwise}
-use Rattle.std.proofs.lemmas.Bool.Decides.{Decides-like}
+use Rattle.std.proofs.lemmas.Bool.Decides.{Decides-like, Decides-and, Decides-eqb}
 use Rattle.std.proofs.lemmas.Slice.Eq.{slice_eq-Decides}
 use Rattle.wit_types.specs.contracts.types.TypePartialEq.TheImpl.{eq-value as type_test}
 use Rattle.wit_types.specs.declared.types.«Type».{«Type» as Ty}
@@ -14,7 +14,6 @@ use Rattle.wit_types.specs.contracts.stability.StabilityPartialEq.TheImpl.{eq-va
 use Rattle.wit_types.specs.declared.stability.Stability.{Stability}
 use Rattle.wit_types.specs.contracts.docs.DocsPartialEq.TheImpl.{eq-value as docs_test}
 use Rattle.wit_types.specs.declared.docs.Docs.{Docs}
-use Rattle.std.proofs.lemmas.Bool.Decides.{Decides-and, Decides-eqb}
 use Rattle.wit_types.specs.contracts.types.FieldPartialEq.TheImpl.{eq-value as field_test}
 use Rattle.wit_types.specs.declared.types.Field.{Field}
 use Rattle.wit_types.specs.contracts.types.FlagPartialEq.TheImpl.{eq-value as flag_test}

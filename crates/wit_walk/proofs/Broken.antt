@@ -1,6 +1,6 @@
 -- The first fault of files is that of a broken rule.
 use Rattle.std.proofs.Common.{◌≡◌, ◌<◌, ℕ, suc, Bool, false, not, List, [], ◌++◌, Option, Some, None, inl, inr, refl, sym, ap, ◌∙◌, subst, arith, ◌∷◌}
-use Rattle.wit_syntax.proofs.Common.{AllDiffer, Attribute, CyclicItem, CyclicType, Declared, DuplicateItem, Fault, ForeignStability, Headerless, InterfaceMetadata, IsBroken, IsBrokenStability, IsOrder, Item, ItemStability, Items, MissingItem, MissingType, Names, PackageFile, Scope, ScopeName, Setter, SideInline, Sides, TheInline, TheInterface, TheWorld, TopUse, about, address, all_declared, all_items, all_scopes, at_contains, contains_at, cyclic_at, defined, defined_at, fault, filter, foreign_visits, in_order, in_order_among, in_order_at, in_turn, includes, inline_items, inline_items_at, interfaces_of, is_world, item_at, item_name, item_row, item_rows, item_word, kept_at, last_header, length-map, map, missing_at, missing_type_at, name_called, option_map_or, option_or, order_within, rows_of, scope, scope_item_at, scope_names, scopes_declared, scopes_inline, side_items, slice_get, type_word, used, worlds_of, Row, ForeignVisit, if◌then◌else◌, is_none}
+use Rattle.wit_syntax.proofs.Common.{AllDiffer, Attribute, CyclicItem, CyclicType, Declared, DuplicateItem, Fault, ForeignStability, ForeignVisit, Headerless, InterfaceMetadata, IsBroken, IsBrokenStability, IsOrder, Item, ItemStability, Items, MissingItem, MissingType, Names, PackageFile, Row, Scope, ScopeName, Setter, SideInline, Sides, TheInline, TheInterface, TheWorld, TopUse, about, address, all_declared, all_items, all_scopes, at_contains, contains_at, cyclic_at, defined, defined_at, fault, filter, foreign_visits, if◌then◌else◌, in_order, in_order_among, in_order_at, in_turn, includes, inline_items, inline_items_at, interfaces_of, is_none, is_world, item_at, item_name, item_row, item_rows, item_word, kept_at, last_header, length-map, map, missing_at, missing_type_at, name_called, named_found, option_map_or, option_or, order_within, rows_of, scope, scope_item_at, scope_names, scopes_declared, scopes_inline, side_items, slice_get, type_word, used, worlds_of}
 use Rattle.wit_tree.specs.declared.tree.PackageName.{PackageName as Header}
 use Rattle.wit_syntax.proofs.Setters.{includes_none}
 use Rattle.wit_first.specs.AttributeFaults.{stability_fault}
@@ -9,7 +9,7 @@ use Rattle.wit_first.specs.First.{first_in, first_after}
 use Rattle.wit_first.specs.NameFaults.{item_names_fault}
 use Rattle.wit_first.specs.UseFaults.{all_uses_fault}
 use Rattle.wit_first.proofs.Bridge.{in_some, item_names_agree, item_names_differ, or_some, stability_agrees}
-use Rattle.wit_first.proofs.FileFaults.{tops_agree, visits_agree}
+use Rattle.wit_first.proofs.FileFaults.{tops_agree, visits_agree, files_broken}
 use Rattle.wit_walk.specs.Definitions.{definition_fault, handle_fault}
 use Rattle.wit_walk.specs.Members.{member_fault}
 use Rattle.wit_walk.specs.Names.{folded_fault, name_fault}
@@ -17,9 +17,9 @@ use Rattle.wit_walk.specs.Orders.{Outcome, IsOutcome, order_fault, order_of}
 use Rattle.wit_walk.specs.Paths.{include_fault}
 use Rattle.wit_walk.specs.Setters.{setters_fault}
 use Rattle.wit_walk.specs.Walk.{Known, IsFirst, ordered_fault, contents_fault, first_fault}
-use Rattle.wit_walk.proofs.FileFaults.{files_broken, uses_broken}
+use Rattle.wit_walk.proofs.FileFaults.{uses_broken}
 use Rattle.wit_walk.proofs.MemberFaults.{IsScope, BreaksInside, members_broken, turned_broken}
-use Rattle.wit_walk.proofs.ScopeFaults.{definition_broken, includes_broken, names_broken, outcome_broken, named_first, outcome_order, same_fault}
+use Rattle.wit_walk.proofs.ScopeFaults.{definition_broken, includes_broken, names_broken, outcome_broken, outcome_order, same_fault}
 use Rattle.wit_walk.proofs.SetterFaults.{setter_alone}
 
 -- attributes before an item that break a rule
@@ -128,7 +128,7 @@ own_scope files i (TheInline world place x name items) is at = ap (λ (o : Optio
 
 module _ (files : List PackageFile) (differ : AllDiffer (map item_name (all_items files))) (known : Known) (outcomes : (rs : List Row) → IsOutcome rs (known.outcome rs)) where
   meant_at : (w : Item) (t j : ℕ) (i : Item) → slice_get (all_items files) t ≡ Some w → slice_get (w ∷ inline_items w) j ≡ Some i → scope files (address i) ≡ scope_names i
-  meant_at w t j i at inside = own_scope files i i.declared refl (scope_item_at (all_items files) w j i (all_declared files) (named_first (all_items files) t w differ at) inside)
+  meant_at w t j i at inside = own_scope files i i.declared refl (scope_item_at (all_items files) w j i (all_declared files) (named_found (all_items files) t w differ at) inside)
 
   nothing_inside : (i : Item) → BreaksInside files i (λ other. None)
   nothing_inside i j f among h = absurd (let g : ⊥ = cc in g)

@@ -1,45 +1,12 @@
 -- What the first fault of the names of files breaks, and that of the uses of their items.
-use Rattle.std.proofs.Common.{◌≡◌, ℕ, zero, suc, Bool, true, false, List, [], ◌∷◌, ◌++◌, Option, Some, None, inl, inr, refl, sym, ap, ◌∙◌, Contains}
-use Rattle.wit_syntax.proofs.Common.{Contains-append_cases, DefinitionPart, DuplicateTopName, Exported, Extern, ExternPart, Fault, FunctionPart, Id, Imported, IncludePart, IsBroken, IsBrokenItems, IsBrokenUse, Item, MissingItem, MissingUse, PackageFile, Part, Target, Use as WrittenUse, UseMetadata, UsePart, UsePath, WorldSide, WorldUsed, all_items, at_contains, at_prefix, at_side, bytes_eq, contains_at, extern_paths, file_items, find_some, flat_map, flat_map_at, flat_map_has, if◌then◌else◌, inline_uses, is_world_at, item_name, item_named, item_row, item_row_at, leads, local_target, map, map_at, name_itself, needed_paths, none-some, none_if, option_map, part_uses, parts, path_id, place_of, place_of-Some, same_side, slice_get, slice_get-map, use_path, use_paths, uses, walk, world_there, own_uses}
+use Rattle.std.proofs.Common.{◌≡◌, ℕ, zero, suc, Bool, true, false, List, [], ◌∷◌, ◌++◌, Option, Some, None, inl, inr, refl, ap, ◌∙◌, Contains}
+use Rattle.wit_syntax.proofs.Common.{Contains-append_cases, DefinitionPart, Exported, Extern, ExternPart, Fault, FunctionPart, Imported, IncludePart, IsBroken, IsBrokenUse, Item, MissingUse, PackageFile, Part, Use as WrittenUse, UseMetadata, UsePart, UsePath, WorldSide, WorldUsed, all_items, at_contains, at_prefix, at_side, contains_at, extern_paths, flat_map, flat_map_at, flat_map_has, if◌then◌else◌, inline_uses, is_world_at, leads, map, option_map, own_uses, part_uses, parts, path_id, same_side, slice_get, slice_get-map, use_path, use_paths, uses, walk, world_there}
 use Rattle.wit_syntax.specs.Broken.{Use}
 use Rattle.wit_first.specs.AttributeFaults.{metadata_fault}
-use Rattle.wit_first.specs.FileFaults.{file_fault, files_fault, lost_fault, paths_fault, unnamed_fault}
-use Rattle.wit_first.specs.First.{first_in}
-use Rattle.wit_first.specs.NameFaults.{top_names_fault}
+use Rattle.wit_first.specs.FileFaults.{lost_fault}
 use Rattle.wit_first.specs.UseFaults.{all_uses_fault, item_uses_fault, path_fault, reached_fault, use_fault}
-use Rattle.wit_first.proofs.Bridge.{in_some, metadata_agree, or_some, top_names_agree}
-use Rattle.wit_first.proofs.FileFaults.{IsLost, lost_agrees, unnamed_broken}
-
--- a name that is no item's has no row
-missing_row : (is : List Item) (name : List ℕ) → item_named is name ≡ None → place_of (map item_row is) name ≡ None
-missing_row is name none = none_if (place_of (map item_row is) name) (λ b some. (
-    let r = place_of-Some (map item_row is) name b some in
-    let w = map_at item_row is b r.0 r.1 in
-    let called : item_name w.0 ≡ name = ap (λ row. row.name) w.2 ∙ sym r.2 in
-    let it = find_some (λ (i : Item). bytes_eq (item_name i) name) is b w.0 w.1 (ap (λ n. bytes_eq n name) called ∙ name_itself name) in
-    none-some it.0 (sym none ∙ it.1)))
-
--- a path that leads to a name which is no item's is an edge to no row
-lost_path : (files : List PackageFile) (p : ℕ) (w : Item) (k : ℕ) (path : UsePath) (f : Fault) → slice_get (all_items files) p ≡ Some w → slice_get (needed_paths w) k ≡ Some path → IsLost (all_items files) (leads w.top path) f → IsBrokenItems files f
-lost_path files p w k path f at there lost =
-    let edges : UsePath → List Id = λ path. local_target (leads w.top path) in
-    let e = flat_map_has edges (needed_paths w) k 0 path lost.id there (ap (λ (t : Target). slice_get (local_target t) 0) lost.local) in
-    MissingItem (p, e.0, lost.id, (item_row w, item_row_at files p w at, e.1), missing_row (all_items files) lost.id.name.now lost.missing, lost.is)
-
-file_broken : (files : List PackageFile) (i : ℕ) (file : PackageFile) (f : Fault) → slice_get files i ≡ Some file → file_fault (all_items files) file ≡ Some f → IsBrokenItems files f
-file_broken files i file f at h =
-    let all = all_items files in
-    elim (or_some (top_names_fault file) (first_in (paths_fault all) (file_items file)) f h) [
-      | inl top ↦ DuplicateTopName file (contains_at files i file at) ((top_names_agree file).broken f top)
-      | inr far ↦ (
-          let own = in_some (paths_fault all) (file_items file) f far.1 in
-          let it = in_some (unnamed_fault all own.1.top) (needed_paths own.1) f own.3 in
-          let p = flat_map_has file_items files i own.0 file own.1 at own.2 in
-          lost_path files p.0 own.1 it.0 it.1 f p.1 it.2 (unnamed_broken all own.1.top it.1 f it.3))
-    ]
-
-pub files_broken : (files : List PackageFile) (f : Fault) → files_fault files ≡ Some f → IsBrokenItems files f
-files_broken files f h = let it = in_some (file_fault (all_items files)) files f h in file_broken files it.0 it.1 f it.2 it.3
+use Rattle.wit_first.proofs.Bridge.{in_some, metadata_agree, or_some}
+use Rattle.wit_first.proofs.FileFaults.{lost_agrees}
 
 -- where a path of an item leads
 pub path_broken : (files : List PackageFile) (i : Item) (from : UsePath) (f : Fault) → Contains (use_paths i) from → path_fault files i.top from None ≡ Some f → IsBrokenUse files i f

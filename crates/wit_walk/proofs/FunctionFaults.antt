@@ -1,16 +1,15 @@
 -- What the first fault of a function of an item breaks.
 use Rattle.std.proofs.Common.{◌≡◌, ◌⊎◌, ◌+◌, ℕ, zero, suc, true, false, List, [], ◌∷◌, ◌++◌, length, take, Option, Some, None, inl, inr, refl, sym, ap, ◌∙◌, subst, append_assoc, length-append, Contains, arith}
-use Rattle.wit_syntax.proofs.Common.{Attribute, BrokenMetadata, BrokenTypes, Constructor, ConstructorOfOther, ConstructorWithoutResult, Contains-append_left, Contains-append_right, DefinitionPart, DuplicateParam, Extern, ExternKind, ExternPart, Fault, Freestanding, Func, FuncForm, Function, FunctionPart, GetterGiven, GetterWithoutResult, Id, IncludePart, IsBroken, IsBrokenFunction, IsConstructorOfOther, IsConstructorWithoutResult, IsEntered, IsGetterGiven, IsNoType, IsSetterGiven, IsSetterWithResult, Item, Method, MissingInSignature, NamedFunc, OfFunction, OfNothing, OnSide, PackageFile, Param, Part, ResourceFunc, Role, Scope, SetterGiven, SetterWithResult, SourceFunction, SourceParam, Static, TypeBody, UsePart, Word, WorldSide, address, all_params, all_scopes, at_back, at_contains, at_prefix, at_split, bytes_eq, cases_Bool, contains_at, definition_functions, extern_functions, flat_map, flat_map_at, flat_map_has, lower_case, free_function, function_as_type, functions, item_types, list_any, map, map_at, meaning, missing_at, name_equal, name_itself, name_types, name_word, option_map, option_map_or, option_or, option_to_list, param_twice, part_functions, parts, resource_function, scope, scope_names, shape_of, side_function, signature, slice_get, slice_get-map, slice_get_within, take-append-add, take-map, words, written_param, written_types, result_ok}
+use Rattle.wit_syntax.proofs.Common.{Attribute, BrokenMetadata, BrokenTypes, Constructor, ConstructorOfOther, ConstructorWithoutResult, Contains-append_left, Contains-append_right, DefinitionPart, DuplicateParam, Extern, ExternKind, ExternPart, Fault, Freestanding, Func, FuncForm, Function, FunctionPart, GetterGiven, GetterWithoutResult, Id, IncludePart, IsBroken, IsBrokenFunction, IsConstructorOfOther, IsConstructorWithoutResult, IsEntered, IsGetterGiven, IsNoType, IsSetterGiven, IsSetterWithResult, Item, Method, MissingInSignature, NamedFunc, OfFunction, OfNothing, OnSide, PackageFile, Param, Part, ResourceFunc, Role, Scope, SetterGiven, SetterWithResult, SourceFunction, SourceParam, Static, TypeBody, UsePart, Word, WorldSide, address, all_params, all_scopes, any_found, at_back, at_contains, at_prefix, at_split, bytes_eq, cases_Bool, contains_at, definition_functions, extern_functions, flat_map, flat_map_at, flat_map_has, free_function, function_as_type, functions, item_types, list_any, lower_case, map, map_at, meaning, missing_at, name_equal, name_itself, name_types, name_word, option_map, option_map_or, option_or, option_to_list, param_twice, part_functions, parts, resource_function, result_ok, scope, scope_names, shape_of, side_function, signature, slice_get, slice_get-map, slice_get_within, take-append-add, take-map, words, written_param, written_types, «Type» as Written}
 use Rattle.wit_type_tree.specs.declared.leaves.Docs.{Docs as Comments}
 use Rattle.wit_type_tree.specs.declared.types.FuncForm.TheVariants as form
 use Rattle.wit_type_tree.specs.declared.types.ResourceFunc.TheVariants as resource
 use Rattle.wit_type_tree.specs.declared.types.TypeBody.TheVariants as body
-use Rattle.wit_type_tree.specs.declared.types.«Type».{«Type» as Written}
 use Rattle.wit_tree.specs.declared.tree.ExternKind.TheVariants as extern
 use Rattle.wit_first.specs.AttributeFaults.{metadata_fault}
 use Rattle.wit_first.specs.First.{first_after, repeat_of}
 use Rattle.wit_first.specs.FunctionFaults.{given_fault, result_fault}
-use Rattle.wit_first.proofs.Bridge.{after_some, any_found, metadata_agree, or_some}
+use Rattle.wit_first.proofs.Bridge.{after_some, metadata_agree, or_some}
 use Rattle.wit_first.proofs.First.{any_some}
 use Rattle.wit_first.proofs.FunctionFaults.{given_agrees, gives_agrees, no_result_agrees}
 use Rattle.wit_first.proofs.Repeats.{repeat_second}
@@ -99,7 +98,7 @@ word_signed fn t id m among word =
 pub params_before : (given : List SourceParam) (ps : List Param) (i : ℕ) → take (length given + i) (given ++ map written_param ps) ≡ given ++ map written_param (take i ps)
 params_before given ps i = take-append-add given (map written_param ps) i ∙ ap (λ (l : List SourceParam). given ++ l) (take-map written_param i ps)
 
-param_at : (given : List SourceParam) (ps : List Param) (i : ℕ) (p : Param) → slice_get ps i ≡ Some p → slice_get (given ++ map written_param ps) (length given + i) ≡ Some (written_param p)
+pub param_at : (given : List SourceParam) (ps : List Param) (i : ℕ) (p : Param) → slice_get ps i ≡ Some p → slice_get (given ++ map written_param ps) (length given + i) ≡ Some (written_param p)
 param_at given ps i p at = at_back given (map written_param ps) i (written_param p) (slice_get-map written_param ps i ∙ ap (option_map written_param) at)
 
 -- a name is that of a function of an interface

@@ -1,11 +1,10 @@
 -- A function in which the walk finds nothing breaks no rule.
 use Rattle.std.proofs.Common.{◌≡◌, ◌⊎◌, ◌≤◌, ◌<◌, ℕ, zero, suc, List, [], ◌∷◌, ◌++◌, length, take, Option, Some, None, inl, inr, refl, sym, ap, ◌∙◌, subst, Contains, arith}
-use Rattle.wit_syntax.proofs.Common.{Attribute, BrokenMetadata, BrokenTypes, ConstructorOfOther, ConstructorWithoutResult, Defined, DefinitionPart, DuplicateParam, ExternPart, Fault, Func, FunctionPart, GetterGiven, GetterWithoutResult, Id, IncludePart, IsBrokenFunction, IsConstructorOfOther, IsConstructorWithoutResult, IsGetterWithoutResult, IsSecond, IsSetterWithResult, Item, MissingInSignature, NamedFunc, Param, Part, ResourceFunc, ScopeName, SetterGiven, SetterWithResult, Shape, SourceFunction, SourceParam, Span, TypeBody, UsePart, Word, WorldSide, all_params, at_contains, at_split, bytes_eq, contains_at, definition_functions, extern_at, find_some, flat_map, flat_map_at, flat_map_has, lower_case, free_function, functions, local_name, map, map_at, meaning, name_itself, none-some, option_map, option_map_or, option_or, option_to_list, param_twice, part_functions, part_names, parts, resource_function, scope_names, self_param, shape_of, side_function, signature, slice_get, slice_get_within, words, written_param, written_types, if◌then◌else◌, is_none, result_ok}
+use Rattle.wit_syntax.proofs.Common.{Attribute, BrokenMetadata, BrokenTypes, ConstructorOfOther, ConstructorWithoutResult, Defined, DefinitionPart, DuplicateParam, ExternPart, Fault, Func, FunctionPart, GetterGiven, GetterWithoutResult, Id, IncludePart, IsBrokenFunction, IsConstructorOfOther, IsConstructorWithoutResult, IsGetterWithoutResult, IsSecond, IsSetterWithResult, Item, MissingInSignature, NamedFunc, Param, Part, ResourceFunc, ScopeName, SetterGiven, SetterWithResult, Shape, SourceFunction, SourceParam, Span, TypeBody, UsePart, Word, WorldSide, all_params, at_contains, at_split, bytes_eq, contains_at, definition_functions, extern_at, find_some, flat_map, flat_map_at, flat_map_has, free_function, functions, if◌then◌else◌, is_none, local_name, lower_case, map, map_at, meaning, name_itself, none-some, option_map, option_map_or, option_or, option_to_list, param_twice, part_functions, part_names, parts, resource_function, result_ok, scope_names, self_param, shape_of, side_function, signature, slice_get, slice_get_within, words, written_param, written_types, «Type» as Written}
 use Rattle.wit_type_tree.specs.declared.leaves.Docs.{Docs as Comments}
 use Rattle.wit_type_tree.specs.declared.types.ResourceFunc.TheVariants as resource
 use Rattle.wit_type_tree.specs.declared.types.TypeBody.TheVariants as body
 use Rattle.wit_type_tree.specs.declared.types.TypeDef.{TypeDef}
-use Rattle.wit_type_tree.specs.declared.types.«Type».{«Type» as Written}
 use Rattle.wit_first.specs.AttributeFaults.{metadata_fault}
 use Rattle.wit_first.specs.First.{first_after, repeat_of}
 use Rattle.wit_first.specs.FunctionFaults.{given_fault, result_fault}

@@ -1,8 +1,8 @@
 -- Files in which the walk finds nothing break no rule; and in files that break none it finds nothing.
 use Rattle.std.proofs.Common.{◌≡◌, ◌+◌, ◌≤◌, ℕ, false, not, List, [], ◌∷◌, ◌++◌, length, take, Option, Some, None, inl, inr, refl, sym, ap, ◌∙◌, Contains, arith}
-use Rattle.wit_syntax.proofs.Common.{AllDiffer, Body, CyclicItem, CyclicType, DefinedTwice, DuplicateItem, DuplicateTopName, Extern, Fault, ForeignStability, Function, Handle, Headerless, Id, IncludeStability, InterfaceIncluded, InterfaceItem, IsBrokenItems, IsBrokenNames, IsBrokenScope, IsLegal, IsNoResource, IsOrder, Item, ItemStability, Items, LinkedTwice, MissingItem, MissingName, MissingType, Names, PackageFile, Row, Scope, Setter, SideFunction, SideInline, SideItem, Sides, TopUse, UseMetadata, about, address, all_items, all_scopes, at_contains, cases_Bool, cyclic_at, defined, foreign_visits, functions, in_order, in_order_has, in_turn, includes, index_of, inline_interface, inline_items, inline_items_at, inlined, interfaces_of, interfaces_on, is_world, item_name, item_row, item_rows, item_types, item_word, kept_has, last_header, length-map, map, map_at, missing_at, missing_type_at, name_called, no_cyclic_edge, no_missing_edge, not_from_false, rows_of, scope_names, scopes_either, side_items, side_items_functions, slice_get, slice_get_within, type_word, used, worlds_of, fault, if◌then◌else◌, is_none}
-use Rattle.wit_tree.specs.declared.tree.PackageName.{PackageName as Header}
+use Rattle.wit_syntax.proofs.Common.{AllDiffer, Body, CyclicItem, CyclicType, DefinedTwice, DuplicateItem, DuplicateTopName, Extern, Fault, ForeignStability, Function, Handle, Headerless, Id, IncludeStability, InterfaceIncluded, InterfaceItem, IsBrokenItems, IsBrokenNames, IsBrokenScope, IsLegal, IsNoResource, IsOrder, Item, ItemStability, Items, LinkedTwice, MissingItem, MissingName, MissingType, Names, PackageFile, Row, Scope, Setter, SideFunction, SideInline, SideItem, Sides, TopUse, UseMetadata, about, address, all_items, all_scopes, at_contains, cases_Bool, cyclic_at, defined, fault, foreign_visits, functions, if◌then◌else◌, in_order, in_order_has, in_turn, includes, index_of, inline_interface, inline_items, inline_items_at, inlined, interfaces_of, interfaces_on, is_none, is_world, item_name, item_row, item_rows, item_types, item_word, kept_has, last_header, length-map, map, map_at, missing_at, missing_type_at, name_called, no_cyclic_edge, no_missing_edge, not_from_false, rows_of, scope_names, scopes_either, side_items, side_items_functions, slice_get, slice_get_within, type_word, used, worlds_of}
 use Rattle.wit_syntax.specs.Broken.{Metadata, Use}
+use Rattle.wit_tree.specs.declared.tree.PackageName.{PackageName as Header}
 use Rattle.wit_first.specs.AttributeFaults.{external_fault, stability_fault}
 use Rattle.wit_first.specs.First.{first_in, first_after}
 use Rattle.wit_first.proofs.Bridge.{in_only, item_names_agree, item_names_differ, or_none_both, stability_agrees}

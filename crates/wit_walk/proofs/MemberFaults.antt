@@ -1,15 +1,15 @@
 -- What the first fault of what is on the sides of an item breaks.
 use Rattle.std.proofs.Common.{◌≡◌, ◌⊎◌, ◌+◌, ℕ, zero, suc, Bool, true, false, ◌&&◌, List, [], ◌∷◌, ◌++◌, length, take, Option, Some, None, inl, inr, refl, sym, ap, ◌∙◌, subst, append_assoc, Contains}
-use Rattle.wit_syntax.proofs.Common.{Called, Constructor, CrossedTwice, DefinitionPart, Extern, ExternKind, ExternPart, Fault, FoldedTwice, Freestanding, FuncForm, FunctionPart, Id, Imported, IncludePart, InterfaceItem, InterfaceMetadata, IsBroken, IsExternPart, IsLinkedTwice, IsOrder, IsSecond, Item, Link, LinkedTwice, Method, MissingUse, OnSide, PackageFile, Part, Role, ScopeName, SideFunction, SideInline, SideItem, SideLink, Sides, SourceFunction, Static, Use as WrittenUse, UsePart, WorldSide, WorldUsed, address, all_items, all_scopes, and_parts, at_back, at_contains, at_prefix, bytes_eq, clash, codes, cond-true, contains_at, definition_functions, extern_items, extern_link, extern_paths, fault_in, filter, filter-append, flat_map, flat_map-append, flat_map_at, flat_map_has, folded_key, functions, functions_items, if◌then◌else◌, in_turn, inline_after, inline_after-append, inline_item, inline_items, inline_uses, is_interface, is_none, is_world, is_world_at, item_called, item_function, item_link, item_side, items_on, leads, linked_twice, links_none, list_any, map, map_at, name_called, name_equal, names_on, option_map_or, part_items, parts, path_id, path_scope, rows_of, same_address, same_address-equal, same_side, scope, scope_names, side_called, side_items, side_itself, slice_get, take_seam, use_path, use_paths, world_there, side_word}
-use Rattle.wit_tree.specs.declared.tree.ExternKind.TheVariants as extern
+use Rattle.wit_syntax.proofs.Common.{Called, Constructor, CrossedTwice, DefinitionPart, Extern, ExternKind, ExternPart, Fault, FoldedTwice, Freestanding, FuncForm, FunctionPart, Id, Imported, IncludePart, InterfaceItem, InterfaceMetadata, IsBroken, IsExternPart, IsLinkedTwice, IsOrder, IsSecond, Item, Link, LinkedTwice, Method, MissingUse, OnSide, PackageFile, Part, Role, ScopeName, SideFunction, SideInline, SideItem, SideLink, Sides, SourceFunction, Static, Use as WrittenUse, UsePart, WorldSide, WorldUsed, address, all_items, all_scopes, and_parts, any_found, at_back, at_contains, at_prefix, bytes_eq, clash, codes, cond-true, contains_at, definition_functions, extern_items, extern_link, extern_paths, fault_in, filter, filter-append, flat_map, flat_map-append, flat_map_at, flat_map_has, folded_key, functions, functions_items, if◌then◌else◌, in_turn, inline_after, inline_after-append, inline_item, inline_items, inline_uses, is_interface, is_none, is_world, is_world_at, item_called, item_function, item_link, item_side, items_on, leads, linked_twice, links_none, list_any, map, map_at, name_called, name_equal, names_on, option_map_or, part_items, parts, path_id, path_scope, rows_of, same_address, same_address-equal, same_side, scope, scope_names, side_called, side_items, side_itself, side_word, slice_get, take_seam, use_path, use_paths, world_there}
 use Rattle.wit_syntax.specs.Broken.{Use}
+use Rattle.wit_tree.specs.declared.tree.ExternKind.TheVariants as extern
 use Rattle.wit_first.specs.AttributeFaults.{external_fault, metadata_fault}
 use Rattle.wit_first.specs.UseFaults.{reached_fault}
 use Rattle.wit_first.specs.FileFaults.{lost_fault}
 use Rattle.wit_first.specs.First.{first_in, first_after, repeat_of}
-use Rattle.wit_first.proofs.Bridge.{clash_repeat, after_some, any_found, external_agrees, in_some, metadata_agree, or_some, repeat_some}
+use Rattle.wit_first.proofs.Bridge.{clash_repeat, after_some, external_agrees, in_some, metadata_agree, or_some, repeat_some}
 use Rattle.wit_first.proofs.FileFaults.{lost_agrees}
-use Rattle.wit_first.proofs.First.{split_at}
+use Rattle.wit_first.proofs.First.{split_at, at_middle}
 use Rattle.wit_first.proofs.Repeats.{repeat_second}
 use Rattle.wit_walk.specs.Definitions.{handle_fault}
 use Rattle.wit_walk.specs.Functions.{function_fault, signed_fault}
@@ -26,13 +26,9 @@ on_split side xs before rest x own split =
     let here : test x ≡ true = ap (same_side side) own ∙ side_itself side in
     ap (items_on side) split ∙ filter-append test before (x ∷ rest) ∙ ap (λ (l : List SideItem). items_on side before ++ l) (cond-true (test x) (x ∷ items_on side rest) (items_on side rest) here)
 
-middle : {X : Type 0} (xs : List X) (y : X) (ys : List X) → slice_get (xs ++ y ∷ ys) (length xs) ≡ Some y
-middle [] y ys = refl
-middle (z ∷ xs) y ys = middle xs y ys
-
 -- a name that repeats one before it repeats it in all
 second_here : {X : Type 0} (key : X → List ℕ) (as_stated : X → Fault) (before rest : List X) (x : X) (f : Fault) → repeat_of key as_stated before x ≡ Some f → IsSecond key as_stated (before ++ x ∷ rest) f
-second_here key as_stated before rest x f h = repeat_second key as_stated (before ++ x ∷ rest) (length before) x f (middle before x rest) (subst (λ (l : List _). repeat_of key as_stated l x ≡ Some f) (sym (take_seam before (x ∷ rest))) h)
+second_here key as_stated before rest x f h = repeat_second key as_stated (before ++ x ∷ rest) (length before) x f (at_middle before x rest) (subst (λ (l : List _). repeat_of key as_stated l x ≡ Some f) (sym (take_seam before (x ∷ rest))) h)
 
 pub second_prefix : {X : Type 0} (key : X → List ℕ) (as_stated : X → Fault) (xs ys : List X) (f : Fault) → IsSecond key as_stated xs f → IsSecond key as_stated (xs ++ ys) f
 second_prefix key as_stated xs ys f (later, (first, second, lt, earlier, at_first, at_second, same), is) = (later, (first, second, lt, earlier, at_prefix xs ys first earlier at_first, at_prefix xs ys second later at_second, same), is)
@@ -88,7 +84,7 @@ path_part (ExternPart x) j link at = path_extern x x.kind j link at
 path_part (UsePart u) j link at = absurd (let f : ⊥ = cc in f)
 path_part (IncludePart n) j link at = absurd (let f : ⊥ = cc in f)
 
-path_among : (i : Item) (k : ℕ) (link : Link) → slice_get (side_items i) k ≡ Some (SideLink link) → Contains (use_paths i) link.path
+pub path_among : (i : Item) (k : ℕ) (link : Link) → slice_get (side_items i) k ≡ Some (SideLink link) → Contains (use_paths i) link.path
 path_among i k link at =
     let p = flat_map_at part_items (parts i) k (SideLink link) at in
     let j = at_contains (use_path p.1) link.path (path_part p.1 p.3.0 link p.3.1) in
@@ -153,7 +149,7 @@ module _ (files : List PackageFile) (i : Item) (known : IsScope files i) (n : �
       let paths = and_parts (is_none link.name) paths_same names.1 in
       let split = split_at all k (SideLink link) at in
       let on = on_split link.side all (take k all) split.0 (SideLink link) refl split.1 in
-      let own : slice_get (items_on link.side all) (length before) ≡ Some (SideLink link) = ap (λ (l : List SideItem). slice_get l (length before)) on ∙ middle before (SideLink link) (items_on link.side split.0) in
+      let own : slice_get (items_on link.side all) (length before) ≡ Some (SideLink link) = ap (λ (l : List SideItem). slice_get l (length before)) on ∙ at_middle before (SideLink link) (items_on link.side split.0) in
       let prefix : take (length before) (items_on link.side all) ≡ before = ap (take (length before)) on ∙ take_seam before (SideLink link ∷ items_on link.side split.0) in
       let has : Contains (take (length before) (items_on link.side all)) (SideLink it.1) = subst (λ (l : List SideItem). Contains l (SideLink it.1)) (sym prefix) (contains_at before y.0 (SideLink it.1) (y.2 ∙ ap Some is)) in
       (link.side, length before, it.1, link, has, own, none_is it.1.name names.0, none_is link.name paths.0, same_address-equal (path_scope i.top it.1.path) (path_scope i.top link.path) paths.1, there, found.1)
@@ -210,7 +206,7 @@ module _ (files : List PackageFile) (i : Item) (known : IsScope files i) (n : �
             let own_crossed = crossed_is as_crossed (is_extern x) names c f own in
             let twice = repeat_some (λ (d : Called). d.name) as_crossed names c f own_crossed.1 in
             let e = any_found (λ (d : Called). bytes_eq d.name c.name) names twice.0 in
-            let at_place : slice_get (items_on side all) (length before) ≡ Some x = ap (λ (l : List SideItem). slice_get l (length before)) on ∙ middle before x rest in
+            let at_place : slice_get (items_on side all) (length before) ≡ Some x = ap (λ (l : List SideItem). slice_get l (length before)) on ∙ at_middle before x rest in
             let prefix : take (length before) (items_on side all) ≡ before = ap (take (length before)) on ∙ take_seam before (x ∷ rest) in
             let has : Contains (side_called side xs (take (length before) (items_on side all)) order) e.1 = subst (λ (l : List SideItem). Contains (side_called side xs l order) e.1) (sym prefix) (contains_at names e.0 e.1 e.2) in
             Sides i known.among (CrossedTwice (side, order, least, length before, x, at_place, extern_is x own_crossed.0, c, only, e.1, has, name_equal e.1.name c.name e.3, side_word side ++ (codes " `" ++ (c.name ++ (codes "` conflicts with prior " ++ (sort_among there c.name ++ codes " of same name")))), twice.1)))

@@ -1,7 +1,6 @@
 -- Where the walk finds nothing in what is on the sides of an item, no rule about it is broken.
 use Rattle.std.proofs.Common.{◌≡◌, ◌≤◌, ℕ, zero, suc, Bool, true, false, ◌&&◌, List, [], ◌∷◌, ◌++◌, length, take, Option, Some, None, inl, inr, refl, sym, ap, ◌∙◌, subst, append_assoc, Contains, arith}
-use Rattle.wit_syntax.proofs.Common.{AllDiffer, Called, CrossedTwice, Exported, Extern, Fault, FoldedTwice, Id, Imported, InterfaceItem, InterfaceMetadata, IsBrokenFunction, IsBrokenMetadata, IsBrokenSides, IsLinkedTwice, IsOrder, Item, Link, PackageFile, ScopeName, SideFunction, SideInline, SideItem, SideLink, SourceFunction, Span, WorldSide, address, all_items, and_from, append-nil, at_contains, cases_Bool, cond-false, cond-true, contains_at, filter, filter-append, flat_map, flat_map-append, flat_map_at, flat_map_has, folded_key, functions, functions_items, handles, if◌then◌else◌, in_turn, inline_item, interface_attributes, is_interface, is_none, is_world_at, item_called, item_function, item_link, item_side, items_on, leads, linked_twice, list_any, map, name_called, names_on, no_crossed, no_fold, option_or, path_id, path_scope, rows_of, same_address, same_address-from, same_side, same_side-equal, scope_names, side_called, side_items, slice_get, written_types, clash, codes, fault_in}
-use Rattle.wit_type_tree.specs.declared.types.«Type».{«Type» as Written}
+use Rattle.wit_syntax.proofs.Common.{AllDiffer, Called, CrossedTwice, Exported, Extern, Fault, FoldedTwice, Id, Imported, InterfaceItem, InterfaceMetadata, IsBrokenFunction, IsBrokenMetadata, IsBrokenSides, IsLinkedTwice, IsOrder, Item, Link, PackageFile, ScopeName, SideFunction, SideInline, SideItem, SideLink, SourceFunction, Span, WorldSide, address, all_items, and_from, append-nil, at_contains, cases_Bool, clash, codes, cond-false, cond-true, contains_at, fault_in, filter, filter-append, flat_map, flat_map-append, flat_map_at, flat_map_has, folded_key, functions, functions_items, handles, if◌then◌else◌, in_turn, inline_item, interface_attributes, is_interface, is_none, is_world_at, item_called, item_function, item_link, item_side, items_on, leads, linked_twice, list_any, map, name_called, names_on, no_crossed, no_fold, option_or, path_id, path_scope, rows_of, same_address, same_address-from, same_side, same_side-equal, scope_names, side_called, side_items, slice_get, written_types, «Type» as Written}
 use Rattle.wit_first.specs.AttributeFaults.{external_fault, metadata_fault, stability_fault}
 use Rattle.wit_first.specs.FileFaults.{lost_fault}
 use Rattle.wit_first.specs.First.{first_in, first_after, repeat_of}

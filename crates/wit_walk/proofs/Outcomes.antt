@@ -1,14 +1,12 @@
 -- Each table has an outcome.
-use Rattle.std.proofs.Common.{◌≡◌, ◌⊎◌, ◌+◌, ◌<◌, ℕ, zero, suc, List, [], ◌∷◌, ◌++◌, length, Option, Some, None, inl, inr, refl, sym, ◌∙◌, subst, arith}
-use Rattle.wit_syntax.proofs.Common.{AreAccepted, AreRefused, Id, IsBefore, IsComplete, IsCyclic, IsEdge, IsFirstEdge, IsGreedy, IsMissing, Leads, ReachesCycle, Row, cases_lt, greedy_nil, greedy_push, greedy_sorted, known, length_push, none-some, one_answer, placed_no_cycle, same_Some, slice_get, slice_get_within, target}
+use Rattle.std.proofs.Common.{◌≡◌, ◌⊎◌, ◌+◌, ◌<◌, ℕ, zero, suc, List, [], ◌∷◌, ◌++◌, length, Some, inl, inr, sym, ◌∙◌, subst, arith}
+use Rattle.wit_syntax.proofs.Common.{AreAccepted, AreRefused, Id, IsBefore, IsComplete, IsCyclic, IsEdge, IsGreedy, IsMissing, Leads, ReachesCycle, Row, cases_lt, greedy_nil, greedy_push, greedy_sorted, known, length_push, none-some, one_answer, placed_no_cycle, same_Some, slice_get, slice_get_within, target}
+use Rattle.wit_graph.specs.Edges.{IsFirstEdge}
 use Rattle.wit_graph.proofs.Cycle.{before_or_not, stuck_cycle}
 use Rattle.wit_graph.proofs.Faults.{edge_index, edge_need}
 use Rattle.wit_graph.proofs.Outcome.{place_below}
 use Rattle.wit_walk.specs.Orders.{Outcome, InOrder, AtMissing, AtCycle, IsOutcome}
-
-none_or_some : {X : Type 0} (o : Option X) → (o ≡ None) ⊎ ((x : X) × (o ≡ Some x))
-none_or_some None = inl refl
-none_or_some (Some x) = inr (x, refl)
+use Rattle.wit_graph.proofs.Decided.{none_or_some}
 
 -- the least number below n that something holds of, or none
 module _ (P : ℕ → Type 0) (dec : (i : ℕ) → P i ⊎ (P i → ⊥)) where

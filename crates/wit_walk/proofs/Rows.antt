@@ -1,12 +1,11 @@
 -- Small files that break two rules, and the first fault of each, computed.
 use Rattle.std.proofs.Common.{◌≡◌, ◌<◌, ◌^◌, ℕ, suc, true, List, [], ◌∷◌, length, Option, Some, None, refl, lit<, arith}
-use Rattle.wit_syntax.proofs.Common.{AstItem, Attribute, Box, Func, FuncForm, Global, Id, Imported, PackageFile, Param, Row, Span, Tuple, TypeBody, Vec, codes, fault, fault_in, is_label, item_word, missing_at, missing_type_at}
+use Rattle.wit_syntax.proofs.Common.{AstItem, Attribute, Box, Func, FuncForm, Global, Id, Imported, PackageFile, Param, Row, Span, Tuple, TypeBody, Vec, codes, fault, fault_in, is_label, item_word, missing_at, missing_type_at, «Type» as Written}
 use denote.RawPtr.{Ptr}
 use Rattle.wit_type_tree.specs.declared.leaves.Docs.{Docs as Comments}
 use Rattle.wit_type_tree.specs.declared.leaves.Attribute.TheVariants as attribute
 use Rattle.wit_type_tree.specs.declared.types.FuncForm.TheVariants as form
 use Rattle.wit_type_tree.specs.declared.types.Primitive.TheVariants as primitive
-use Rattle.wit_type_tree.specs.declared.types.«Type».{«Type» as Written}
 use Rattle.wit_type_tree.specs.declared.types.«Type».TheVariants as written
 use Rattle.wit_type_tree.specs.declared.types.TypeBody.TheVariants as body
 use Rattle.wit_type_tree.specs.declared.types.TypeDef.{TypeDef}

@@ -1,7 +1,6 @@
 -- Tests of names that agree on the names in a written type find one fault in it.
 use Rattle.std.proofs.Common.{◌≡◌, List, [], ◌∷◌, Option, refl, sym, ap, ◌∙◌, Contains, arith}
-use Rattle.wit_syntax.proofs.Common.{Contains-append_left, Contains-append_right, Fault, Id, all_shapes, all_words, option_or, part_types, shape_of, words}
-use Rattle.wit_type_tree.specs.declared.types.«Type».{«Type» as Written}
+use Rattle.wit_syntax.proofs.Common.{Contains-append_left, Contains-append_right, Fault, Id, all_shapes, all_words, option_or, part_types, shape_of, words, «Type» as Written}
 use Rattle.wit_type_tree.specs.declared.types.«Type».TheVariants as written
 use Rattle.wit_first.specs.First.{first_in}
 use Rattle.wit_first.specs.TypeFaults.{type_fault, prefix_fault, back_fault}

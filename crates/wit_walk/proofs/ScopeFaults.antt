@@ -1,14 +1,13 @@
 -- What the first fault of the names of a scope breaks, of the order of its definitions, of a definition, and of an include.
 use Rattle.std.proofs.Common.{◌≡◌, ◌⊎◌, ℕ, Bool, true, false, List, [], ◌++◌, take, Option, Some, None, inl, inr, refl, sym, ap, ◌∙◌, Contains}
-use Rattle.wit_syntax.proofs.Common.{Address, AllDiffer, AtForeign, AtResource, Body, Contains-append_left, Defined, DefinedTwice, Elsewhere, End, Fault, ForeignName, Handle, Id, Include, IncludeStability, InterfaceIncluded, IsBroken, IsCyclicEdge, IsMissingEdge, IsNoType, IsOrder, Item, MissingName, OfFunction, OfNothing, PackageFile, Part, Row, Scope, ScopeName, SourceFunction, UseName, Used, Word, address, all_items, all_scopes, at_contains, at_part, body_types, bytes_eq, cases_Bool, contains_at, cyclic_at, defined, defined_at, differ_at, find_at, find_passes, find_some, flat_map, flat_map_at, flat_map_has, function_used, functions, handles, if◌then◌else◌, include_path, includes, interface_there, is_world_at, item_at, item_name, item_named, item_types, leads, list_any, local_id, local_name, map, meaning, missing_at, name_equal, name_itself, name_twice, name_types, name_word, no_resource, option_map, option_map_or, option_or, part_includes, parts, path_id, role_names, same_address, same_address-equal, scope, scope_names, shape_end, shape_of, slice_get, slice_get-map, used, used_at, words, written_types, is_none}
-use Rattle.wit_type_tree.specs.declared.types.TypeDef.{TypeDef}
-use Rattle.wit_type_tree.specs.declared.types.«Type».{«Type» as Written}
+use Rattle.wit_syntax.proofs.Common.{Address, AllDiffer, AtForeign, AtResource, Body, Contains-append_left, Defined, DefinedTwice, Elsewhere, End, Fault, ForeignName, Handle, Id, Include, IncludeStability, InterfaceIncluded, IsBroken, IsCyclicEdge, IsMissingEdge, IsNoType, IsOrder, Item, MissingName, OfFunction, OfNothing, PackageFile, Part, Row, Scope, ScopeName, SourceFunction, UseName, Used, Word, address, all_items, all_scopes, any_found, at_contains, at_part, body_types, bytes_eq, cases_Bool, contains_at, cyclic_at, defined, defined_at, find_at, find_passes, flat_map, flat_map_at, flat_map_has, function_used, functions, handles, if◌then◌else◌, include_path, includes, interface_there, is_none, is_world_at, item_at, item_name, item_types, leads, list_any, local_id, local_name, map, meaning, missing_at, name_equal, name_itself, name_twice, name_types, name_word, named_found, no_resource, option_map, option_map_or, option_or, part_includes, parts, path_id, role_names, same_address, same_address-equal, scope, scope_names, shape_end, shape_of, slice_get, slice_get-map, used, used_at, words, written_types, «Type» as Written}
 use Rattle.wit_syntax.specs.Broken.{Metadata}
+use Rattle.wit_type_tree.specs.declared.types.TypeDef.{TypeDef}
 use Rattle.wit_first.specs.AttributeFaults.{metadata_fault, stability_fault}
 use Rattle.wit_first.specs.First.{first_in, first_after, repeat_of}
 use Rattle.wit_first.specs.ListFaults.{list_fault}
 use Rattle.wit_first.specs.TypeFaults.{type_fault}
-use Rattle.wit_first.proofs.Bridge.{after_some, any_found, in_some, list_agrees, metadata_agree, or_some, stability_agrees}
+use Rattle.wit_first.proofs.Bridge.{after_some, in_some, list_agrees, metadata_agree, or_some, stability_agrees}
 use Rattle.wit_first.proofs.First.{any_some}
 use Rattle.wit_first.proofs.OrderFaults.{order_broken}
 use Rattle.wit_first.proofs.Repeats.{repeat_second}
@@ -42,15 +41,6 @@ if_false false g h is = refl
 pub unmeant : (m : Option ScopeName) (lost f : Fault) → (if is_none m then Some lost else None) ≡ Some f → (m ≡ None) × (f ≡ lost)
 unmeant None lost f h = (refl, same_fault f lost h)
 unmeant (Some x) lost f h = absurd (let g : ⊥ = cc in g)
-
--- the first item of a name, where names differ
-pub named_first : (ws : List Item) (t : ℕ) (w : Item) → AllDiffer (map item_name ws) → slice_get ws t ≡ Some w → item_named ws (item_name w) ≡ Some w
-named_first ws t w d at =
-    let test = λ (v : Item). bytes_eq (item_name v) (item_name w) in
-    let it = find_some test ws t w at (name_itself (item_name w)) in
-    let there = find_at test ws it.0 it.1 in
-    let place : there.0 ≡ t = differ_at item_name ws d there.0 t it.0 w there.1 at (name_equal (item_name it.0) (item_name w) (find_passes test ws it.0 it.1)) in
-    it.1 ∙ sym there.1 ∙ ap (slice_get ws) place ∙ at
 
 -- the names of functions that belong to no resource
 abbrev free_names : Item → List (List ℕ)
@@ -134,7 +124,7 @@ module _ (files : List PackageFile) (i : Item) (among : Contains (all_scopes fil
       let test = λ (v : Item). same_address (address v) from in
       let t = find_at test (all_items files) it.target it.at in
       let same : address it.target ≡ from = same_address-equal (address it.target) from (find_passes test (all_items files) it.target it.at) in
-      MissingName i among from attributes n has it.target (sym same) (named_first (all_items files) t.0 it.target d t.1) it.missing (no_type it.target n.name f it.is)
+      MissingName i among from attributes n has it.target (sym same) (named_found (all_items files) t.0 it.target d t.1) it.missing (no_type it.target n.name f it.is)
   use_broken d (Defined def) f has h = absurd (let g : ⊥ = cc in g)
   use_broken d (ForeignName attributes id) f has h = absurd (let g : ⊥ = cc in g)
 

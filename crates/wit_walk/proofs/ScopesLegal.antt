@@ -1,9 +1,8 @@
 -- Where the walk finds nothing in the names and definitions of an item, no rule about them is broken.
 use Rattle.std.proofs.Common.{◌≡◌, ◌≤◌, ℕ, zero, suc, List, [], ◌++◌, take, Option, Some, None, inl, inr, ap, ◌∙◌, subst, Contains, arith}
-use Rattle.wit_syntax.proofs.Common.{Address, AliasForm, AllDiffer, Attribute, Contains-append_cases, Defined, Elsewhere, End, Fault, ForeignName, Form, Id, IsBrokenBody, IsBrokenMetadata, IsNoResource, IsOrder, IsSecond, Item, More, Of, PackageFile, Prim, ScopeName, Shape, Shapes, UseName, Used, Word, about_name, address, all_declared, all_items, at_contains, at_prefix, body_types, contains_at, defined, defined_has, first_named, flat_map, functions, handles, in_order, in_order_all, item_at, item_name, item_named, item_types, local_id, local_name, map, meaning, meant_end, name_twice, name_types, named_end, no_resource, option_map_or, option_or, rows_of, scope, scope_names, shape_end, slice_get, unwrap_or, used, used_has, written_types, if◌then◌else◌, is_none}
-use Rattle.wit_type_tree.specs.declared.types.TypeDef.{TypeDef}
-use Rattle.wit_type_tree.specs.declared.types.«Type».{«Type» as Written}
+use Rattle.wit_syntax.proofs.Common.{Address, AliasForm, AllDiffer, Attribute, Contains-append_cases, Defined, Elsewhere, End, Fault, ForeignName, Form, Id, IsBrokenBody, IsBrokenMetadata, IsNoResource, IsOrder, IsSecond, Item, More, Of, PackageFile, Prim, ScopeName, Shape, Shapes, UseName, Used, Word, about_name, address, all_declared, all_items, at_contains, at_prefix, body_types, contains_at, defined, defined_has, first_named, flat_map, functions, handles, if◌then◌else◌, in_order, in_order_all, is_none, item_at, item_name, item_named, item_types, local_id, local_name, map, meaning, meant_end, name_twice, name_types, named_end, no_resource, option_map_or, option_or, rows_of, scope, scope_names, shape_end, slice_get, unwrap_or, used, used_has, written_types, «Type» as Written}
 use Rattle.wit_syntax.specs.Shape.{End as NoShape}
+use Rattle.wit_type_tree.specs.declared.types.TypeDef.{TypeDef}
 use Rattle.wit_first.specs.AttributeFaults.{metadata_fault}
 use Rattle.wit_first.specs.First.{first_in, first_after, repeat_of}
 use Rattle.wit_first.specs.ListFaults.{list_fault}

@@ -1,10 +1,10 @@
 -- What the first setter without its getter breaks.
-use Rattle.std.proofs.Common.{◌≡◌, ℕ, Bool, true, false, ◌&&◌, not, List, [], ◌∷◌, Some, None, inl, inr, refl, sym, ap, ◌∙◌, Contains}
-use Rattle.wit_syntax.proofs.Common.{Exported, Fault, FuncForm, Imported, Include, IsSetterAlone, IsUnpairedSetter, Item, SourceFunction, WorldSide, and_parts, at_contains, bytes_eq, contains_at, false_from_ne_true, functions, getter_of, if◌then◌else◌, includes, list_any, lone_setter, name_equal, name_itself, not-true, on_side, slice_get}
+use Rattle.std.proofs.Common.{if◌then◌else◌, ◌≡◌, ℕ, Bool, true, false, ◌&&◌, not, List, [], ◌∷◌, Some, None, inl, inr, refl, sym, ap, ◌∙◌, Contains, length, ◌==◌}
+use Rattle.wit_syntax.proofs.Common.{Exported, Fault, FuncForm, Imported, Include, IsSetterAlone, IsUnpairedSetter, Item, SourceFunction, WorldSide, and_parts, at_contains, bytes_eq, contains_at, eqb-suc-zero, functions, getter_of, includes, list_any, lone_setter, name_itself, not-true, on_side, option_or, slice_get}
 use Rattle.wit_type_tree.specs.declared.types.FuncForm.TheVariants as form
-use Rattle.wit_first.proofs.Bridge.{any_found, in_some, or_some}
+use Rattle.wit_first.proofs.Bridge.{in_some, or_some}
 use Rattle.wit_first.proofs.First.{any_some}
-use Rattle.wit_walk.specs.Setters.{is_setter, setter_fault, setters_fault, side_setters_fault, setters_beside}
+use Rattle.wit_walk.specs.Setters.{is_setter, setter_fault, setters_fault, side_setters_fault}
 use Rattle.wit_walk.proofs.ScopeFaults.{if_some}
 
 form_is : (it : FuncForm) → is_setter it ≡ true → it ≡ form.Setter
@@ -37,15 +37,6 @@ setter_alone_at fns fn f h =
       found.1,
     )
 
--- and where it is
-pub setter_found : (fns : List SourceFunction) (fn : SourceFunction) → IsAlone fns fn → setter_fault fns fn ≡ Some (lone_setter fn.name fn.span)
-setter_found fns fn alone =
-    let test = λ (g : SourceFunction). bytes_eq g.name (getter_of fn.name) in
-    let miss : list_any test fns ≡ false = false_from_ne_true (list_any test fns) (λ hit. (
-    let it = any_found test fns hit in
-    alone.none it.1 (contains_at fns it.0 it.1 it.2) (name_equal it.1.name (getter_of fn.name) it.3))) in
-    ap (λ (it : FuncForm). if is_setter it && not (list_any test fns) then Some (lone_setter fn.name fn.span) else None) alone.setter ∙ ap (λ (b : Bool). if true && not b then Some (lone_setter fn.name fn.span) else None) miss
-
 pub setter_wrong : (fns : List SourceFunction) (k : ℕ) (fn : SourceFunction) (f : Fault) → slice_get fns k ≡ Some fn → setter_fault fns fn ≡ Some f → IsUnpairedSetter fns f
 setter_wrong fns k fn f at h =
     let it = setter_alone_at fns fn f h in
@@ -57,12 +48,12 @@ side_wrong i side f h =
     let it = in_some (setter_fault fns) fns f h in
     setter_wrong fns it.0 it.1 f it.2 it.3
 
-alone_by : (i : Item) (ns : List Include) (f : Fault) → includes i ≡ ns → setters_beside i ns ≡ Some f → IsSetterAlone i f
+alone_by : (i : Item) (ns : List Include) (f : Fault) → includes i ≡ ns → (if length ns == 0 then option_or (side_setters_fault i Imported) (side_setters_fault i Exported) else None) ≡ Some f → IsSetterAlone i f
 alone_by i [] f none h = elim (or_some (side_setters_fault i Imported) (side_setters_fault i Exported) f h) [
   | inl own ↦ (none, Imported, side_wrong i Imported f own)
   | inr far ↦ (none, Exported, side_wrong i Exported f far.1)
 ]
-alone_by i (n ∷ ns) f some h = absurd (let g : ⊥ = cc in g)
+alone_by i (n ∷ ns) f some h = absurd (let wrong : None ≡ Some f = sym (ap (λ (b : Bool). if b then option_or (side_setters_fault i Imported) (side_setters_fault i Exported) else None) (eqb-suc-zero (length ns))) ∙ h in let g : ⊥ = cc in g)
 
 pub setter_alone : (i : Item) (f : Fault) → setters_fault i ≡ Some f → IsSetterAlone i f
 setter_alone i f h = alone_by i (includes i) f refl h

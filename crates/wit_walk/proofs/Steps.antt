@@ -1,8 +1,9 @@
 -- All names of files that end somewhere end there in one number of steps.
 use Rattle.std.proofs.Common.{◌≡◌, ◌⊎◌, ◌+◌, ◌≤◌, ◌<◌, ℕ, zero, suc, Bool, true, false, List, [], ◌∷◌, length, Option, Some, None, inl, inr, refl, sym, ap, ◌∙◌, subst, Contains, arith}
-use Rattle.wit_syntax.proofs.Common.{Address, AliasForm, Attribute, End, ForeignName, ForeignNamed, ForeignUse, Form, Id, InlineAt, InterfaceNamed, Item, More, Of, PackageFile, Prim, ScopeName, Shape, Shapes, Word, WorldNamed, about_name, address, all_scopes, at_contains, bytes_eq, cases_Bool, cases_lt, cond-false, cond-true, contains_at, filter, find_among, find_at, find_passes, first_foreign_uses, flat_map, flat_map_has, item_at, local_name, map, map_at, meaning, meant_end, named_end, option_map, option_map_or, same_address, same_address-equal, scope, scope_names, shape_end, slice_get, slice_get-map, unwrap_or}
+use Rattle.wit_syntax.proofs.Common.{Address, Attribute, End, ForeignName, ForeignNamed, ForeignUse, Id, InlineAt, InterfaceNamed, Item, Of, PackageFile, Prim, ScopeName, Shape, Word, WorldNamed, about_name, address, all_scopes, at_contains, bytes_eq, cases_Bool, cases_lt, cond-false, cond-true, contains_at, filter, find_among, find_at, find_passes, first_foreign_uses, flat_map, flat_map_has, item_at, local_name, map, map_at, meaning, meant_end, option_map, option_map_or, same_address, same_address-equal, scope, scope_names, shape_end, slice_get, slice_get-map, unwrap_or}
 use Rattle.std.specs.Prelude.{is_some}
 use Rattle.wit_walk.proofs.ScopesLegal.{meant_more, steps_more}
+use Rattle.wit_syntax.proofs.JoinedLegal.{named_by}
 
 -- what two tests keep of a list, where each that passes the one passes the other
 module _ {X : Type 0} (p q : X → Bool) (more : (x : X) → p x ≡ true → q x ≡ true) where
@@ -101,11 +102,6 @@ record Node : Type 0 where
 
 abbrev node : Address → ScopeName → Node
 node s x = record { at = s; name = x }
-
--- a name ends where it does wherever its parts end alike
-named_by : (f g : Shape → Option End) → ((x : Shape) → f x ≡ g x) → (s : Address) (name : List ℕ) (form : Form) (xs : Shapes) → named_end f s name form xs ≡ named_end g s name form xs
-named_by f g same s name AliasForm (More x xs) = same x
-named_by f g same s name _ xs = refl
 
 meant_by : (f g : Address → Shape → Option End) → ((s : Address) (x : Shape) → f s x ≡ g s x) → (s : Address) (m : Option ScopeName) → meant_end f s m ≡ meant_end g s m
 meant_by f g same s None = refl

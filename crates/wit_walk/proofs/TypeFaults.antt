@@ -1,7 +1,6 @@
 -- What the first fault of a written type is: something that is wrong with it, or the fault of a name in it.
 use Rattle.std.proofs.Common.{◌≡◌, ◌⊎◌, ℕ, zero, suc, List, [], ◌∷◌, ◌++◌, Option, Some, inl, inr, refl, sym, ap, ◌∙◌, subst, Contains, arith}
-use Rattle.wit_syntax.proofs.Common.{Both', Contains-append_left, Contains-append_right, Err', Fault, Id, Inside, IsBrokenForm, IsBrokenType, Itself, Neither, None', Ok', Row_of-Type, Some', all_handles, all_shapes, all_words, append-nil, contains_at, end_of-Type, handles, more_of-Type, option_or, part_types, row_handles, row_shapes, row_types, shape_of, slice_get, words}
-use Rattle.wit_type_tree.specs.declared.types.«Type».{«Type» as Written}
+use Rattle.wit_syntax.proofs.Common.{Both', Contains-append_left, Contains-append_right, Err', Fault, Id, Inside, IsBrokenForm, IsBrokenType, Itself, Neither, None', Ok', Row_of-Type, Some', all_handles, all_shapes, all_words, append-nil, contains_at, end_of-Type, handles, more_of-Type, option_or, part_types, row_handles, row_shapes, row_types, shape_of, slice_get, words, «Type» as Written}
 use Rattle.wit_type_tree.specs.declared.types.«Type».TheVariants as written
 use Rattle.wit_first.specs.First.{first_in}
 use Rattle.wit_first.specs.TypeFaults.{type_fault, prefix_fault, back_fault}

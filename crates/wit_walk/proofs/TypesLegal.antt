@@ -1,7 +1,6 @@
 -- A written type without a fault breaks no rule, and nothing is wrong with the names in it.
 use Rattle.std.proofs.Common.{◌≡◌, ◌⊎◌, ℕ, suc, List, [], ◌∷◌, ◌++◌, Option, Some, None, inl, inr, refl, sym, ap, ◌∙◌, subst, Contains}
-use Rattle.wit_syntax.proofs.Common.{Both', Contains-append_cases, Err', Fault, Id, Inside, IsBrokenForm, IsBrokenType, Itself, Neither, None', Ok', Some', after_one, all_handles, all_shapes, all_words, append-nil, at_contains, handles, part_types, row_types, shape_of, slice_get, words}
-use Rattle.wit_type_tree.specs.declared.types.«Type».{«Type» as Written}
+use Rattle.wit_syntax.proofs.Common.{Both', Contains-append_cases, Err', Fault, Id, Inside, IsBrokenForm, IsBrokenType, Itself, Neither, None', Ok', Some', after_one, all_handles, all_shapes, all_words, append-nil, at_contains, handles, part_types, row_types, shape_of, slice_get, words, «Type» as Written}
 use Rattle.wit_type_tree.specs.declared.types.«Type».TheVariants as written
 use Rattle.wit_first.specs.TypeFaults.{type_fault, prefix_fault, back_fault}
 use Rattle.wit_first.proofs.Bridge.{empty_agrees, in_only, key_agrees}

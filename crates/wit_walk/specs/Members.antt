@@ -33,12 +33,9 @@ is_extern x = true
 abbrev pub Sorted : Type 0
 Sorted = List ℕ × List ℕ
 
-abbrev pub sort_of : SideItem → List ℕ
-sort_of (SideFunction fn) = codes "func"
-sort_of x = codes "interface"
-
 abbrev pub item_sorted : SideItem → List Sorted
-item_sorted x = map (λ (c : Called). (c.name, sort_of x)) (item_called x)
+item_sorted (SideFunction fn) = (fn.name, codes "func") ∷ []
+item_sorted x = map (λ (c : Called). (c.name, codes "interface")) (item_called x)
 
 -- those of a side: types, and then what is there after them
 abbrev pub side_sorted : WorldSide → List ScopeName → List SideItem → List ℕ → List Sorted

@@ -1,12 +1,11 @@
 -- The first setter without its getter: E18.
-use Rattle.std.specs.Prelude.{◌&&◌, not, if◌then◌else◌, Bool, true, false, List, [], ◌∷◌, Option, None, Some}
+use Rattle.std.specs.Prelude.{◌&&◌, ◌==◌, not, if◌then◌else◌, Bool, true, false, List, length, Option, None, Some}
 use Rattle.std.specs.List.{list_any}
 use Rattle.std.specs.Option.{option_or}
 use Rattle.std.specs.Str.{bytes_eq}
 use Rattle.wit_names.specs.Setter.{getter_of}
 use Rattle.wit_type_tree.specs.declared.types.FuncForm.{FuncForm}
 use Rattle.wit_type_tree.specs.declared.types.FuncForm.TheVariants as form
-use Rattle.wit_tree.specs.declared.tree.Include.{Include}
 use Rattle.wit_tree.specs.declared.tree.WorldSide.{WorldSide}
 use Rattle.wit_tree.specs.declared.tree.WorldSide.TheVariants.{Imported, Exported}
 use Rattle.wit_syntax.specs.Fault.{Fault, lone_setter}
@@ -28,9 +27,5 @@ abbrev pub side_setters_fault : Item → WorldSide → Option Fault
 side_setters_fault i side = first_in (setter_fault (on_side side (functions i))) (on_side side (functions i))
 
 -- of an item that includes nothing: where a world is included, the getter may come with it
-abbrev pub setters_beside : Item → List Include → Option Fault
-setters_beside i [] = option_or (side_setters_fault i Imported) (side_setters_fault i Exported)
-setters_beside i (n ∷ rest) = None
-
 abbrev pub setters_fault : Item → Option Fault
-setters_fault i = setters_beside i (includes i)
+setters_fault i = if length (includes i) == 0 then option_or (side_setters_fault i Imported) (side_setters_fault i Exported) else None

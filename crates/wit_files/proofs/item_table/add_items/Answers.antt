@@ -1,5 +1,5 @@
 use Rattle.std.proofs.Common.{◌≡◌, List, ◌++◌, Option, Some, None, map, sym, ap, ◌∙◌, subst, Vec, Global}
-use Rattle.wit_syntax.proofs.Common.{AllDiffer, AstItem, Fault, Id, Item, TheInterface, TheWorld, TopName, declared_items, err_from_is_err_and, flat_map, item_name, item_row, rows, slice_get, slice_get-get_or, top_names, if◌then◌else◌, include_paths, is_world, option_or, use_paths}
+use Rattle.wit_syntax.proofs.Common.{AllDiffer, AstItem, Fault, Id, Item, TheInterface, TheWorld, TopName, declared_items, err_from_is_err_and, flat_map, if◌then◌else◌, include_paths, is_world, item_name, item_row, needed-paths, option_or, rows, slice_get, slice_get-get_or, top_names, use_paths}
 use Rattle.wit_tree.specs.declared.tree.AstItem.TheVariants.{Interface as InterfaceItem', World as WorldItem'}
 use Rattle.wit_first.specs.FileFaults.{paths_fault, unnamed_fault}
 use Rattle.wit_first.specs.First.{first_in}
@@ -8,7 +8,6 @@ use Rattle.wit_files.proofs.Gathering.{item_added, item_skipped}
 use Rattle.wit_files.proofs.item_table.add_items.Goals.{in-Interface+in_ok-interface_edges-in-Interface, in-World+in_ok-world_edges-in-World}
 use Rattle.wit_files.proofs.item_table.add_items.Goals as goal
 use Rattle.wit_top_names.specs.Checks.{edges_of}
-use Rattle.wit_syntax.proofs.NeededPaths.{needed-paths}
 
 -- of the item that a declaration makes
 abbrev wrong : List Item → List TopName → AstItem → Option Fault

@@ -1,5 +1,5 @@
 use Rattle.std.proofs.Common.{rules, ◌≡◌, List, [], ◌∷◌, Option, Some, inl, inr, refl, sym, ap, ◌∙◌, eqb-true}
-use Rattle.wit_syntax.proofs.Common.{Attribute, Fault, Span, fault, leads, nil_from_length, if◌then◌else◌, option_or}
+use Rattle.wit_syntax.proofs.Common.{Attribute, Fault, Span, fault, if◌then◌else◌, leads, nil_from_length, option_or}
 use Rattle.wit_first.specs.FileFaults.{lost_fault}
 use Rattle.wit_first.proofs.First.{finds_same}
 use Rattle.wit_top_names.proofs.top_name.check_top_use.Goals as goal

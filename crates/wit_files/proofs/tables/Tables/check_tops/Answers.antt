@@ -1,5 +1,5 @@
 use Rattle.std.proofs.Common.{◌≡◌, Some, sym, ap, ◌∙◌}
-use Rattle.wit_syntax.proofs.Common.{all_items, err_from_is_err_and, slice_get, slice_get-get_or, PackageFile}
+use Rattle.wit_syntax.proofs.Common.{PackageFile, all_items, err_from_is_err_and, slice_get, slice_get-get_or}
 use Rattle.wit_first.proofs.First.{in-all, in-next, reports-in}
 use Rattle.wit_files.proofs.tables.Tables.check_tops.Goals as goal
 use Rattle.wit_first.specs.First.{first_in}

@@ -1,5 +1,5 @@
 use Rattle.std.proofs.Common.{◌≡◌, None, take}
-use Rattle.wit_syntax.proofs.Common.{all_items, PackageFile}
+use Rattle.wit_syntax.proofs.Common.{PackageFile, all_items}
 use Rattle.wit_first.specs.First.{first_in}
 use Rattle.wit_files.proofs.tables.Tables.check_tops.Given as goal
 use Rattle.wit_first.specs.FileFaults.{top_fault}
