@@ -1,9 +1,8 @@
 -- The interfaces and worlds of items that are alike are equal.
 use Rattle.std.proofs.Common.{◌≡◌, ℕ, List, [], ◌∷◌, ◌++◌, map, Option, Some, None, refl, ap, ap₂, ◌∙◌}
-use Rattle.wit_syntax.proofs.Common.{Address, AllZip, Constructor, Docs, Exported, Extern, ExternalId, Freestanding, FuncForm, Id, Imported, Include, Item, Link, Metadata, Method, OnSide, Role, ScopeName, Shape, SideFunction, SideInline, SideItem, SideLink, SourceFunction, SourceParam, Span, Stability, Static, TopName, UsePath, WorldNamed, WorldSide, about, address, all_params, declared_metadata, docs_of, functions, includes, inline_items, leads, local_id, local_name, no_docs, option_map, path_id, path_scope, role_side, side_items, stability_of, stated_text, target_scope}
+use Rattle.wit_arena.proofs.Common.{Address, AllZip, Constructor, Def, Docs, Exported, Expr, Extern, ExternalId, Freestanding, FuncForm, Function, FunctionKind, Id, Imported, Include, Interface, Item, Key, Link, Metadata, Method, OnSide, Param, Role, ScopeName, Shape, SideFunction, SideInline, SideItem, SideLink, SourceFunction, SourceParam, Span, Stability, Static, TopName, UsePath, WorldInclude, WorldItem, WorldKey, WorldNamed, WorldSide, about, address, all_params, declared_metadata, docs_of, entries_on, expr_of, function_in, function_of, functions, include_in, includes, inline_entry, inline_items, interface, kinds_of, leads, link_item, link_key, link_span, local_id, local_name, name_imports, name_places, names_in_turn, no_docs, option_map, own_interface, own_world, path_id, path_scope, placed, renamed, role_kind, role_side, scope_place, settled, side_entries, side_items, stability_of, stated_text, target_scope, type_of, world, world_entries}
 use Rattle.wit_tree.specs.declared.tree.IncludeName.{IncludeName as Renaming}
 use Rattle.wit_types.specs.declared.types.«Type».{«Type» as Ty}
-use Rattle.wit_arena.proofs.Common.{Def, Expr, Function, FunctionKind, Interface, Key, Param, WorldInclude, WorldItem, WorldKey, entries_on, expr_of, function_in, function_of, include_in, inline_entry, interface, kinds_of, link_item, link_key, link_span, name_imports, name_places, names_in_turn, own_interface, own_world, placed, renamed, role_kind, scope_place, settled, side_entries, type_of, world, world_entries}
 use Rattle.wit_functions.specs.declared.function.FunctionKind.TheVariants as kind
 use Rattle.wit_model.specs.declared.world.IncludeName.{IncludeName}
 use Rattle.wit_model.specs.declared.world.WorldItem.TheVariants as item

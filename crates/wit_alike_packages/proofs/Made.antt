@@ -1,9 +1,8 @@
 -- Files that are alike make one package.
 use Rattle.std.proofs.Common.{◌≡◌, ℕ, List, ◌++◌, map, take, Some, inl, inr, refl, ap, ap₂, sym, ◌∙◌, subst}
-use Rattle.wit_syntax.proofs.Common.{Address, AllZip, Contains, Form, IsOrder, Item, Metadata, PackageFile, Row, ScopeName, Span, Stability, TypeDef, TypeOwner, about_name, all_items, all_scopes, firsts, flat_map, foreign_interfaces, foreign_uses, foreign_worlds, in_order, item_rows, last_header, one_answer, option_map, package_of, rows_of, same_edges, scope, scope_names, worlds_of}
+use Rattle.wit_arena.proofs.Common.{Address, AllZip, Contains, Def, Exprs, Form, Interface, IsEntryOf, IsOrder, Item, Key, Kind, Makes, Metadata, Occurrence, PackageFile, Row, ScopeName, Span, Stability, TypeDef, TypeOwner, UnresolvedPackage, Whole, World, about_name, all_items, all_occurrences, all_scopes, entry, firsts, flat_map, foreign_interface, foreign_interfaces, foreign_use_occurrence, foreign_uses, foreign_world, foreign_worlds, in_order, interface_scopes, item_rows, item_turns, keys, last_header, name_exprs, one_answer, option_map, own_interface, own_interfaces, own_world, owner_at, package_of, rows_of, same_edges, scope, scope_names, turn_handles, turn_occurrences, types_of, world_scopes, worlds_of}
 use Rattle.wit_tree.specs.declared.tree.PackageName.{PackageName as Header}
 use Rattle.wit_types.specs.declared.types.«Type».{«Type» as Ty}
-use Rattle.wit_arena.proofs.Common.{Def, Exprs, Interface, IsEntryOf, Key, Kind, Makes, Occurrence, UnresolvedPackage, Whole, World, all_occurrences, entry, foreign_interface, foreign_use_occurrence, foreign_world, interface_scopes, item_turns, keys, name_exprs, own_interface, own_interfaces, own_world, owner_at, turn_handles, turn_occurrences, types_of, world_scopes}
 use Rattle.wit_grammar.specs.Trees.{PackageId}
 use Rattle.wit_grammar.specs.Seen.{see_package_id}
 use Rattle.wit_alike.proofs.Lists.{both_of, both_same, zip_flat, zip_same}

@@ -1,6 +1,7 @@
 -- What occurs in names and functions that are alike is equal.
 use Rattle.std.proofs.Common.{◌≡◌, ℕ, List, [], ◌∷◌, ◌++◌, map, Option, Some, None, refl, ap, ap₂, ◌∙◌}
-use Rattle.wit_syntax.proofs.Common.{Address, AllZip, ForeignUse, Form, Metadata, Param, ScopeName, Shape, Shapes, SourceFunction, Span, Stability, Unknown, about_name, all_params, flat_map, local_name, option_to_list, signature, stability_of, unwrap_or, written_param}
+use Rattle.wit_arena.proofs.Common.{Address, AllZip, Def, Exprs, ForeignUse, Form, Metadata, More, Occurrence, Of, Prim, ScopeName, Shape, Shapes, SourceFunction, Span, Stability, Unknown, Use, Whole, about_name, all_function_occurrences, all_params, expr_of, exprs_of, flat_map, foreign_use_occurrence, local_name, name_exprs, name_occurrences, option_to_list, shape_occurrences, shapes_occurrences, signature, stability_of, unwrap_or, written_param}
+use Rattle.wit_walk.proofs.Common.{Param}
 use Rattle.wit_grammar.specs.Trees.{Function}
 use Rattle.wit_grammar.specs.Seen.{see_param}
 use Rattle.wit_syntax.specs.Shape as shape
@@ -11,7 +12,6 @@ use Rattle.wit_alike.proofs.Items.{SameName, same_from, same_local_name, same_na
 use Rattle.wit_alike.proofs.Functions.{SameFunction, SameParam, same_written_param}
 use Rattle.wit_alike.proofs.Foreign.{SameForeignUse}
 use Rattle.wit_alike.proofs.Walk.{flat_same}
-use Rattle.wit_arena.proofs.Common.{Def, Exprs, More, Occurrence, Of, Prim, Use, Whole, all_function_occurrences, expr_of, exprs_of, foreign_use_occurrence, name_exprs, name_occurrences, shape_occurrences, shapes_occurrences}
 use Rattle.wit_alike_packages.proofs.Stated.{same_name_metadata, same_name_span, same_stability_of}
 
 -- ---- expressions

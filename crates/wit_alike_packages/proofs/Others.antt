@@ -1,8 +1,8 @@
 -- What alike files name of other packages, and what they require of them.
 use Rattle.std.proofs.Common.{◌≡◌, ℕ, ◌+◌, Bool, not, cond, List, [], ◌∷◌, ◌++◌, map, length, Bor, Option, Some, None, refl, ap, ap₂, sym, ◌∙◌, subst}
-use Rattle.wit_syntax.proofs.Common.{Address, AllZip, AtForeign, AtResource, Contains, Docs, End, EndsAt, ForeignUse, ForeignVisit, Id, Item, PackageFile, PackageName, Span, Stability, Word, address, at_contains, contains_at, docs_of, filter, first_foreign_uses, foreign_interfaces, foreign_items, foreign_packages, foreign_visits, foreign_worlds, headers, if◌then◌else◌, length-map, no_metadata, package_of, prefix_len, same_address, same_item, same_package, scope, shape_end, slice_get, stability_of, visited, worlds_of, ◌==◌}
+use Rattle.wit_arena.proofs.Common.{Address, AllZip, AreRequired, AstItem, AtForeign, AtResource, Contains, Docs, EndsAt, ForeignUse, ForeignVisit, HandleRequires, Id, Item, Key, PackageFile, PackageName, Span, Stability, Word, address, at_contains, contains_at, dep, docs_of, filter, first_docs, first_foreign_uses, foreign_entry, foreign_interface, foreign_interfaces, foreign_items, foreign_packages, foreign_place, foreign_visits, foreign_world, foreign_worlds, headers, if◌then◌else◌, interface, interface_scopes, length-map, name_places, no_metadata, own_interfaces, package_of, prefix_len, same_address, same_item, same_package, scope, shape_end, slice_get, stability_of, visited, world, world_scopes, worlds_of, ◌==◌}
+use Rattle.wit_walk.proofs.Common.{End}
 use Rattle.wit_tree.specs.declared.tree.PackageName.{PackageName as Header}
-use Rattle.wit_arena.proofs.Common.{AreRequired, AstItem, HandleRequires, Key, dep, first_docs, foreign_entry, foreign_interface, foreign_place, foreign_world, interface, interface_scopes, name_places, own_interfaces, world, world_scopes}
 use Rattle.wit_model.specs.declared.ast_item.AstItem.TheVariants as entry
 use Rattle.wit_grammar.specs.Trees.{PackageId}
 use Rattle.wit_grammar.specs.Seen.{see_package_id}

@@ -1,6 +1,6 @@
 -- What is stated of things that are alike is equal.
 use Rattle.std.proofs.Common.{◌≡◌, ℕ, List, Option, Some, None, refl, ap, ap₂, sym, ◌∙◌}
-use Rattle.wit_syntax.proofs.Common.{Attribute, AttributeKind, Declared, Defined, Docs, ForeignName, Item, Metadata, Release, ScopeName, Stability, TheInline, TheInterface, TheWorld, Used, Version, about, about_name, attribute_text, attribute_version, declared_metadata, deprecation, docs_of, docs_text, first_of, metadata, no_docs, option_and_then, option_map, option_map_or, release_of, stability_of, stated_text, stated_version}
+use Rattle.wit_arena.proofs.Common.{Attribute, AttributeKind, Declared, Defined, Docs, ForeignName, Item, Metadata, Release, ScopeName, Stability, TheInline, TheInterface, TheWorld, Used, Version, about, about_name, attribute_text, attribute_version, declared_metadata, deprecation, docs_of, docs_text, first_of, metadata, no_docs, option_and_then, option_map, option_map_or, release_of, stability_of, stated_text, stated_version}
 use Rattle.wit_type_tree.specs.declared.leaves.Attribute.TheVariants.{Since, Unstable, Deprecated, ExternalId}
 use Rattle.wit_type_tree.specs.declared.leaves.Docs.{Docs as Comments}
 use Rattle.wit_type_tree.specs.declared.attribute_kind.AttributeKind.TheVariants as kind

@@ -1,7 +1,7 @@
 -- What is resolved of items that are alike is alike: names and functions in turn, what occurs in them, and the names in their handles.
 use Rattle.std.proofs.Common.{◌≡◌, ℕ, List, [], ◌∷◌, ◌++◌, map, ap, ap₂, ◌∙◌}
-use Rattle.wit_syntax.proofs.Common.{Address, AllZip, Both', Defined, Err', ForeignName, Id, Item, Neither, None', Ok', Param, Row_of-Type, ScopeName, SideFunction, SideInline, SideItem, SideLink, Some', SourceFunction, Used, address, all_handles, all_types, end_of-Type, flat_map, functions, handles, inline_items, interfaces_of, more_of-Type, name_types, option_to_list, row_handles, scope_names, side_items, worlds_of, written_types}
-use Rattle.wit_type_tree.specs.declared.types.«Type».{«Type» as Written}
+use Rattle.wit_arena.proofs.Common.{Address, AllZip, Both', Defined, Err', ForeignName, Id, Item, Neither, None', Occurrence, Ok', Row_of-Type, ScopeName, SideFunction, SideInline, SideItem, SideLink, Some', SourceFunction, Turned, Used, address, all_function_occurrences, all_handles, all_types, end_of-Type, flat_map, functions, handles, inline_items, interface_turn, interfaces_of, item_turns, more_of-Type, name_occurrences, name_types, names_in_turn, option_to_list, own_interfaces, row_handles, scope_names, side_items, turn_handles, turn_occurrences, turns_of_world, turns_on_sides, worlds_of, written_types, «Type» as Written}
+use Rattle.wit_walk.proofs.Common.{Param}
 use Rattle.wit_type_tree.specs.declared.types.«Type».TheVariants as written
 use Rattle.wit_grammar.specs.Trees.{Definition, Function, Parameter}
 use Rattle.wit_grammar.specs.Seen.{see_param, see_type}
@@ -14,7 +14,6 @@ use Rattle.wit_alike.proofs.Functions.{SameFunction, SameSide, same_functions, s
 use Rattle.wit_alike.proofs.Foreign.{same_inline_items}
 use Rattle.wit_alike.proofs.Scopes.{same_in_turn, same_interfaces, same_worlds}
 use Rattle.wit_alike.proofs.Walk.{flat_same}
-use Rattle.wit_arena.proofs.Common.{Occurrence, Turned, all_function_occurrences, interface_turn, item_turns, name_occurrences, names_in_turn, own_interfaces, turn_handles, turn_occurrences, turns_of_world, turns_on_sides}
 use Rattle.wit_alike_packages.proofs.Occurrences.{same_function_occurrences, same_name_occurrences, zip_option}
 
 -- ---- names in handles

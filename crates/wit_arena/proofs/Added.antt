@@ -1,18 +1,10 @@
 -- Interfaces that were added are done.
 use Rattle.std.proofs.Common.{◌≡◌, ℕ, ◌+◌, true, false, List, [], ◌∷◌, ◌++◌, length, map, Option, Some, inl, inr, refl, sym, ap, ◌∙◌, subst, append_assoc, length-append}
-use Rattle.wit_syntax.proofs.Common.{Address, Imported, InterfaceNamed, Item, PackageFile, ScopeName, TypeDef, TypeOwner, address, all_items, append-cancel, append-nil, at_back, at_part, at_prefix, flat_map, foreign_interfaces, foreign_uses, foreign_worlds, functions, functions_imported, in_turn, inline_items, is_foreign, length-map, map-append, option_map, scope, scope_names, slice_get, slice_get-map, unwrap_or, visited, about, declared_metadata}
-use Rattle.wit_model.specs.declared.interface.Interface.{Interface}
-use Rattle.wit_model.specs.declared.world.World.{World}
+use Rattle.wit_arena.proofs.Names.{Address, AddsDeclared, AddsForeign, AddsInterfaces, Decls, Defines, Imported, Interface, InterfaceNamed, IsInterface, Item, Names, Occurrence, PackageFile, Required, ResolvedScope, ScopeName, TypeDef, TypeOwner, World, about, address, all_items, all_occurrences, append-cancel, append-nil, at_back, at_part, at_prefix, declarations, declared_metadata, flat_map, foreign_interfaces, foreign_use_occurrence, foreign_uses, foreign_worlds, functions, functions_imported, in_turn, inline_items, interface_functions, is_foreign, length-map, map-append, option_map, owner_at, placed_functions, resolved_scope, resolved_scopes, scope, scope_names, slice_get, slice_get-map, unwrap_or, visited}
 use Rattle.wit_types.specs.declared.types.TypeOwner.TheVariants as owner
-use Rattle.wit_arena.specs.Occurrences.{Occurrence, Decls}
-use Rattle.wit_arena.specs.SourceFunctions.{placed_functions}
 use Rattle.wit_arena.proofs.FreeNames.{free_of, free_keyed}
 use Rattle.wit_arena.proofs.Stating.{stated_placed}
-use Rattle.wit_arena.specs.UnfoldedTypes.{interface_functions, IsInterface}
 use Rattle.wit_arena.proofs.Ordered.{Ordered}
-use Rattle.wit_arena.specs.Whole.{owner_at, foreign_use_occurrence, all_occurrences, declarations}
-use Rattle.wit_arena.specs.Resolving.{Names, ResolvedScope, Required, resolved_scope, resolved_scopes, Defines}
-use Rattle.wit_arena.specs.ResolvedArenas.{AddsDeclared, AddsInterfaces, AddsForeign}
 use Rattle.wit_arena.proofs.Adding.{After, adds_after}
 use Rattle.wit_arena.proofs.Indexing.{resolved_scopes-append}
 use Rattle.wit_arena.proofs.Members.{DoneScope, resolved_scope_of, IsDone}

@@ -1,8 +1,6 @@
 -- Items added one after another.
 use Rattle.std.proofs.Common.{◌≡◌, List, [], ◌∷◌, ◌++◌, refl, sym, ap, ◌∙◌, subst, append_assoc}
-use Rattle.wit_syntax.proofs.Common.{Item, TypeDef, append-nil}
-use Rattle.wit_arena.specs.Resolving.{Required}
-use Rattle.wit_arena.specs.ResolvedArenas.{AddsEach}
+use Rattle.wit_arena.proofs.Names.{AddsEach, Item, Required, TypeDef, append-nil}
 
 module _ {X : Type 0} (Adds : List TypeDef → List TypeDef → X → X → List Required → Item → Type 0) where
   pub adds_append : (a b c : List TypeDef) (i j k : X) (rs ss : List Required) (ws vs : List Item) → AddsEach Adds a b i j rs ws → AddsEach Adds b c j k ss vs → AddsEach Adds a c i k (rs ++ ss) (ws ++ vs)

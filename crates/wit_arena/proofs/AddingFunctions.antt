@@ -1,19 +1,10 @@
 -- Functions added to the arena one after another, each from the types in its signature.
 use Rattle.std.proofs.Common.{◌≡◌, ℕ, zero, suc, ◌+◌, List, [], ◌∷◌, ◌++◌, length, map, Some, inl, inr, refl, sym, ap, ◌∙◌, subst, arith, length-append}
-use Rattle.wit_syntax.proofs.Common.{Address, AreMetadata, Constructor, Freestanding, Method, OnSide, Role, Shape, SourceFunction, SourceParam, Static, TypeDef, Unknown, all_params, append-nil, at_back, at_prefix, at_split, docs_of, flat_map, flat_map-append, length-map, metadata, option_map, option_to_list, signature, slice_get, slice_get-map, slice_get_within}
+use Rattle.wit_arena.proofs.Names.{Address, AddsFunctions, AreAt, AreFunctions, AreMetadata, AreNames, AreResolved, AreShapes, Collects, Constructor, Env, Exprs, Freestanding, Function, FunctionKind, IsAt, IsFunction, IsKind, IsKindIn, Key, Method, Names, Occurrence, OnSide, Param, Role, SaysParam, Shape, SourceFunction, SourceParam, Static, TypeDef, Unknown, all_function_occurrences, all_params, append-nil, at_back, at_prefix, at_split, docs_of, env_of, expr_of, exprs_of, flat_map, flat_map-append, function_types, gathered, joined, keys, length-map, metadata, one, option_map, option_to_list, shape_occurrences, signature, slice_get, slice_get-map, slice_get_within}
 use Rattle.wit_types.specs.declared.types.«Type».{«Type» as Ty}
-use Rattle.wit_functions.specs.declared.function.Function.{Function}
-use Rattle.wit_functions.specs.declared.function.FunctionKind.{FunctionKind}
-use Rattle.wit_functions.specs.declared.function.Param.{Param}
-use Rattle.wit_arena.specs.SourceFunctions.{IsKind, IsFunction, AreFunctions}
-use Rattle.wit_arena.specs.Expr.{Exprs, one, joined, expr_of, exprs_of}
 use Rattle.wit_arena.specs.Expr as exprs
-use Rattle.wit_arena.specs.Occurrences.{Key, Occurrence, keys, IsAt, AreAt, Collects, shape_occurrences, all_function_occurrences}
-use Rattle.wit_arena.specs.UnfoldedTypes.{function_types}
-use Rattle.wit_arena.specs.Resolving.{Env, Names, env_of, AreNames, AreResolved, AddsFunctions}
 use Rattle.wit_arena.proofs.Occurrence.{collects_append, collects_extended, names_kept}
 use Rattle.wit_arena.proofs.Resolving.{resolved_none, resolved_more}
-use Rattle.wit_arena.specs.Adding.{gathered, AreShapes, IsKindIn, SaysParam}
 use Rattle.wit_arena.proofs.Signatures.{AreTyped, functions_extended, names_beside}
 
 -- functions after others

@@ -1,11 +1,7 @@
 -- Where scopes are among all, once all interfaces and all worlds are done.
 use Rattle.std.proofs.Common.{◌≡◌, ℕ, ◌+◌, List, ◌++◌, length, Some, sym, ap, ◌∙◌, arith}
-use Rattle.wit_syntax.proofs.Common.{Address, ForeignVisit, Item, PackageFile, TypeDef, at_back, at_prefix, flat_map, foreign_interfaces, foreign_worlds, map, slice_get, slice_get_within, visited}
-use Rattle.wit_model.specs.declared.interface.Interface.{Interface}
-use Rattle.wit_model.specs.declared.world.World.{World}
+use Rattle.wit_arena.proofs.Names.{Address, ForeignVisit, Interface, Item, PackageFile, Required, ResolvedScope, TypeDef, World, WorldArenas, at_back, at_prefix, flat_map, foreign_interfaces, foreign_worlds, map, slice_get, slice_get_within, visited}
 use Rattle.wit_arena.proofs.Ordered.{all_inside}
-use Rattle.wit_arena.specs.Resolving.{ResolvedScope, Required}
-use Rattle.wit_arena.specs.ResolvedArenas.{WorldArenas}
 use Rattle.wit_arena.proofs.Members.{DoneScope, resolved_scope_of}
 use Rattle.wit_arena.proofs.Prefix.{interface_scope, interface_scopes, world_scopes, prefix_scopes, interface_scope_at}
 use Rattle.wit_arena.proofs.Added.{InterfacesDone}

@@ -1,16 +1,14 @@
 -- Types that refer only backwards, in the words of the data model.
 use Rattle.std.proofs.Common.{ℕ, ◌≤◌, List, [], ◌∷◌, ◌++◌, Option, Some, None, All, arith, subst}
-use Rattle.wit_syntax.proofs.Common.{All-cons, All-head, All-nil, All-tail, Field, IsBackward, IsBelow as IsKindBelow, PackageFile, TypeDefKind, cons_option, filter_map, map, option_to_list, places_to, rank, map_map}
+use Rattle.wit_arena.proofs.Names.{All-cons, All-head, All-nil, All-tail, IsBackward, IsBelow, IsFaithful, PackageFile, TypeDefKind, UnresolvedPackage, cons_option, filter_map, kind_of, map, map_map, option_to_list, places_to, rank}
+use Rattle.wit_types.specs.declared.types.Field.{Field}
+use Rattle.wit_syntax.proofs.Common.{IsBelow as IsKindBelow}
+use Rattle.wit_types.specs.InnerTypes.{place_of}
 use Rattle.wit_types.specs.declared.types.«Type».{«Type» as Ty}
 use Rattle.wit_types.specs.declared.types.«Type».TheVariants as type
 use Rattle.wit_types.specs.declared.types.Case.{Case}
 use Rattle.wit_types.specs.declared.types.Handle.TheVariants as handle
 use Rattle.wit_types.specs.declared.types.TypeDefKind.TheVariants as kind
-use Rattle.wit_types.specs.InnerTypes.{place_of}
-use Rattle.wit_model.specs.declared.unresolved.UnresolvedPackage.{UnresolvedPackage}
-use Rattle.wit_arena.specs.Kind.{kind_of}
-use Rattle.wit_arena.specs.UnfoldedTypes.{IsBelow}
-use Rattle.wit_arena.specs.Faithful.{IsFaithful}
 
 -- each of these is below
 abbrev AreBelow : ℕ → List Ty → Type 0

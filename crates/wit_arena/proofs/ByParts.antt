@@ -1,17 +1,6 @@
 -- The package that files make, part by part: what the steps of resolving them come to.
-use Rattle.wit_syntax.proofs.Common.{Address, Exported, Imported, List, PackageFile, TypeDef, about, address, declared_metadata, first_foreign_uses, flat_map, foreign_interfaces, foreign_packages, foreign_worlds, functions as item_functions, includes, map, [], ◌++◌, ◌≡◌}
-use Rattle.wit_model.specs.declared.interface.Interface.{Interface}
-use Rattle.wit_model.specs.declared.world.World.{World}
-use Rattle.wit_model.specs.declared.unresolved.UnresolvedPackage.{UnresolvedPackage}
-use Rattle.wit_functions.specs.declared.function.Function.{Function}
-use Rattle.wit_arena.specs.SourceFunctions.{IsFunction, placed_functions}
-use Rattle.wit_arena.specs.SideItems.{HasSide}
-use Rattle.wit_arena.specs.Occurrences.{Collects, Key, Occurrence, keys, IsOccurrence}
-use Rattle.wit_arena.specs.OneByOne.{OneByOne}
-use Rattle.wit_arena.specs.Resolving.{Required}
-use Rattle.wit_arena.specs.UnfoldedTypes.{IsInterface, IsWorld, IsForeignWorld, world_types}
+use Rattle.wit_arena.proofs.Names.{Address, AreIncludes, AreRequired, Collects, Exported, Function, HasSide, HasTypes, Imported, Interface, IsForeignInterface, IsForeignWorld, IsFunction, IsInterface, IsOccurrence, IsWorld, Key, List, Occurrence, OneByOne, PackageFile, Required, TypeDef, UnresolvedPackage, World, [], about, address, all_occurrences, declarations, declared_metadata, dep, first_foreign_uses, flat_map, foreign_interfaces, foreign_packages, foreign_worlds, functions as item_functions, includes, keys, map, placed_functions, turn_handles, type_imports, world_types, ◌++◌, ◌≡◌}
 use Rattle.wit_arena.proofs.Ordered.{AreOrdered, Ordered, ordered_names, turned, OrderedWorld, all_turns, all_inside, addresses, interface_addresses, world_addresses}
-use Rattle.wit_arena.specs.Whole.{declarations, HasTypes, type_imports, AreIncludes, turn_handles, AreRequired, IsForeignInterface, all_occurrences, dep}
 
 -- a prefix of these belongs to some, one by one, and the rest to others
 abbrev pub BothParts : {X Y Z : Type 0} → (X → Z → Type 0) → (Y → Z → Type 0) → List X → List Y → List Z → Type 0

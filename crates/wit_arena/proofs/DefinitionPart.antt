@@ -1,13 +1,9 @@
 -- What occurs in the names of a scope, one after another.
 use Rattle.std.proofs.Common.{◌≡◌, ℕ, ◌+◌, cond, List, [], ◌∷◌, ◌++◌, length, Option, Some, None, nat_eq, inl, inr, refl, sym, ap, ◌∙◌, subst, append_assoc, arith}
-use Rattle.wit_syntax.proofs.Common.{Address, AreDistinct, Attribute, Defined, ScopeName, TypeDef, TypeDefKind, TypeOwner, UseName, Used, about_name, append-nil, at_back, at_either, at_prefix, at_seam, body_of, differ_at, differ_by, flat_map-append, insert_entry, local_name, local_names, lookup-insert_entry, map, map-append, name_cases, name_itself, names-insert_entry, pointwise, slice_get, slice_get_within, unwrap_or}
+use Rattle.wit_arena.proofs.Names.{Address, AreDistinct, AreKnown, AreNames, AreNew, AreResolved, Attribute, Collects, Decls, Def, Defined, Defines, End, Env, Exprs, IsAdded, IsExtended, IsOccurrence, IsSeen, IsUsed, Key, Names, Occurrence, ResolvedScope, ScopeName, TypeDef, TypeDefKind, TypeOwner, UseName, Used, about_name, all_seen, append-nil, at_back, at_either, at_prefix, at_seam, body_of, differ_at, differ_by, env_of, exprs_of, flat_map-append, insert_entry, keys, kind_of, local_name, local_names, lookup-insert_entry, map, map-append, name_cases, name_exprs, name_itself, name_occurrences, named, names-insert_entry, pointwise, shapes_occurrences, slice_get, slice_get_within, unwrap_or}
 use Rattle.wit_type_tree.specs.declared.types.TypeDef.{TypeDef as Definition}
 use Rattle.wit_types.specs.declared.types.TypeDefKind.TheVariants.{Type_}
 use Rattle.wit_types.specs.declared.types.«Type».TheVariants as type
-use Rattle.wit_arena.specs.Kind.{kind_of}
-use Rattle.wit_arena.specs.Expr.{Exprs, End, exprs_of, name_exprs}
-use Rattle.wit_arena.specs.Occurrences.{Key, Def, Occurrence, keys, IsSeen, Collects, Decls, IsOccurrence, shapes_occurrences, name_occurrences}
-use Rattle.wit_arena.specs.Resolving.{all_seen, Names, ResolvedScope, env_of, Env, AreNames, AreKnown, IsExtended, AreResolved, IsAdded, IsUsed, Defines, AreNew, named}
 use Rattle.wit_arena.proofs.Occurrence.{keys-append, collects_append, collects_from, collects_extended, names_kept, no_defs, occurrence_more, Has, has_either, has_from}
 use Rattle.wit_arena.proofs.Keys.{keys-shapes}
 use Rattle.wit_arena.proofs.Places.{key_extended, same_some}

@@ -1,11 +1,7 @@
 -- Whose the items of other packages are, by what a package names of others.
 use Rattle.std.proofs.Common.{◌≡◌, ◌≤◌, ℕ, suc, Bool, true, List, [], ◌∷◌, length, Some, None, ◌⊎◌, inl, inr, refl, sym, ap, ◌∙◌, arith, eqb-true, eq-eqb}
-use Rattle.wit_syntax.proofs.Common.{Address, AllDiffer, ForeignNamed, ForeignVisit, PackageFile, PackageName, Stability, cases_Bool, differ_at, filter, find, find_at, find_passes, find_some, firsts_at, firsts_has, flat_map, flat_map_at, flat_map_has, foreign_interfaces, foreign_items, foreign_packages, foreign_visits, foreign_worlds, if◌then◌else◌, kept_at, kept_has, map, map_at, not, option_map, package_of, same_address-equal, same_address-from, same_item, same_package, same_package-equal, same_package-from, slice_get, slice_get-map, slice_get_within, visited}
-use Rattle.wit_model.specs.declared.ast_item.AstItem.{AstItem}
+use Rattle.wit_arena.proofs.Names.{Address, AllDiffer, AstItem, ForeignNamed, ForeignVisit, PackageFile, PackageName, Stability, UnresolvedPackage, cases_Bool, dep, dep_items, differ_at, filter, find, find_at, find_passes, find_some, firsts_at, firsts_has, flat_map, flat_map_at, flat_map_has, foreign_entry, foreign_interfaces, foreign_items, foreign_owner, foreign_packages, foreign_place, foreign_visits, foreign_worlds, if◌then◌else◌, kept_at, kept_has, map, map_at, not, option_map, package_of, same_address-equal, same_address-from, same_entry, same_item, same_package, same_package-equal, same_package-from, slice_get, slice_get-map, slice_get_within, visited}
 use Rattle.wit_model.specs.declared.ast_item.AstItem.TheVariants as entry
-use Rattle.wit_model.specs.declared.unresolved.UnresolvedPackage.{UnresolvedPackage}
-use Rattle.wit_arena.specs.UnfoldedTypes.{dep_items, same_entry, foreign_owner}
-use Rattle.wit_arena.specs.Whole.{foreign_place, foreign_entry, dep}
 use Rattle.wit_arena.proofs.Interfaces.{prefix_len-only}
 use Rattle.wit_arena.proofs.Visits.{interfaces_differ, worlds_differ, interface_visit, world_visit}
 use Rattle.wit_arena.proofs.Turns.{dep_item}

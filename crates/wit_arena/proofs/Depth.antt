@@ -1,19 +1,14 @@
 -- Where each type is at its place, its tree is the same at every depth.
 use Rattle.std.proofs.Common.{◌≡◌, ℕ, zero, suc, List, [], ◌∷◌, map, Some, refl, sym, ap, ◌∙◌}
-use Rattle.wit_syntax.proofs.Common.{Address, AreDistinct, AreMetadata, Form, PackageFile, ScopeName, Shape, Shapes, TypeDef, TypeOwner, Unnamed, about_name, local_name, meaning, named_node, node_map, placed, scope, slice_get, source_tree, unwrap_or}
-use Rattle.wit_model.specs.declared.unresolved.UnresolvedPackage.{UnresolvedPackage}
+use Rattle.wit_arena.proofs.Names.{Address, AreAt, AreDistinct, AreMetadata, Decls, Def, Form, IsAt, IsKeyed, Key, PackageFile, ScopeName, Shape, Shapes, TypeDef, TypeOwner, Unnamed, UnresolvedPackage, Whole, about_name, entry_head, expr_of, exprs_of, found_by, kind_of, local_name, meaning, name_exprs, named_node, node_map, owner_of, package_tree, scope, slice_get, source_tree, unwrap_or}
+use Rattle.wit_syntax.proofs.Common.{placed}
+use Rattle.wit_syntax.specs.Source.{head}
 use Rattle.wit_types.specs.declared.types.«Type».{«Type» as Ty}
 use Rattle.wit_types.specs.declared.types.«Type».TheVariants as type
-use Rattle.wit_arena.specs.Kind.{kind_of}
 use Rattle.wit_syntax.specs.Shape as shape
-use Rattle.wit_syntax.specs.Source.{head}
-use Rattle.wit_arena.specs.Expr.{expr_of, exprs_of, name_exprs}
-use Rattle.wit_arena.specs.Occurrences.{Key, Def, Whole, IsAt, AreAt, Decls, IsKeyed}
-use Rattle.wit_arena.specs.UnfoldedTypes.{package_tree, entry_head, owner_of}
 use Rattle.wit_arena.proofs.Primitives.{primitive_node}
 use Rattle.wit_arena.proofs.Places.{all_at_untaken}
 use Rattle.wit_arena.proofs.Shape.{entry_of_key}
-use Rattle.wit_arena.proofs.Itemizing.{found_by}
 
 -- the one name of a scope that goes by a name is found
 pub meaning_found : (xs : List ScopeName) (k : ℕ) (x : ScopeName) (name : List ℕ) → AreDistinct xs → slice_get xs k ≡ Some x → local_name x ≡ name → meaning xs name ≡ Some x

@@ -1,10 +1,6 @@
 -- From scopes that are done to names and functions that are, one by one, and back.
 use Rattle.std.proofs.Common.{◌≡◌, ℕ, zero, suc, List, [], ◌∷◌, ◌++◌, length, map, Some, inl, inr, sym, ap, ◌∙◌, subst}
-use Rattle.wit_syntax.proofs.Common.{Address, AllDiffer, PackageFile, SourceFunction, TypeDef, at_either, at_prefix, at_seam, differ_more, flat_map, flat_map_at, local_name, map-append, map_at, option_map, scope, slice_get, slice_get-map}
-use Rattle.wit_functions.specs.declared.function.Function.{Function}
-use Rattle.wit_arena.specs.SourceFunctions.{IsFunction, AreFunctions}
-use Rattle.wit_arena.specs.Occurrences.{Def, Occurrence, keys, Decls}
-use Rattle.wit_arena.specs.Resolving.{ResolvedScope, env_of, AreNames, AreKnown, AreNew, IsDefined, Defines}
+use Rattle.wit_arena.proofs.Names.{Address, AllDiffer, AreFunctions, AreKnown, AreNames, AreNew, Decls, Def, Defines, Function, IsDefined, IsFunction, Occurrence, PackageFile, ResolvedScope, SourceFunction, TypeDef, at_either, at_prefix, at_seam, differ_more, env_of, flat_map, flat_map_at, keys, local_name, map-append, map_at, option_map, scope, slice_get, slice_get-map}
 use Rattle.wit_arena.proofs.DefinitionPart.{name_seen_in, known_kept}
 use Rattle.wit_arena.proofs.FunctionPart.{DoneFunction, done_functions, scope_functions, AreDoneNames, IsFunctionPart, AreWhole}
 use Rattle.wit_arena.proofs.Occurrence.{collects_append, collects_from, collects_extended}

@@ -1,9 +1,6 @@
 -- Scopes that are done, one after another.
 use Rattle.std.proofs.Common.{◌≡◌, ℕ, List, [], ◌∷◌, ◌++◌, length, Some, inl, inr, sym, ap, ◌∙◌, subst}
-use Rattle.wit_syntax.proofs.Common.{Address, AllDiffer, PackageFile, ScopeName, SourceFunction, TypeDef, TypeOwner, all_handles, all_types, at_either, at_prefix, at_seam, differ_more, local_name, map, map-append, map_at, option_map, scope, slice_get, slice_get-map}
-use Rattle.wit_arena.specs.Occurrences.{Key, Def, Occurrence, keys, Decls, Collects, all_function_occurrences}
-use Rattle.wit_arena.specs.Whole.{functions_at, turn_occurrences, turn_handles, AreRequired}
-use Rattle.wit_arena.specs.Resolving.{ResolvedScope, env_of, AreNames, AreKnown, AreNew, IsDefined, Defines, HasFunctions, AddsFunctions, AreEnded, AreOwned}
+use Rattle.wit_arena.proofs.Names.{Address, AddsFunctions, AllDiffer, AreEnded, AreKnown, AreNames, AreNew, AreOwned, AreRequired, Collects, Decls, Def, Defines, HasFunctions, IsDefined, Key, Occurrence, PackageFile, ResolvedScope, ScopeName, SourceFunction, TypeDef, TypeOwner, all_function_occurrences, all_handles, all_types, at_either, at_prefix, at_seam, differ_more, env_of, functions_at, keys, local_name, map, map-append, map_at, option_map, scope, slice_get, slice_get-map, turn_handles, turn_occurrences}
 use Rattle.wit_arena.proofs.Occurrence.{Has, has_either, keys-append, collects_append, collects_from, collects_extended}
 use Rattle.wit_arena.proofs.FreeNames.{AreStated}
 use Rattle.wit_arena.proofs.Signatures.{no_name_in_functions, names_beside, known_beside, functions_extended}

@@ -1,19 +1,7 @@
 -- What is once worlds are done, each with the interfaces that are written in it.
 use Rattle.std.proofs.Common.{◌≡◌, ℕ, suc, ◌+◌, List, [], ◌∷◌, ◌++◌, length, map, Some, ◌⊎◌, inl, inr, refl, sym, ap, ◌∙◌, subst, append_assoc, arith}
-use Rattle.wit_syntax.proofs.Common.{Address, Exported, FunctionKey, Id, Imported, Include, Item, PackageFile, ScopeName, SideFunction, SideInline, SideItem, SideLink, TopName, TypeDef, WorldNamed, about, address, after_one, all_handles, append-nil, at_back, at_either, at_part, at_prefix, at_split, declared_metadata, flat_map, flat_map-append, flat_map_at, flat_map_has, foreign_interfaces, functions, handles, includes, inline_after, inline_items, item_inline, leads, local_names, map_at, name_types, option_map, side_items, slice_get, slice_get-map, target_scope, visited}
-use Rattle.wit_functions.specs.declared.function.Function.{Function}
-use Rattle.wit_model.specs.declared.world.World.{World}
-use Rattle.wit_model.specs.declared.world.WorldInclude.{WorldInclude}
-use Rattle.wit_model.specs.declared.world.WorldKey.{WorldKey}
-use Rattle.wit_model.specs.declared.world.WorldItem.{WorldItem}
-use Rattle.wit_type_tree.specs.declared.types.«Type».{«Type» as Written}
-use Rattle.wit_arena.specs.Occurrences.{Occurrence, keys, Collects, Decls}
-use Rattle.wit_arena.specs.UnfoldedTypes.{IsWorld, import_types, world_types, world_functions}
-use Rattle.wit_arena.specs.ResolvedArenas.{WorldArenas}
-use Rattle.wit_arena.specs.Resolving.{Names, ResolvedScope, Required}
-use Rattle.wit_arena.specs.SideItems.{HasSide}
+use Rattle.wit_arena.proofs.Names.{Address, AreIncludes, AreRequired, Collects, Decls, Exported, Function, FunctionKey, HasSide, Id, Imported, Include, IsInclude, IsWorld, Item, Names, Occurrence, PackageFile, Required, ResolvedScope, ScopeName, SideFunction, SideInline, SideItem, SideLink, TopName, Turned, TypeDef, World, WorldArenas, WorldInclude, WorldItem, WorldKey, WorldNamed, about, address, after_one, all_handles, all_occurrences, append-nil, at_back, at_either, at_part, at_prefix, at_split, declared_metadata, flat_map, flat_map-append, flat_map_at, flat_map_has, foreign_interfaces, foreign_use_occurrence, functions, import_types, includes, inline_after, inline_items, item_inline, keys, leads, local_names, map_at, name_types, option_map, side_items, slice_get, slice_get-map, target_scope, turn_handles, turn_occurrences, type_imports, visited, world_functions, world_types, «Type» as Written}
 use Rattle.wit_arena.proofs.Ordered.{Ordered, OrderedWorld, addresses, turned, side_turns, world_turns, all_turns, all_inside}
-use Rattle.wit_arena.specs.Whole.{Turned, turn_occurrences, foreign_use_occurrence, all_occurrences, turn_handles, AreRequired, type_imports, IsInclude, AreIncludes}
 use Rattle.wit_syntax.specs.Source as source
 use Rattle.wit_arena.proofs.Added.{WorldOwner, inside_of, interface_list, world_list, decls}
 use Rattle.wit_arena.proofs.FunctionPart.{DoneFunction, IsFunctionPart}
@@ -106,10 +94,6 @@ flat_map_longer {X} {Y} f (x ∷ xs) (z ∷ ys) longer t y at =
     let here : Some z ≡ Some x = longer 0 x refl in
     let same : x ≡ z = cc in
     ap (λ (u : X). slice_get (f u ++ flat_map f ys) t) (sym same) ∙ prefix_longer (f x) (flat_map f xs) (flat_map f ys) (flat_map_longer f xs ys (λ k. longer (suc k))) t y at
-
-pub all_handles-append : (ts us : List Written) → all_handles (ts ++ us) ≡ all_handles ts ++ all_handles us
-all_handles-append [] us = refl
-all_handles-append (t ∷ ts) us = ap (λ (l : List Id). handles t ++ l) (all_handles-append ts us) ∙ sym (append_assoc (handles t) (all_handles ts) (all_handles us))
 
 -- what occurs in scopes after others
 pub turns_occurrences : (files : List PackageFile) (ts us : List Turned) → all_occurrences files (ts ++ us) ≡ all_occurrences files ts ++ occurrences us

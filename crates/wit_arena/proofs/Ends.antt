@@ -1,16 +1,12 @@
 -- Where names end: entries of the arena end where the trees of their names do.
 use Rattle.std.proofs.Common.{◌≡◌, ℕ, zero, suc, ◌<◌, List, [], ◌∷◌, ◌++◌, length, Option, Some, None, ◌⊎◌, inl, inr, refl, sym, ap, ◌∙◌, subst, arith}
-use Rattle.wit_syntax.proofs.Common.{Address, AliasForm, AreDistinct, AtForeign, AtResource, Defined, Elsewhere, End, EndsAt, ForeignName, Form, Id, More, None', PackageFile, Plain, Prim, Primitive, ResourceForm, ScopeName, Shape, Shapes, TypeBody, TypeDef, TypeOwner, UnknownForm, Used, Word, about_name, at_prefix, at_within, body_of, drop, length-take-le, local_name, meaning, meant_end, named_end, one, primitive_type, scope, shape_end, slice_get, slice_get_within, take, take-append-drop, take-append-le, unwrap_or, written_body}
+use Rattle.wit_arena.proofs.Names.{Address, AliasForm, AreAt, AreDistinct, AtForeign, AtResource, Decls, Def, Defined, Elsewhere, EndsAt, EntryEnd, ForeignName, Form, Id, IsKeyed, IsOther, IsResource, IsUnknown, Key, None', PackageFile, Plain, Primitive, ResourceForm, ScopeName, Shape, Shapes, TypeBody, TypeDef, TypeOwner, UnknownForm, Used, Word, about_name, at_prefix, at_within, body_of, drop, entry_end, exprs_of, found_end, kind_end, kind_of, length-take-le, local_name, meaning, meant_end, name_exprs, named_end, part_end, primitive_type, scope, shape_end, slice_get, slice_get_within, take, take-append-drop, take-append-le, unwrap_or, written_body, «Type» as Written}
+use Rattle.wit_syntax.proofs.Common.{End, More, Prim, one}
 use Rattle.wit_type_tree.specs.declared.types.Primitive.TheVariants as primitive
-use Rattle.wit_type_tree.specs.declared.types.«Type».{«Type» as Written}
 use Rattle.wit_type_tree.specs.declared.types.«Type».TheVariants as written
 use Rattle.wit_types.specs.declared.types.«Type».{«Type» as Ty}
 use Rattle.wit_types.specs.declared.types.«Type».TheVariants as type
-use Rattle.wit_arena.specs.Kind.{kind_of}
-use Rattle.wit_arena.specs.Expr.{exprs_of, name_exprs}
-use Rattle.wit_arena.specs.Occurrences.{Key, Def, AreAt, Decls, IsKeyed}
 use Rattle.wit_arena.proofs.Parts.{HasPart}
-use Rattle.wit_arena.specs.EntryEnds.{EntryEnd, IsResource, IsUnknown, IsOther, part_end, kind_end, found_end, entry_end}
 use Rattle.wit_arena.proofs.Places.{all_at_untaken, same_some}
 use Rattle.wit_arena.proofs.Shape.{entry_of_key, backward}
 use Rattle.wit_arena.proofs.Depth.{meaning_found}

@@ -1,19 +1,9 @@
 -- What follows for a package whose scopes are done.
 use Rattle.std.proofs.Common.{◌≡◌, ◌↔◌, ◌<◌, ℕ, List, [], ◌∷◌, length, map, take, Option, Some, None, ◌⊎◌, Contains, arith, inl, inr, refl, sym, ap, ◌∙◌, subst}
-use Rattle.wit_syntax.proofs.Common.{Address, AllDiffer, Form, FunctionKey, PackageFile, Place, ScopeName, Shape, SourceFunction, TypeDef, TypeOwner, UnknownForm, Word, about_name, at_contains, at_within, contains_at, differ_at, first_foreign_uses, function_key, local_id, local_name, lookup-place, named_node, role_side, scope, signature, slice_get, slice_get_within, unwrap_or}
+use Rattle.wit_arena.proofs.Names.{Address, AllDiffer, Decls, Def, Expr, Exprs, Form, Function, FunctionKey, HasType, IsAnonymousForm, IsAt, IsBelow, IsEntry, IsFaithful, IsFunction, IsRoot, Key, Names, Occurrence, OfFunction, OfName, PackageFile, Place, ScopeName, Shape, SourceFunction, TypeDef, TypeOwner, UnknownForm, UnresolvedPackage, Whole, Word, about_name, at_contains, at_within, contains_at, differ_at, expr_of, first_foreign_uses, function_key, function_types, functions_at, functions_of, keys, kind_of, local_id, local_name, lookup-place, named_node, names_of, node_parts, owner_of, role_side, scope, signature, slice_get, slice_get_within, unwrap_or}
 use Rattle.wit_types.specs.declared.types.«Type».{«Type» as Ty}
 use Rattle.wit_types.specs.declared.types.«Type».TheVariants.{Id}
-use Rattle.wit_model.specs.declared.unresolved.UnresolvedPackage.{UnresolvedPackage}
-use Rattle.wit_arena.specs.Kind.{kind_of}
-use Rattle.wit_arena.specs.Expr.{Expr, Exprs, expr_of}
-use Rattle.wit_arena.specs.Occurrences.{Key, Def, Whole, Occurrence, keys, IsAt, Decls, IsEntry}
-use Rattle.wit_arena.specs.UnfoldedTypes.{owner_of, names_of, functions_of, function_types, IsBelow}
-use Rattle.wit_functions.specs.declared.function.Function.{Function}
-use Rattle.wit_arena.specs.SourceFunctions.{IsFunction}
 use Rattle.wit_arena.proofs.Signatures.{function_typed, type_of}
-use Rattle.wit_arena.specs.Whole.{functions_at}
-use Rattle.wit_arena.specs.Faithful.{node_parts, IsRoot, OfName, OfFunction, HasType, IsAnonymousForm, IsFaithful}
-use Rattle.wit_arena.specs.Resolving.{Names}
 use Rattle.wit_arena.proofs.Places.{Extended, at_injective, at_functional, same_some}
 use Rattle.wit_arena.proofs.Occurrence.{Has, collects_from}
 use Rattle.wit_arena.proofs.Parts.{all_parts}

@@ -1,7 +1,6 @@
 -- What is first seen, as the first of each.
 use Rattle.std.proofs.Common.{◌≡◌, ◌↔◌, zero, suc, Bool, true, false, not, cond, ◌&&◌, List, [], ◌∷◌, ◌++◌, Some, inl, inr, refl, sym, ap, ◌∙◌, subst, append_assoc, append-nil}
-use Rattle.wit_syntax.proofs.Common.{AllDiffer, and_parts, both_ways, cases_Bool, cond-false, cond-true, filter, firsts, firsts_differ, not-true, not_from_false, not_from_true}
-use Rattle.wit_arena.specs.Occurrences.{Key, Occurrence, keys, IsSeen, Collects}
+use Rattle.wit_arena.proofs.Names.{AllDiffer, Collects, IsSeen, Key, Occurrence, and_parts, both_ways, cases_Bool, cond-false, cond-true, filter, firsts, firsts_differ, keys, not-true, not_from_false, not_from_true}
 use Rattle.wit_arena.proofs.Occurrence.{collects_one}
 
 -- what two tests keep, one after the other, is what both keep

@@ -1,8 +1,7 @@
 -- The names that items use from other packages, where each is first used.
 use Rattle.std.proofs.Common.{◌≡◌, ℕ, zero, Bool, true, cond, List, [], ◌∷◌, ◌++◌, Some, Contains, inl, inr, refl, sym, ap, ◌∙◌, subst, append_assoc}
-use Rattle.wit_syntax.proofs.Common.{Address, AllDiffer, AreDistinct, Exported, Extern, ExternPart, Foreign, ForeignName, ForeignUse, ForeignVisit, Id, Imported, InterfaceNamed, Item, Local, PackageFile, PackageName, Part, ScopeName, Target, TopName, Use, UseName, UsePart, WorldSide, all_items, and_from, and_parts, append-nil, at_contains, at_prefix, at_side, both_ways, bytes_eq, cases_Bool, differ_at, differ_by, filter, first_foreign_uses, firsts, firsts-more, firsts_at, firsts_differ, firsts_has, flat_map, flat_map_at, flat_map_has, foreign_interfaces, foreign_uses, inline_uses, is_foreign, item_foreign_uses, kept_at, kept_differ, kept_has, leads, local_name, map, map-append, map_at, map_map, name_equal, name_itself, option_map, part_foreign_uses, part_uses, parts, path_scope, same_address, same_address-equal, same_address-from, same_foreign_use, same_side, side_itself, slice_get, slice_get-map, target_scope, use_foreign_uses, use_of_foreign, used_names, uses, visited, walk}
-use Rattle.wit_arena.specs.Occurrences.{Key, Def, Occurrence, keys, Collects}
-use Rattle.wit_arena.specs.Whole.{foreign_use_occurrence}
+use Rattle.wit_arena.proofs.Names.{Address, AllDiffer, AreDistinct, Collects, Def, Exported, Extern, ExternPart, Foreign, ForeignName, ForeignUse, ForeignVisit, Id, Imported, InterfaceNamed, Item, Key, Local, Occurrence, PackageFile, PackageName, Part, ScopeName, Target, TopName, UseName, UsePart, WorldSide, all_items, and_from, and_parts, append-nil, at_contains, at_prefix, at_side, both_ways, bytes_eq, cases_Bool, differ_at, differ_by, filter, first_foreign_uses, firsts, firsts-more, firsts_at, firsts_differ, firsts_has, flat_map, flat_map_at, flat_map_has, foreign_interfaces, foreign_use_occurrence, foreign_uses, inline_uses, is_foreign, item_foreign_uses, kept_at, kept_differ, kept_has, keys, leads, local_name, map, map-append, map_at, map_map, name_equal, name_itself, option_map, part_foreign_uses, part_uses, parts, path_scope, same_address, same_address-equal, same_address-from, same_foreign_use, same_side, side_itself, slice_get, slice_get-map, target_scope, use_foreign_uses, use_of_foreign, used_names, uses, visited, walk}
+use Rattle.wit_syntax.proofs.Common.{Use}
 use Rattle.wit_arena.proofs.Visits.{side_has, side_at, part_use_at, use_at, used_interface_visit, AreUsableUses}
 use Rattle.wit_arena.proofs.Places.{same_some}
 

@@ -1,17 +1,12 @@
 -- What occurs in a type without a name: forms that an unnamed type can have.
 use Rattle.std.proofs.Common.{◌≡◌, ℕ, zero, suc, List, [], ◌∷◌, map, Option, Some, None, inl, inr, subst}
-use Rattle.wit_syntax.proofs.Common.{Address, DefinitionPart, ExternPart, FunctionPart, Id, Item, PackageFile, Param, Part, ResourceFunc, Shape, SourceFunction, SourceParam, TypeBody, Word, all_params, all_scopes, at_split, definition_functions, extern_at, flat_map_at, functions, item_at, map_at, option_map, option_map_or, option_to_list, part_functions, parts, resource_function, self_param, shape_of, signature, slice_get, written_param, Both', Defined, Err', Form, Neither, None', Ok', Plain, Record, ResultTypes, Row_of-Type, ScopeName, Shapes, Some', UnknownForm, Variant, all_shapes, body_of, case_types, end_of-Type, field_types, head, more_of-Type, result_shapes, row_shapes, written_body}
-use Rattle.wit_type_tree.specs.declared.types.«Type».{«Type» as Written}
+use Rattle.wit_arena.proofs.Names.{Address, Both', Defined, DefinitionPart, Err', Exprs, ExternPart, Form, FunctionPart, Id, IsAnonymousForm, Item, Neither, None', Ok', PackageFile, Part, Plain, Record, ResourceFunc, ResultTypes, Row_of-Type, ScopeName, Shape, Shapes, Some', SourceFunction, SourceParam, TypeBody, UnknownForm, Variant, Whole, Word, all_params, all_scopes, all_seen, all_shapes, at_split, body_of, case_types, definition_functions, end_of-Type, expr_of, exprs_of, extern_at, field_types, flat_map_at, functions, functions_at, head, item_at, map_at, more_of-Type, name_exprs, option_map, option_map_or, option_to_list, part_functions, parts, resource_function, result_shapes, row_shapes, seen, self_param, shape_of, signature, slice_get, written_body, written_param, «Type» as Written}
+use Rattle.wit_syntax.proofs.Common.{Param}
 use Rattle.wit_type_tree.specs.declared.types.TypeBody.TheVariants as body
 use Rattle.wit_type_tree.specs.declared.types.ResourceFunc.TheVariants as resource
-use Rattle.wit_arena.specs.Whole.{functions_at}
 use Rattle.wit_arena.proofs.Places.{same_some}
 use Rattle.wit_type_tree.specs.declared.types.«Type».TheVariants as written
 use Rattle.wit_syntax.specs.Shape as shape
-use Rattle.wit_arena.specs.Expr.{Exprs, expr_of, exprs_of, name_exprs}
-use Rattle.wit_arena.specs.Occurrences.{Whole}
-use Rattle.wit_arena.specs.Faithful.{IsAnonymousForm}
-use Rattle.wit_arena.specs.Resolving.{seen, all_seen}
 use Rattle.wit_arena.proofs.Occurrence.{Has, has_either}
 
 -- each form in a type is one that an unnamed type can have

@@ -1,14 +1,9 @@
 -- The written names of functions that are no resource's, in the source and in the package.
 use Rattle.std.proofs.Common.{◌≡◌, ℕ, zero, List, [], ◌∷◌, ◌++◌, Some, refl, sym, ap, ◌∙◌, subst, arith, Contains}
-use Rattle.wit_syntax.proofs.Common.{Address, Constructor, DefinitionPart, ExternPart, Freestanding, FuncForm, FunctionKey, FunctionPart, Id, Item, Method, OnSide, Part, ResourceFunc, Role, SourceFunction, Static, TypeBody, WorldSide, accessor, at_contains, at_within, contains_at, definition_functions, extern_at, flat_map, flat_map_at, flat_map_has, free_function, functions, map, map_at, part_functions, parts, resource_function, role_names, role_side, slice_get, slice_get_within}
+use Rattle.wit_arena.proofs.Names.{Address, AreFunctions, Constructor, DefinitionPart, ExternPart, Freestanding, FuncForm, Function, FunctionKey, FunctionKind, FunctionPart, Id, IsFunction, IsKind, Item, Key, Method, OnSide, Part, ResourceFunc, Role, SourceFunction, Static, TypeBody, WorldSide, accessor, at_contains, at_within, contains_at, definition_functions, extern_at, flat_map, flat_map_at, flat_map_has, free_function, freestanding_names, functions, keyed, map, map_at, part_functions, parts, resource_function, role_names, role_side, slice_get, slice_get_within}
 use Rattle.wit_type_tree.specs.declared.types.FuncForm.TheVariants as form
 use Rattle.wit_type_tree.specs.declared.types.TypeBody.TheVariants as body
 use Rattle.wit_type_tree.specs.declared.types.ResourceFunc.TheVariants as resource
-use Rattle.wit_functions.specs.declared.function.Function.{Function}
-use Rattle.wit_functions.specs.declared.function.FunctionKind.{FunctionKind}
-use Rattle.wit_arena.specs.SourceFunctions.{IsKind, IsFunction, AreFunctions, freestanding_names}
-use Rattle.wit_arena.specs.UnfoldedTypes.{keyed}
-use Rattle.wit_arena.specs.Occurrences.{Key}
 use Rattle.wit_arena.proofs.Turns.{freestanding_kind, method_kind, static_kind}
 
 -- of functions of the package, each under its side and name

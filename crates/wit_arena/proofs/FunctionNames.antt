@@ -1,10 +1,7 @@
 -- The names of functions: where no two keys of a scope are one, no two of them are.
 use Rattle.std.proofs.Common.{◌≡◌, ℕ, suc, ◌+◌, false, List, [], ◌∷◌, ◌++◌, length, map, Some, inl, inr, refl, sym, ap, ◌∙◌, subst, arith, nat_eq}
-use Rattle.wit_syntax.proofs.Common.{AllByRecursion, AllDiffer, Called, ScopeName, SideFunction, SourceFunction, WorldSide, at_back, called_functions, called_key, differ_at, differ_by, differ_head, differ_tail, flat_map, folded_key, function_called, function_name, in_turn, items_on, name_called, name_cases, names_on, on_side, option_map, pointwise, side_called, slice_get, slice_get-map}
+use Rattle.wit_arena.proofs.Names.{AllByRecursion, AllDiffer, Called, Function, HaveDistinctNames, ScopeName, SideFunction, SourceFunction, WorldSide, at_back, by_name, called_functions, called_key, differ_at, differ_by, differ_head, differ_tail, flat_map, folded_key, function_called, function_name, in_turn, items_on, name_called, name_cases, name_in, names_on, on_side, option_map, pointwise, side_called, slice_get, slice_get-map}
 use Rattle.std.specs.List.{IsDistinct}
-use Rattle.wit_functions.specs.declared.function.Function.{Function}
-use Rattle.wit_functions.specs.SettersPlaced.{name_in, HaveDistinctNames}
-use Rattle.wit_arena.specs.SourceFunctions.{by_name}
 
 -- where the keys on a side of a scope differ on which only functions come after names, so do the names of these
 pub names_differ : (side : WorldSide) (xs : List ScopeName) (fns : List SourceFunction) (order : List ℕ) → AllDiffer (map called_key (side_called side xs (items_on side (map SideFunction fns)) order)) → AllDiffer (map function_name (on_side side fns))

@@ -1,11 +1,6 @@
 -- What is while scopes are being resolved: names of scopes first, and then functions of them, one by one.
 use Rattle.std.proofs.Common.{◌≡◌, ℕ, List, [], ◌∷◌, length, map, Some}
-use Rattle.wit_syntax.proofs.Common.{Address, AllDiffer, PackageFile, SourceFunction, TypeDef, local_names, scope, slice_get}
-use Rattle.wit_functions.specs.declared.function.Function.{Function}
-use Rattle.wit_arena.specs.SourceFunctions.{IsFunction}
-use Rattle.wit_arena.specs.Occurrences.{Key, Def, Occurrence, keys, Collects, Decls, IsOccurrence}
-use Rattle.wit_arena.specs.Resolving.{env_of, AreNames}
-use Rattle.wit_arena.specs.Whole.{functions_at, turn_handles, AreRequired}
+use Rattle.wit_arena.proofs.Names.{Address, AllDiffer, AreNames, AreRequired, Collects, Decls, Def, Function, IsFunction, IsOccurrence, Key, Occurrence, PackageFile, SourceFunction, TypeDef, env_of, functions_at, keys, local_names, scope, slice_get, turn_handles}
 use Rattle.wit_arena.proofs.FreeNames.{AreStated}
 use Rattle.wit_arena.proofs.Members.{DoneScope, done_address, turn_of, IsTurn, IsNameOf}
 

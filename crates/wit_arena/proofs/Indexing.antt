@@ -1,10 +1,6 @@
 -- Interfaces and worlds and their places by name, one more.
 use Rattle.std.proofs.Common.{◌≡◌, ℕ, zero, suc, ◌≤◌, true, false, cond, List, [], ◌∷◌, ◌++◌, length, Some, IsSome, nat_eq, inl, inr, refl, sym, ap, ◌∙◌, subst, arith}
-use Rattle.wit_syntax.proofs.Common.{Address, InterfaceNamed, WorldNamed, at_either, at_prefix, at_seam, insert_entry, is_foreign, length-map, lookup-insert_entry, map, map-append, map_map, name_cases, name_itself, pointwise, slice_get, unwrap_or}
-use Rattle.wit_model.specs.declared.interface.Interface.{Interface}
-use Rattle.wit_model.specs.declared.world.World.{World}
-use Rattle.wit_arena.specs.Resolving.{Names, ResolvedScope, resolved_scope_at, resolved_scope, resolved_scopes, env_of, IsNameIndex}
-use Rattle.wit_arena.specs.ResolvedArenas.{interfaces_at, worlds_at}
+use Rattle.wit_arena.proofs.Names.{Address, Interface, InterfaceNamed, IsNameIndex, Names, ResolvedScope, World, WorldNamed, at_either, at_prefix, at_seam, env_of, insert_entry, interfaces_at, is_foreign, length-map, lookup-insert_entry, map, map-append, map_map, name_cases, name_itself, pointwise, resolved_scope, resolved_scope_at, resolved_scopes, slice_get, unwrap_or, worlds_at}
 use Rattle.wit_arena.proofs.Places.{same_some}
 
 -- what a name finds once another one was put into the table, and what that one finds

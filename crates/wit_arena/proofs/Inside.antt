@@ -1,11 +1,7 @@
 -- Interfaces that are written in worlds, as scopes that are done and as entries of the arena.
 use Rattle.std.proofs.Common.{◌≡◌, ◌<◌, ℕ, zero, suc, ◌+◌, List, [], ◌∷◌, ◌++◌, length, map, Some, refl, ap, subst, arith}
-use Rattle.wit_syntax.proofs.Common.{IsOrder, local_names, rows_of, scope_names, slice_get, about, declared_metadata}
-use Rattle.wit_model.specs.declared.interface.Interface.{Interface}
+use Rattle.wit_arena.proofs.Names.{Interface, IsInterface, IsOrder, about, declared_metadata, interface_functions, local_names, placed_functions, rows_of, scope_names, slice_get}
 use Rattle.wit_types.specs.declared.types.TypeOwner.TheVariants as owner
-use Rattle.wit_arena.specs.SourceFunctions.{placed_functions}
-use Rattle.wit_arena.specs.UnfoldedTypes.{interface_functions}
-use Rattle.wit_arena.specs.UnfoldedTypes.{IsInterface}
 use Rattle.wit_arena.proofs.Ordered.{Ordered, turned}
 use Rattle.wit_arena.proofs.Members.{DoneScope, turn_of}
 

@@ -1,8 +1,7 @@
 -- Where items are by their names and by their scopes.
 use Rattle.std.proofs.Common.{◌≡◌, ℕ, zero, suc, ◌+◌, Bool, true, false, not, cond, List, [], ◌∷◌, ◌++◌, length, Option, Some, None, inl, inr, refl, sym, ap, ◌∙◌, subst, arith, get_or}
-use Rattle.wit_syntax.proofs.Common.{Address, AllDiffer, AreDeclared, Declared, ForeignNamed, InlineAt, InterfaceNamed, Item, PackageFile, TheInline, TheInterface, TheWorld, WorldNamed, about, address, addresses_differ, all_declared, all_items, all_scopes, at_split, bytes_eq, cases_Bool, cond-true, differ_join, filter, find_at, find_passes, flat_map, flat_map_at, functions, inline_differ, inline_items, inside_one, interfaces_of, is_foreign, is_inside, is_world, item_at, item_name, item_named, kept_at, kept_differ, lt-ltb, map, map-append, map_at, nat_lt, none_if, not-true, option_map, option_map_or, option_or, position, position-Some, prefix_len, same_address, same_address-equal, same_address-itself, scope, scope_item_at, scope_names, slice_get, slice_get-get_or, slice_get_within, unwrap_or, worlds_of}
+use Rattle.wit_arena.proofs.Names.{Address, AllDiffer, AreDeclared, Declared, ForeignNamed, InlineAt, InterfaceNamed, Item, PackageFile, TheInline, TheInterface, TheWorld, WorldNamed, about, address, addresses_differ, all_declared, all_items, all_scopes, at_split, bytes_eq, cases_Bool, cond-true, differ_join, filter, find_at, find_passes, flat_map, flat_map_at, functions, functions_at, inline_differ, inline_items, inside_one, interfaces_of, is_foreign, is_inside, is_world, item_at, item_name, item_named, kept_at, kept_differ, lt-ltb, map, map-append, map_at, nat_lt, none_if, not-true, option_map, option_map_or, option_or, owner_at, place_at, position, position-Some, prefix_len, same_address, same_address-equal, same_address-itself, scope, scope_item_at, scope_names, slice_get, slice_get-get_or, slice_get_within, unwrap_or, worlds_of}
 use Rattle.wit_types.specs.declared.types.TypeOwner.TheVariants as owner
-use Rattle.wit_arena.specs.Whole.{place_at, owner_at, functions_at}
 
 -- the only one that passes comes after those that fail
 pub prefix_len-only : {X : Type 0} (p : X → Bool) (xs : List X) (t : ℕ) (x : X) → slice_get xs t ≡ Some x → p x ≡ true → ((i : ℕ) (y : X) → slice_get xs i ≡ Some y → p y ≡ true → i ≡ t) → prefix_len (λ y. not (p y)) xs ≡ t
@@ -85,7 +84,7 @@ pub world_address : (w : Item) → is_world w ≡ true → address w ≡ WorldNa
 world_address w h = declared_at_world w.declared h
 
 -- it is of no other package
-own_declared : (a : Declared) → is_foreign (about a).address ≡ false
+pub own_declared : (a : Declared) → is_foreign (about a).address ≡ false
 own_declared (TheInterface i) = refl
 own_declared (TheWorld w) = refl
 own_declared (TheInline world place x name items) = refl

@@ -1,23 +1,8 @@
 -- The items of files, in an order of their table.
-use Rattle.std.proofs.Common.{◌≡◌, ℕ, zero, ◌<◌, true, List, length, Some, sym, ap, ◌∙◌, subst, arith, Bool, refl}
-use Rattle.wit_syntax.proofs.Common.{Address, AllDiffer, AreOwn, Attribute, DefinitionPart, ForeignName, IsOrder, Item, PackageFile, Part, TopName, Use, UseName, UsePart, Used, all_items, bytes_eq, differ_by, flat_map, flat_map_at, in_order, in_order_at, in_order_read, index_of, index_once, item_name, item_named, item_row, item_rows, key_at, length-map, map, map_at, name_itself, order_within, part_names, parts, path_scope, scope_names, slice_get, slice_get_within, find, find_at, find_passes, find_some, name_equal, differ_at}
+use Rattle.std.proofs.Common.{◌≡◌, ℕ, zero, ◌<◌, List, length, Some, sym, ap, ◌∙◌, subst, arith}
+use Rattle.wit_arena.proofs.Names.{Address, AllDiffer, AreOwn, Attribute, DefinitionPart, ForeignName, IsOrder, Item, PackageFile, Part, TopName, UseName, UsePart, Used, all_items, differ_by, flat_map, flat_map_at, in_order, in_order_at, in_order_read, index_of, index_once, item_name, item_row, item_rows, key_at, length-map, map, map_at, named_found, order_within, part_names, parts, path_scope, scope_names, slice_get, slice_get_within}
+use Rattle.wit_syntax.proofs.Common.{Use}
 use Rattle.wit_arena.proofs.Interfaces.{AreItems}
-
--- what is found is the only one that passes
-pub find-only : {X : Type 0} (p : X → Bool) (xs : List X) (t : ℕ) (x : X) → slice_get xs t ≡ Some x → p x ≡ true → ((i : ℕ) (y : X) → slice_get xs i ≡ Some y → p y ≡ true → i ≡ t) → find p xs ≡ Some x
-find-only p xs t x at pass only =
-    let it = find_some p xs t x at pass in
-    let q = find_at p xs it.0 it.1 in
-    let place = only q.0 it.0 q.1 (find_passes p xs it.0 it.1) in
-    it.1 ∙ sym q.1 ∙ ap (slice_get xs) place ∙ at
-
--- so where no two are called the same, what is called so is found
-pub found_by : {X : Type 0} (key : X → List ℕ) (xs : List X) (p : ℕ) (x : X) (name : List ℕ) → AllDiffer (map key xs) → slice_get xs p ≡ Some x → key x ≡ name → find (λ y. bytes_eq (key y) name) xs ≡ Some x
-found_by key xs p x name differ at same = find-only (λ y. bytes_eq (key y) name) xs p x at (ap (λ n. bytes_eq n name) same ∙ name_itself name) (λ i y at_y passes. differ_at key xs differ i p y x at_y at (name_equal (key y) name passes ∙ sym same))
-
--- where names differ, an item is the first of its name
-pub named_found : (is : List Item) (p : ℕ) (w : Item) → AllDiffer (map item_name is) → slice_get is p ≡ Some w → item_named is (item_name w) ≡ Some w
-named_found is p w differ at = found_by item_name is p w (item_name w) differ at refl
 
 -- each item has a row
 pub length-item_rows : (files : List PackageFile) → length (item_rows files) ≡ length (all_items files)

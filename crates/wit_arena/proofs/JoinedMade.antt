@@ -1,21 +1,12 @@
 -- A package that files make is one that the file makes which they come to.
 use Rattle.std.proofs.Common.{◌≡◌, ℕ, List, [], ◌∷◌, ◌++◌, take, Some, None, refl, sym, ap, ◌∙◌, subst}
-use Rattle.wit_syntax.proofs.Common.{Address, AreAlike, AreTwins, Contains, ForeignVisit, Include, IsJoined, Item, PackageFile, ScopeName, SideFunction, SideInline, SideItem, SideLink, SourceFunction, Span, Stability, TopName, TypeDef, TypeOwner, WorldSide, about, about_name, address, alike_back, all_items, bare, declared_metadata, firsts, flat_map, foreign_interfaces, foreign_worlds, functions, in_order, includes, inline_items, joined_alike, map, map_by, no_metadata, no_names, option_map, package_of, parts, role_side, scope, scope_alike, side_items, twins_make, visited, worlds_of}
+use Rattle.wit_arena.proofs.Names.{Address, AreAlike, AreRequired, AreTwins, Contains, Def, ForeignVisit, Function, Include, Interface, IsEntryOf, IsJoined, Item, Key, Makes, Occurrence, PackageFile, ScopeName, SideFunction, SideInline, SideItem, SideLink, SourceFunction, Span, Stability, TopName, Turned, TypeDef, TypeOwner, UnresolvedPackage, Whole, WorldItem, WorldKey, WorldSide, about, about_name, address, alike_back, all_items, bare, declared_metadata, entry, first_docs, firsts, flat_map, foreign_interface, foreign_interfaces, foreign_world, foreign_worlds, function_in, functions, in_order, include_in, includes, inline_items, interface, interface_scopes, item_turns, joined_alike, keys, map, map_by, name_places, no_metadata, no_names, option_map, own_interface, own_interfaces, own_world, owner_at, package_of, parts, placed, role_side, scope, scope_alike, side_entries, side_items, turn_handles, twins_make, visited, world_scopes, worlds_of}
 use Rattle.wit_tree.specs.declared.tree.PackageName.{PackageName as Header}
-use Rattle.wit_functions.specs.SettersPlaced.{placed}
-use Rattle.wit_functions.specs.declared.function.Function.{Function}
-use Rattle.wit_model.specs.declared.interface.Interface.{Interface}
-use Rattle.wit_model.specs.declared.world.WorldItem.{WorldItem}
 use Rattle.wit_model.specs.declared.world.WorldItem.TheVariants as item
-use Rattle.wit_model.specs.declared.world.WorldKey.{WorldKey}
 use Rattle.wit_model.specs.declared.world.WorldKey.TheVariants as key
-use Rattle.wit_model.specs.declared.unresolved.UnresolvedPackage.{UnresolvedPackage}
 use Rattle.wit_syntax.proofs.JoinedHeaders.{HaveSameHeaders, headers_back, joined_headers}
 use Rattle.wit_syntax.proofs.JoinedTargets.{AreThemselves, included_same, used_same}
-use Rattle.wit_arena.specs.Made.{IsEntryOf, Makes, foreign_interface, foreign_world, include_in, interface, interface_scopes, item_turns, name_places, own_interface, own_interfaces, own_world, function_in, side_entries, world_scopes, entry}
-use Rattle.wit_arena.specs.Occurrences.{Def, Key, Occurrence, Whole, keys}
 use Rattle.wit_arena.specs.SplitOccurrences.{HaveSamePackages}
-use Rattle.wit_arena.specs.Whole.{Turned, first_docs, owner_at, turn_handles, AreRequired}
 use Rattle.wit_arena.proofs.JoinedOthers.{foreign_interfaces_same, foreign_worlds_same, others_onward, required_onward}
 use Rattle.wit_arena.proofs.JoinedOccurrences.{items_onward, names_onward, occurrences_onward, twins_onward}
 use Rattle.wit_arena.proofs.JoinedTurns.{ByDeclared, inline_made, names_stated, own_made, turns_same, twin_worlds}

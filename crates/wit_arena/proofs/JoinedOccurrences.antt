@@ -1,11 +1,8 @@
 -- Files that declare the same have the same first occurrences.
 use Rattle.std.proofs.Common.{◌≡◌, ℕ, List, [], ◌∷◌, ◌++◌, refl, sym, ap, ◌∙◌, subst, subst₂}
-use Rattle.wit_syntax.proofs.Common.{AreAlike, AreTwins, ForeignUse, IsJoined, IsOrder, Item, PackageFile, alike_back, all_items, all_scopes, flat_map, foreign_uses, foreign_uses_alike, in_order, items_twins, joined_alike, map, names_same, parts, retop, rows_of, twin_among, twins_back, twins_inside}
+use Rattle.wit_arena.proofs.Names.{AreAlike, AreInOrder, AreNamesInOrder, AreTwins, Collects, ForeignUse, IsJoined, IsOrder, Item, Occurrence, PackageFile, Turned, alike_back, all_items, all_occurrences, all_scopes, flat_map, foreign_use_occurrence, foreign_uses, foreign_uses_alike, in_order, item_turns, items_twins, joined_alike, map, names_same, parts, retop, rows_of, turn_occurrences, twin_among, twins_back, twins_inside}
 use Rattle.wit_syntax.proofs.JoinedOrders.{order_onward}
-use Rattle.wit_arena.specs.Made.{AreInOrder, AreNamesInOrder, item_turns}
-use Rattle.wit_arena.specs.Occurrences.{Collects, Occurrence}
 use Rattle.wit_arena.specs.SplitOccurrences.{AreFirstOccurrences, HaveSameOccurrences}
-use Rattle.wit_arena.specs.Whole.{Turned, all_occurrences, foreign_use_occurrence, turn_occurrences}
 use Rattle.wit_arena.proofs.JoinedTurns.{ByDeclared, turns_same, twins_in_order}
 use Rattle.wit_arena.proofs.Occurrence.{collects_one}
 use Rattle.wit_arena.proofs.OneMadeOrders.{one_turns}

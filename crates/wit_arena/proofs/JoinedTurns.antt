@@ -1,9 +1,7 @@
 -- What is resolved in turn of items that are the same but for the names at the top of their files.
 use Rattle.std.proofs.Common.{◌≡◌, ℕ, List, [], ◌∷◌, ◌++◌, Bool, not, Option, Some, None, inl, inr, refl, sym, ap, ◌∙◌}
-use Rattle.wit_syntax.proofs.Common.{Address, AreTwins, Declared, Item, ScopeName, SideFunction, SideInline, SideItem, SideLink, SourceFunction, about, address, after_one, bare, cons_option, declared_of, filter, filter-map, flat_map, functions, in_order, in_turn, inline_items, inline_twins, interfaces_of, kept_at, map, map-append, map-flat_map, names_of_bare, no_names, option_map, scope_names, side_items, slice_get, slice_get-map, twins_become, twins_make, worlds_of}
+use Rattle.wit_arena.proofs.Names.{Address, AreTwins, Declared, Item, ScopeName, SideFunction, SideInline, SideItem, SideLink, SourceFunction, Turned, about, address, after_one, bare, cons_option, declared_of, filter, filter-map, flat_map, functions, in_order, in_turn, inline_items, inline_twins, interface_turn, interfaces_of, item_turns, kept_at, map, map-append, map-flat_map, names_in_turn, names_of_bare, no_names, option_map, own_interfaces, scope_names, side_items, slice_get, slice_get-map, turns_of_world, turns_on_sides, twins_become, twins_make, worlds_of}
 use Rattle.wit_syntax.proofs.JoinedTargets.{AreThemselves}
-use Rattle.wit_arena.specs.Made.{interface_turn, item_turns, names_in_turn, own_interfaces, turns_of_world, turns_on_sides}
-use Rattle.wit_arena.specs.Whole.{Turned}
 
 -- what is in an order is in the list
 abbrev OccursIn : List Item → Item → Type 0
@@ -24,7 +22,7 @@ map-cons_option : {X Y : Type 0} (f : X → Y) (o : Option X) (xs : List X) → 
 map-cons_option f None xs = refl
 map-cons_option f (Some x) xs = refl
 
-map-in_order : {X Y : Type 0} (f : X → Y) (xs : List X) (places : List ℕ) → map f (in_order xs places) ≡ in_order (map f xs) places
+pub map-in_order : {X Y : Type 0} (f : X → Y) (xs : List X) (places : List ℕ) → map f (in_order xs places) ≡ in_order (map f xs) places
 map-in_order f xs [] = refl
 map-in_order {X} {Y} f xs (p ∷ places) = map-cons_option f (slice_get xs p) (in_order xs places) ∙ ap (λ (o : Option Y). cons_option o (map f (in_order xs places))) (sym (slice_get-map f xs p)) ∙ ap (cons_option (slice_get (map f xs) p)) (map-in_order f xs places)
 

@@ -1,10 +1,7 @@
 -- What occurs in types, by its keys.
 use Rattle.std.proofs.Common.{◌≡◌, [], ◌∷◌, ◌++◌, refl, ap, ◌∙◌}
-use Rattle.wit_syntax.proofs.Common.{Address, Shape, Shapes, Stability}
+use Rattle.wit_arena.proofs.Names.{Address, Shape, Shapes, Stability, Whole, all_seen, expr_of, exprs_of, keys, seen, shape_occurrences, shapes_occurrences}
 use Rattle.wit_syntax.specs.Shape as shape
-use Rattle.wit_arena.specs.Expr.{expr_of, exprs_of}
-use Rattle.wit_arena.specs.Occurrences.{Whole, keys, shape_occurrences, shapes_occurrences}
-use Rattle.wit_arena.specs.Resolving.{seen, all_seen}
 use Rattle.wit_arena.proofs.Occurrence.{keys-append}
 
 -- what occurs in types are the unnamed expressions in them

@@ -1,12 +1,12 @@
 -- Where the paths of items lead.
 use Rattle.std.proofs.Common.{◌≡◌, ℕ, ◌<◌, Bool, true, false, List, ◌++◌, take, drop, Option, Some, None, ◌⊎◌, inl, inr, refl, sym, ap, ◌∙◌, subst, arith, Contains, ◌∷◌}
-use Rattle.wit_syntax.proofs.Common.{Address, AllDiffer, Attribute, Foreign, ForeignNamed, ForeignVisit, Id, InterfaceNamed, IsOrder, Item, Local, PackageFile, PackageName, Row, Target, TopName, Use, UseName, UsePart, UsePath, Used, all_items, all_scopes, at_contains, at_prefix, at_within, bytes_eq, contains_at, filter, filter-append, find_at, find_passes, flat_map_at, flat_map_has, foreign_interfaces, foreign_uses, if◌then◌else◌, in_order, in_order-append, include_paths, is_foreign, is_world, is_world_at, item_name, item_named, item_row, item_row_at, item_rows, leads, local_target, map, name_equal, needed_paths, option_map, parts, path_scope, place_of-Some, scope_names, slice_get, slice_get_within, take-append-drop, target, target_scope, use_of_foreign, use_paths, uses, visited, with_uses, inline_items}
-use Rattle.wit_arena.proofs.Itemizing.{named_found, used_part, length-item_rows}
+use Rattle.wit_arena.proofs.Names.{Address, AllDiffer, Attribute, Foreign, ForeignNamed, ForeignVisit, Id, InterfaceNamed, IsOrder, Item, Local, PackageFile, PackageName, Row, Target, TopName, UseName, UsePart, UsePath, Used, all_items, all_scopes, at_contains, at_prefix, at_within, bytes_eq, contains_at, filter, filter-append, find_at, find_passes, flat_map_at, flat_map_has, foreign_interfaces, foreign_uses, if◌then◌else◌, in_order, in_order-append, include_paths, inline_items, is_foreign, is_world, is_world_at, item_name, item_named, item_row, item_row_at, item_rows, leads, local_target, map, name_equal, named_found, needed-paths, needed_paths, option_map, parts, path_scope, place_of-Some, scope_names, slice_get, slice_get_within, take-append-drop, target, target_scope, use_of_foreign, use_paths, uses, visited, with_uses}
+use Rattle.wit_syntax.proofs.Common.{Use}
+use Rattle.wit_arena.proofs.Itemizing.{used_part, length-item_rows}
 use Rattle.wit_arena.proofs.Places.{same_some}
 use Rattle.wit_arena.proofs.Visits.{use_at, use_path_at, used_interface_visit, AreUsableUses}
 use Rattle.wit_arena.proofs.ForeignUses.{foreign_use_has}
 use Rattle.wit_arena.proofs.Scoping.{row_before}
-use Rattle.wit_syntax.proofs.NeededPaths.{needed-paths}
 
 pub option_cases : {X : Type 0} (o : Option X) (R : Type 0) → ((x : X) → o ≡ Some x → R) → (o ≡ None → R) → R
 option_cases None R some none = none refl

@@ -1,7 +1,8 @@
 -- What files that break no rule say of names and of uses: no two names of a scope are one, and uses lead to interfaces.
 use Rattle.std.proofs.Common.{◌≡◌, ℕ, zero, false, List, [], ◌++◌, Option, Some, None, inl, inr, refl, sym, ap, ◌∙◌, Contains}
-use Rattle.wit_syntax.proofs.Common.{Address, AllDiffer, AreDistinct, DefinedTwice, DuplicateItem, ExternPart, Fault, Foreign, ForeignNamed, ForeignVisit, IsBrokenNames, IsLegal, IsSecond, Item, Items, Local, MissingUse, PackageFile, Part, Scope, Target, Use as WrittenUse, UsePart, WorldUsed, about, address, all_items, all_scopes, at_contains, at_prefix, cases_Bool, contains_at, defined, differ_by, distinct_names, distinct_none, extern_paths, find_at, flat_map_at, flat_map_has, foreign_at, inline_uses, is_world, is_world_at, item_at, item_name, item_named, item_twice, item_word, leads, local_id, local_name, map, missing_at, name_twice, option_map, option_map_or, part_uses, parts, path_id, same_address, scope, scope_names, slice_get, slice_get-map, three_ways, use_path, use_paths, used, uses, world_there}
+use Rattle.wit_arena.proofs.Names.{Address, AllDiffer, AreDistinct, DefinedTwice, DuplicateItem, ExternPart, Fault, Foreign, ForeignNamed, ForeignVisit, IsBrokenNames, IsLegal, IsSecond, Item, Items, Local, MissingUse, PackageFile, Part, Scope, Target, UsePart, WorldUsed, about, address, all_items, all_scopes, at_contains, at_prefix, cases_Bool, contains_at, defined, differ_by, distinct_names, distinct_none, extern_paths, find_at, flat_map_at, flat_map_has, foreign_at, inline_uses, is_world, is_world_at, item_at, item_name, item_named, item_twice, item_word, leads, local_id, local_name, map, missing_at, name_twice, option_map, option_map_or, part_uses, parts, path_id, same_address, scope, scope_names, slice_get, slice_get-map, three_ways, use_path, use_paths, used, uses, world_there}
 use Rattle.wit_syntax.specs.Broken.{Use}
+use Rattle.wit_syntax.proofs.Common.{Use as WrittenUse}
 use Rattle.wit_arena.proofs.ForeignUses.{used_distinct}
 use Rattle.wit_arena.proofs.Visits.{visit_listed, foreign_at-visited, leads_visited, AreUsableUses}
 

@@ -85,3 +85,4 @@ pub mod OneMadeArena
 pub mod OneMade
 pub mod Common
 pub mod Ordered
+pub mod Names

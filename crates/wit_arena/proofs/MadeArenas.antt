@@ -1,14 +1,7 @@
 -- Where a function gives the place of each key, the arenas of interfaces and of worlds are stated.
 use Rattle.std.proofs.Common.{◌≡◌, ℕ, suc, List, [], ◌∷◌, ◌++◌, Some, refl, ap, ◌∙◌, sym, arith}
-use Rattle.wit_syntax.proofs.Common.{Address, ForeignVisit, Item, PackageFile, foreign_interfaces, inline_items, map, map_map, slice_get}
-use Rattle.wit_model.specs.declared.interface.Interface.{Interface}
-use Rattle.wit_model.specs.declared.world.World.{World}
-use Rattle.wit_arena.specs.Made.{names_in_turn, foreign_interface, own_interface, foreign_world, own_world}
-use Rattle.wit_arena.specs.Occurrences.{Key}
-use Rattle.wit_arena.specs.OneByOne.{OneByOne}
-use Rattle.wit_arena.specs.UnfoldedTypes.{IsForeignWorld}
+use Rattle.wit_arena.proofs.Names.{Address, ForeignVisit, Interface, IsForeignInterface, IsForeignWorld, Item, Key, OneByOne, PackageFile, World, foreign_interface, foreign_interfaces, foreign_world, inline_items, map, map_map, names_in_turn, own_interface, own_world, slice_get}
 use Rattle.wit_arena.proofs.Ordered.{Ordered, OrderedWorld, ordered_names}
-use Rattle.wit_arena.specs.Whole.{IsForeignInterface}
 use Rattle.wit_arena.proofs.ByParts.{BothParts, IsResolvedInterface, IsResolvedWorld}
 use Rattle.wit_arena.proofs.MadeInterfaces.{foreign_interface-as_stated, own_interface-as_stated}
 use Rattle.wit_arena.proofs.MadeSides.{ArePlaced}

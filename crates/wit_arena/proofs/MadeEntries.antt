@@ -1,13 +1,9 @@
 -- Where a function gives the place of each key, each entry of the arena of types is stated.
 use Rattle.std.proofs.Common.{◌≡◌, ℕ, List, ◌∷◌, length, take, Option, Some, None, sym, ap, ◌∙◌}
-use Rattle.wit_syntax.proofs.Common.{Address, Docs, Form, Metadata, PackageFile, Span, Stability, TypeDef, TypeDefKind, TypeOwner, about_name, contains_at, first_known, length-map, map, no_docs, option_map, scope, slice_get, slice_get-map}
+use Rattle.wit_arena.proofs.Names.{Address, Decls, Def, Docs, Exprs, Form, IsEntry, IsEntryOf, IsOccurrence, Key, Kind, Metadata, Occurrence, PackageFile, Span, Stability, TypeDef, TypeDefKind, TypeOwner, Whole, about_name, contains_at, declarations, entry, first_known, keys, kind_of, length-map, map, name_exprs, no_docs, option_map, owner_at, scope, slice_get, slice_get-map, stability_at, types_of}
 use Rattle.wit_types.specs.declared.types.TypeOwner.TheVariants as owner
 use Rattle.wit_types.specs.declared.types.«Type».{«Type» as Ty}
-use Rattle.wit_arena.specs.Expr.{Exprs, name_exprs}
-use Rattle.wit_arena.specs.Kind.{Kind, kind_of}
-use Rattle.wit_arena.specs.Made.{types_of, entry, IsEntryOf}
-use Rattle.wit_arena.specs.Occurrences.{Key, Def, Whole, Occurrence, keys, Decls, IsEntry, IsOccurrence, stability_at, settled}
-use Rattle.wit_arena.specs.Whole.{declarations, owner_at}
+use Rattle.wit_arena.specs.Occurrences.{settled}
 use Rattle.wit_arena.proofs.Placing.{GivesPlaces, gives_used, all_at-types_of}
 
 abbrev kind : Form → List Ty → Kind

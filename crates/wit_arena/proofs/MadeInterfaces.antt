@@ -1,15 +1,7 @@
 -- Where a function gives the place of each key, each interface of the package is stated.
 use Rattle.std.proofs.Common.{◌≡◌, ℕ, List, [], Option, Some, None, ap, ◌∙◌}
-use Rattle.wit_syntax.proofs.Common.{Docs, ForeignVisit, Item, Metadata, PackageFile, Span, Stability, about, address, declared_metadata, functions as item_functions, map_map, no_metadata}
-use Rattle.wit_functions.specs.declared.function.Function.{Function}
-use Rattle.wit_functions.specs.SettersPlaced.{placed}
-use Rattle.wit_model.specs.declared.interface.Interface.{Interface}
-use Rattle.wit_arena.specs.SourceFunctions.{by_name, placed_functions}
-use Rattle.wit_arena.specs.Made.{function_in, interface, foreign_interface, name_places, names_in_turn, own_interface}
-use Rattle.wit_arena.specs.Occurrences.{Key}
-use Rattle.wit_arena.specs.UnfoldedTypes.{IsInterface}
+use Rattle.wit_arena.proofs.Names.{Docs, ForeignVisit, Function, Interface, IsForeignInterface, IsInterface, Item, Key, Metadata, PackageFile, Span, Stability, about, address, by_name, declared_metadata, foreign_interface, function_in, functions as item_functions, interface, map_map, name_places, names_in_turn, no_metadata, own_interface, placed, placed_functions}
 use Rattle.wit_arena.proofs.Ordered.{Ordered, ordered_names, turned}
-use Rattle.wit_arena.specs.Whole.{IsForeignInterface}
 use Rattle.wit_arena.proofs.ByParts.{IsResolvedInterface}
 use Rattle.wit_arena.proofs.Placing.{GivesPlaces}
 use Rattle.wit_arena.proofs.PlacingFunctions.{functions-in, types-places}

@@ -1,7 +1,6 @@
 -- Functions of a package that are on a side.
 use Rattle.std.proofs.Common.{◌≡◌, ℕ, zero, suc, Bool, true, false, List, [], ◌∷◌, Some, inl, inr, refl, sym, ap, ◌∙◌}
-use Rattle.wit_syntax.proofs.Common.{SourceFunction, WorldSide, after_one, cases_Bool, cond-false, cond-true, if◌then◌else◌, role_side, same_side, same_side-equal, side_itself, slice_get}
-use Rattle.wit_functions.specs.declared.function.Function.{Function}
+use Rattle.wit_arena.proofs.Names.{Function, SourceFunction, WorldSide, after_one, cases_Bool, cond-false, cond-true, if◌then◌else◌, role_side, same_side, same_side-equal, side_itself, slice_get}
 
 -- those functions of a package that are on a side, where these are the written ones
 abbrev pub made_on : WorldSide → List SourceFunction → List Function → List Function

@@ -1,7 +1,6 @@
 -- The orders of the names of scopes, given by their addresses.
 use Rattle.std.proofs.Common.{◌≡◌, ℕ, ◌+◌, List, [], ◌++◌, length, Some, inl, inr, refl, sym, ap, ◌∙◌, subst, Contains}
-use Rattle.wit_syntax.proofs.Common.{Address, AllDiffer, IsLegal, IsOrder, Item, PackageFile, address, all_items, all_scopes, at_back, at_contains, at_part, at_prefix, cases_Bool, differ_at, differ_join, find, find_at, find_passes, find_some, flat_map, flat_map_has, in_order, inline_items, inline_items_none, interfaces_of, is_world, kept_has, map, map-append, map_at, map_map, not, option_map_or, rows_of, same_address, same_address-equal, same_address-itself, scope_names, scopes_either, slice_get, worlds_of, item_rows}
-use Rattle.wit_arena.specs.Made.{own_interfaces, interface_scopes, world_scopes}
+use Rattle.wit_arena.proofs.Names.{Address, AllDiffer, IsLegal, IsOrder, Item, PackageFile, address, all_items, all_scopes, at_back, at_contains, at_part, at_prefix, cases_Bool, differ_at, differ_join, find, find_at, find_passes, find_some, flat_map, flat_map_has, in_order, inline_items, inline_items_none, interface_scopes, interfaces_of, is_world, item_rows, kept_has, map, map-append, map_at, map_map, not, option_map_or, own_interfaces, rows_of, same_address, same_address-equal, same_address-itself, scope_names, scopes_either, slice_get, world_scopes, worlds_of}
 use Rattle.wit_arena.proofs.Ordered.{Ordered, OrderedWorld, AreOrdered, addresses, all_inside, interface_addresses, world_addresses}
 use Rattle.wit_arena.proofs.DoneWorlds.{own_order}
 use Rattle.wit_arena.proofs.Interfaces.{interfaces_sort, worlds_sort, scope_addresses}

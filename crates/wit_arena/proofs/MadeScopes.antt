@@ -1,7 +1,7 @@
 -- The scopes of a package differ, so each has one place.
 use Rattle.std.proofs.Common.{◌≡◌, ℕ, List, not, Option, Some, sym, ap, subst}
-use Rattle.wit_syntax.proofs.Common.{Address, AllDiffer, IsLegal, Item, Names, PackageFile, interfaces_of, is_world, slice_get, unwrap_or, worlds_of, IsOrder, all_items, in_order, item_rows}
-use Rattle.wit_arena.specs.Made.{interface_scopes, world_scopes, scope_place}
+use Rattle.wit_arena.proofs.Names.{Address, AllDiffer, IsLegal, IsOrder, Item, PackageFile, all_items, in_order, interface_scopes, interfaces_of, is_world, item_rows, scope_place, slice_get, unwrap_or, world_scopes, worlds_of}
+use Rattle.wit_syntax.proofs.Common.{Names}
 use Rattle.wit_arena.proofs.Added.{all_addresses}
 use Rattle.wit_arena.proofs.Interfaces.{AreAddresses, AreItems, interfaces_sort, worlds_sort, items_kept, place_at-found}
 use Rattle.wit_arena.proofs.Itemizing.{are_items}

@@ -1,13 +1,8 @@
 -- What is on a side of a world is what the written ones make there.
 use Rattle.std.proofs.Common.{◌≡◌, ℕ, Bool, true, false, cond, List, [], ◌∷◌, Some, None, refl, sym, ap, ◌∙◌}
-use Rattle.wit_syntax.proofs.Common.{Address, Item, SideFunction, SideInline, SideItem, SideLink, SourceFunction, TopName, WorldSide, address, cons_option, flat_map, item_function, map, path_scope, role_side, same_side, slice_get}
-use Rattle.wit_functions.specs.declared.function.Function.{Function}
-use Rattle.wit_model.specs.declared.world.WorldKey.{WorldKey}
+use Rattle.wit_arena.proofs.Names.{Address, AreSideItems, Function, Item, SideFunction, SideInline, SideItem, SideLink, SourceFunction, TopName, WorldItem, WorldKey, WorldSide, address, cons_option, entries_on, flat_map, inline_entry, item_function, link_item, map, path_scope, put_on, role_side, same_side, scope_place, side_entries, slice_get}
 use Rattle.wit_model.specs.declared.world.WorldKey.TheVariants as key
-use Rattle.wit_model.specs.declared.world.WorldItem.{WorldItem}
 use Rattle.wit_model.specs.declared.world.WorldItem.TheVariants as item
-use Rattle.wit_arena.specs.Made.{scope_place, side_entries, entries_on}
-use Rattle.wit_arena.specs.SideItems.{AreSideItems, put_on, link_item, inline_entry}
 
 abbrev Entry : Type 0
 Entry = WorldKey × WorldItem

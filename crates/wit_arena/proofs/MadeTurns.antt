@@ -1,9 +1,7 @@
 -- What is resolved in turn, given by the items and the orders of their names.
 use Rattle.std.proofs.Common.{◌≡◌, ℕ, suc, ◌+◌, List, [], ◌∷◌, ◌++◌, length, Some, refl, ap, ◌∙◌}
-use Rattle.wit_syntax.proofs.Common.{Address, IsLegal, Item, PackageFile, ScopeName, SideFunction, SideInline, SideItem, SideLink, SourceFunction, address, all_items, at_back, at_prefix, flat_map, flat_map_has, functions, in_order, in_turn, inline_items, interfaces_of, map, option_map, scope_names, side_items, slice_get, slice_get-map}
-use Rattle.wit_arena.specs.Made.{names_in_turn, interface_turn, turns_on_sides, turns_of_world, item_turns}
+use Rattle.wit_arena.proofs.Names.{Address, IsLegal, Item, PackageFile, ScopeName, SideFunction, SideInline, SideItem, SideLink, SourceFunction, Turned, address, all_items, at_back, at_prefix, flat_map, flat_map_has, functions, in_order, in_turn, inline_items, interface_turn, interfaces_of, item_turns, map, names_in_turn, option_map, scope_names, side_items, slice_get, slice_get-map, turns_of_world, turns_on_sides}
 use Rattle.wit_arena.proofs.Ordered.{Ordered, OrderedWorld, AreOrdered, ordered_names, turned, side_turns, world_turns, all_turns, all_inside}
-use Rattle.wit_arena.specs.Whole.{Turned}
 use Rattle.wit_arena.proofs.DoneWorlds.{own_order}
 use Rattle.wit_arena.proofs.MadeOrders.{order_among, order_stated, listed, listed_differ}
 use Rattle.wit_arena.proofs.Turns.{item_of, own_item, function_turn}

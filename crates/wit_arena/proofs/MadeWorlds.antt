@@ -1,20 +1,9 @@
 -- Where a function gives the place of each key, and scopes are where they are stated to, each world of the package is stated.
 use Rattle.std.proofs.Common.{◌≡◌, ℕ, List, [], ◌∷◌, ◌++◌, Option, refl, sym, ap, ◌∙◌, subst}
-use Rattle.wit_syntax.proofs.Common.{Address, Docs, Exported, ForeignVisit, Imported, Include, Item, Metadata, ScopeName, Span, Stability, TopName, WorldNamed, WorldSide, about, address, declared_metadata, flat_map, functions as item_functions, functions_items, includes, inline_items, item_function, leads, local_id, local_name, map, no_metadata, side_items, target_scope}
-use Rattle.wit_functions.specs.declared.function.Function.{Function}
+use Rattle.wit_arena.proofs.Names.{Address, AreSideItems, Def, Docs, Exported, ForeignVisit, Function, Imported, Include, IsForeignWorld, IsInclude, IsWorld, Item, Key, Metadata, ScopeName, Span, Stability, TopName, Type_, World, WorldInclude, WorldItem, WorldKey, WorldNamed, WorldSide, about, address, declared_metadata, entries_on, flat_map, foreign_world, function_in, functions as item_functions, functions_items, include_in, includes, inline_items, item_function, leads, local_id, local_name, map, name_imports, name_places, names_in_turn, no_metadata, own_world, settled, side_items, target_scope, type_imports, world, world_entries, world_types}
 use Rattle.wit_model.specs.declared.world.IncludeName.{IncludeName}
-use Rattle.wit_model.specs.declared.world.World.{World}
-use Rattle.wit_model.specs.declared.world.WorldInclude.{WorldInclude}
-use Rattle.wit_model.specs.declared.world.WorldItem.{WorldItem}
-use Rattle.wit_model.specs.declared.world.WorldItem.TheVariants.{Type_}
-use Rattle.wit_model.specs.declared.world.WorldKey.{WorldKey}
 use Rattle.wit_model.specs.declared.world.WorldKey.TheVariants as key
-use Rattle.wit_arena.specs.Made.{function_in, name_places, names_in_turn, entries_on, name_imports, include_in, world, foreign_world, world_entries, own_world}
-use Rattle.wit_arena.specs.Occurrences.{Key, Def}
-use Rattle.wit_arena.specs.UnfoldedTypes.{IsWorld, IsForeignWorld, world_types}
-use Rattle.wit_arena.specs.SideItems.{AreSideItems, settled}
 use Rattle.wit_arena.proofs.Ordered.{OrderedWorld, addresses, ordered_names, turned}
-use Rattle.wit_arena.specs.Whole.{type_imports, IsInclude}
 use Rattle.wit_arena.proofs.ByParts.{IsResolvedWorld}
 use Rattle.wit_arena.proofs.ScopesInTurn.{ordered_addresses}
 use Rattle.wit_arena.proofs.MadeSides.{ArePlaced, side_items-as_stated}

@@ -1,12 +1,6 @@
 -- What is once some scopes are done.
 use Rattle.std.proofs.Common.{◌≡◌, ℕ, List, [], Some}
-use Rattle.wit_syntax.proofs.Common.{Address, AllDiffer, AreDistinct, Form, FunctionKey, PackageFile, ScopeName, SourceFunction, TypeDef, TypeOwner, local_name, local_names, map, scope, slice_get}
-use Rattle.wit_arena.specs.Expr.{Exprs, name_exprs}
-use Rattle.wit_arena.specs.Occurrences.{Def, Whole, Occurrence, keys, Collects, Decls, IsOccurrence}
-use Rattle.wit_functions.specs.declared.function.Function.{Function}
-use Rattle.wit_arena.specs.SourceFunctions.{AreFunctions}
-use Rattle.wit_arena.specs.Whole.{Turned, functions_at, turn_handles, AreRequired}
-use Rattle.wit_arena.specs.Resolving.{Names, ResolvedScope, Required, env_of, all_seen, AreNames}
+use Rattle.wit_arena.proofs.Names.{Address, AllDiffer, AreDistinct, AreFunctions, AreNames, AreRequired, Collects, Decls, Def, Exprs, Form, Function, FunctionKey, IsOccurrence, Names, Occurrence, PackageFile, Required, ResolvedScope, ScopeName, SourceFunction, Turned, TypeDef, TypeOwner, Whole, all_seen, env_of, functions_at, keys, local_name, local_names, map, name_exprs, scope, slice_get, turn_handles}
 use Rattle.wit_arena.proofs.Occurrence.{Has}
 use Rattle.wit_arena.proofs.FreeNames.{free_of, AreStated}
 use Rattle.wit_arena.proofs.Signatures.{IsInFunctions}

@@ -1,12 +1,6 @@
 -- The names of scopes that are done: each means its entry, and what is used is a name of the scope that it comes from.
 use Rattle.std.proofs.Common.{◌≡◌, ℕ, List, Some, sym, ap, ◌∙◌, subst, arith}
-use Rattle.wit_syntax.proofs.Common.{Address, PackageFile, ScopeName, SourceFunction, TypeDef, TypeOwner, at_within, differ_at, local_name, lookup-at, map, map_at, option_map, scope, slice_get, slice_get-map, slice_get_within}
-use Rattle.wit_functions.specs.declared.function.Function.{Function}
-use Rattle.wit_arena.specs.SourceFunctions.{IsFunction}
-use Rattle.wit_arena.specs.Kind.{kind_of}
-use Rattle.wit_arena.specs.Expr.{one, name_exprs}
-use Rattle.wit_arena.specs.Occurrences.{Key, Def, Occurrence, keys, AreAt, Decls}
-use Rattle.wit_arena.specs.Whole.{HasTypes}
+use Rattle.wit_arena.proofs.Names.{Address, AreAt, Decls, Def, Function, HasTypes, IsFunction, Key, Occurrence, PackageFile, ScopeName, SourceFunction, TypeDef, TypeOwner, at_within, differ_at, keys, kind_of, local_name, lookup-at, map, map_at, name_exprs, one, option_map, scope, slice_get, slice_get-map, slice_get_within}
 use Rattle.wit_arena.proofs.Places.{all_at_untaken}
 use Rattle.wit_arena.proofs.Shape.{entry_of_key}
 use Rattle.wit_arena.proofs.Members.{DoneScope, turn_of, IsPresent}

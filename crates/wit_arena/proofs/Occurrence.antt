@@ -1,10 +1,7 @@
 -- The list of occurrences, as it grows.
 use Rattle.std.proofs.Common.{◌≡◌, ℕ, ◌+◌, List, [], ◌∷◌, ◌++◌, length, take, Some, None, ◌⊎◌, inl, inr, refl, sym, ap, ◌∙◌, subst, arith, length-append, suc}
-use Rattle.wit_syntax.proofs.Common.{Address, Span, Stability, TypeDef, TypeDefKind, at_either, at_seam, at_within, length-map, map, map-append, slice_get, slice_get_within, take_prefix, take_seam, flat_map, append-nil, differ_more}
-use Rattle.wit_arena.specs.Kind.{kind_of}
-use Rattle.wit_arena.specs.Expr.{Expr, Of, Exprs, End, More}
-use Rattle.wit_arena.specs.Occurrences.{Key, Def, Whole, Occurrence, keys, IsSeen, Collects, AreAt, Decls, IsEntry, IsKeyed, IsOccurrence, settled}
-use Rattle.wit_arena.specs.Resolving.{seen, all_seen, Env, AreNames, IsInterned, unnamed}
+use Rattle.wit_arena.proofs.Names.{Address, AreAt, AreNames, Collects, Decls, Def, End, Env, Expr, Exprs, IsEntry, IsInterned, IsKeyed, IsOccurrence, IsSeen, Key, More, Occurrence, Of, Span, Stability, TypeDef, TypeDefKind, Whole, all_seen, append-nil, at_either, at_seam, at_within, differ_more, flat_map, keys, kind_of, length-map, map, map-append, seen, slice_get, slice_get_within, take_prefix, take_seam, unnamed}
+use Rattle.wit_arena.specs.Occurrences.{settled}
 use Rattle.wit_arena.proofs.Places.{Extended, extended_trans, key_extended, all_at_untaken, all_at_injective, all_at_functional}
 
 pub keys-append : (ms ls : List Occurrence) → keys (ms ++ ls) ≡ keys ms ++ keys ls

@@ -1,6 +1,6 @@
 -- Lists that agree at each place are one list.
 use Rattle.std.proofs.Common.{◌≡◌, ℕ, List, [], ◌∷◌, ◌++◌, length, Some, refl, sym, ap, ◌∙◌, arith, append_assoc}
-use Rattle.wit_syntax.proofs.Common.{slice_get, take, take_seam}
+use Rattle.wit_arena.proofs.Names.{slice_get, take, take_seam}
 
 -- what comes after a prefix is at its length
 at_next : {X : Type 0} (prefix xs : List X) (x : X) → slice_get (prefix ++ x ∷ xs) (length prefix) ≡ Some x

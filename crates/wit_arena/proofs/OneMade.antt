@@ -1,14 +1,7 @@
 -- What files make is one package.
 use Rattle.std.proofs.Common.{◌≡◌, ℕ, Bool, true, false, List, ◌++◌, length, Option, Some, None, refl, sym, ap, ◌∙◌, subst, [], ◌∷◌}
-use Rattle.wit_syntax.proofs.Common.{Address, AllDiffer, AtForeign, AtResource, Docs, Id, IsLegal, Item, PackageFile, PackageName, Span, Stability, TypeDef, filter_map, flat_map, foreign_interfaces, foreign_worlds, map, scope, worlds_of, AllZip}
+use Rattle.wit_arena.proofs.Names.{Address, AllDiffer, AllZip, AreRequired, AstItem, AtForeign, AtResource, Def, Docs, HandleRequires, Id, Interface, IsLegal, Item, Key, Makes, Occurrence, PackageFile, PackageName, Span, Stability, Turned, TypeDef, UnresolvedPackage, World, all_occurrences, filter_map, flat_map, foreign_interface, foreign_interfaces, foreign_world, foreign_worlds, interface_scopes, item_turns, keys, map, own_interface, own_interfaces, own_world, owner_at, scope, turn_handles, world_scopes, worlds_of}
 use Rattle.std.proofs.Math.Path.{fun_ext}
-use Rattle.wit_model.specs.declared.ast_item.AstItem.{AstItem}
-use Rattle.wit_model.specs.declared.interface.Interface.{Interface}
-use Rattle.wit_model.specs.declared.unresolved.UnresolvedPackage.{UnresolvedPackage}
-use Rattle.wit_model.specs.declared.world.World.{World}
-use Rattle.wit_arena.specs.Made.{foreign_interface, own_interface, foreign_world, own_world, item_turns, own_interfaces, interface_scopes, world_scopes, Makes}
-use Rattle.wit_arena.specs.Occurrences.{Key, Def, Occurrence, keys}
-use Rattle.wit_arena.specs.Whole.{Turned, all_occurrences, turn_handles, owner_at, HandleRequires, AreRequired}
 use Rattle.wit_arena.proofs.Ends.{ends_one}
 use Rattle.wit_arena.proofs.FirstsOf.{firsts-differ}
 use Rattle.wit_arena.proofs.LegalScopes.{scope_differs}

@@ -1,11 +1,7 @@
 -- One arena of types is what some first occurrences make, where each scope has one name that is called so.
 use Rattle.std.proofs.Common.{◌≡◌, ℕ, List, length, take, Some, sym, ap, ◌∙◌, subst, arith, Contains}
-use Rattle.wit_syntax.proofs.Common.{Address, AreDistinct, Form, ScopeName, Span, Stability, TypeDef, TypeDefKind, TypeOwner, about_name, at_contains, at_within, differ_at, local_name, slice_get, slice_get_within}
+use Rattle.wit_arena.proofs.Names.{Address, AreDistinct, Def, Form, IsEntryOf, Key, Kind, Occurrence, ScopeName, Span, Stability, TypeDef, TypeDefKind, TypeOwner, Whole, about_name, at_contains, at_within, differ_at, kind_of, local_name, name_exprs, slice_get, slice_get_within, types_of}
 use Rattle.wit_types.specs.declared.types.«Type».{«Type» as Ty}
-use Rattle.wit_arena.specs.Expr.{name_exprs}
-use Rattle.wit_arena.specs.Kind.{Kind, kind_of}
-use Rattle.wit_arena.specs.Made.{types_of, IsEntryOf}
-use Rattle.wit_arena.specs.Occurrences.{Key, Def, Whole, Occurrence}
 use Rattle.wit_arena.proofs.OneKind.{one_kind}
 use Rattle.wit_arena.proofs.OneList.{same_by_prefixes}
 use Rattle.wit_arena.proofs.Places.{same_some}

@@ -1,7 +1,6 @@
 -- There is one order of the items of files, and one of the names of each, so that two that are stated agree on all items.
 use Rattle.std.proofs.Common.{◌≡◌, ℕ, suc, ◌<◌, Bool, not, List, length, Some, inl, inr, refl, sym, ap, ◌∙◌, subst, Contains, ◌∷◌}
-use Rattle.wit_syntax.proofs.Common.{Item, PackageFile, all_items, all_scopes, at_split, contains_at, filter, flat_map, flat_map_at, flat_map_has, in_order, in_order_at, inline_items, interfaces_of, is_world, item_row, item_rows, kept_at, length-map, one_answer, order_within, rows_of, scope_names, slice_get, worlds_of}
-use Rattle.wit_arena.specs.Made.{own_interfaces, AreInOrder, AreNamesInOrder, item_turns}
+use Rattle.wit_arena.proofs.Names.{AreInOrder, AreNamesInOrder, Item, PackageFile, all_items, all_scopes, at_split, contains_at, filter, flat_map, flat_map_at, flat_map_has, in_order, in_order_at, inline_items, interfaces_of, is_world, item_row, item_rows, item_turns, kept_at, length-map, one_answer, order_within, own_interfaces, rows_of, scope_names, slice_get, worlds_of}
 use Rattle.wit_arena.proofs.OneMadeTurns.{Agree, same_turns}
 
 module _ (files : List PackageFile) where

@@ -1,9 +1,6 @@
 -- Where two orders of names agree on items, these are resolved in one way, and are in a package in one way.
 use Rattle.std.proofs.Common.{◌≡◌, ℕ, suc, List, [], ◌∷◌, ◌++◌, Some, refl, ap, ◌∙◌}
-use Rattle.wit_syntax.proofs.Common.{Address, Item, SideFunction, SideInline, SideItem, SideLink, address, flat_map, inline_items, interfaces_of, map, side_items, slice_get, worlds_of}
-use Rattle.wit_arena.specs.Made.{interface_turn, turns_on_sides, turns_of_world, item_turns, own_interface, own_world}
-use Rattle.wit_arena.specs.Occurrences.{Key}
-use Rattle.wit_arena.specs.Whole.{Turned}
+use Rattle.wit_arena.proofs.Names.{Address, Item, Key, SideFunction, SideInline, SideItem, SideLink, Turned, address, flat_map, inline_items, interface_turn, interfaces_of, item_turns, map, own_interface, own_world, side_items, slice_get, turns_of_world, turns_on_sides, worlds_of}
 use Rattle.wit_arena.proofs.Turns.{function_turn}
 
 -- what agrees on what a list holds makes one list of it

@@ -1,7 +1,6 @@
 -- Items with an order of their names, and what is resolved where all have one.
 use Rattle.std.proofs.Common.{◌≡◌, ℕ, List, [], ◌∷◌, ◌++◌, Some}
-use Rattle.wit_syntax.proofs.Common.{Address, IsOrder, Item, PackageFile, ScopeName, SideFunction, SideInline, SideItem, SideLink, address, all_items, flat_map, foreign_interfaces, foreign_worlds, functions as item_functions, in_order, in_turn, inline_items, interfaces_of, item_rows, map, rows_of, scope_names, side_items, slice_get, visited, worlds_of}
-use Rattle.wit_arena.specs.Whole.{Turned}
+use Rattle.wit_arena.proofs.Names.{Address, IsOrder, Item, PackageFile, ScopeName, SideFunction, SideInline, SideItem, SideLink, Turned, address, all_items, flat_map, foreign_interfaces, foreign_worlds, functions as item_functions, in_order, in_turn, inline_items, interfaces_of, item_rows, map, rows_of, scope_names, side_items, slice_get, visited, worlds_of}
 
 -- an item, with an order of its names
 pub record Ordered : Type 0 where

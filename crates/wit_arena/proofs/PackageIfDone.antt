@@ -1,19 +1,8 @@
 -- What follows for a package once all interfaces and all worlds are done.
 use Rattle.std.proofs.Common.{◌≡◌, ℕ, ◌+◌, List, ◌++◌, length, Some, ◌⊎◌, inl, inr, refl, sym, ap, ◌∙◌, subst, append_assoc, length-append}
-use Rattle.wit_syntax.proofs.Common.{Address, Exported, ForeignVisit, Id, Imported, IsOrder, Item, PackageFile, ScopeName, TypeDef, address, all_items, at_back, at_part, at_prefix, flat_map, flat_map-append, foreign_interfaces, foreign_worlds, functions, in_order, includes, inline_items, interfaces_of, item_rows, length-map, map, map-append, map_map, option_map, rows_of, scope_names, side_items, slice_get, slice_get-map, slice_get_within, visited, worlds_of}
-use Rattle.wit_model.specs.declared.interface.Interface.{Interface}
-use Rattle.wit_model.specs.declared.world.World.{World}
-use Rattle.wit_arena.specs.Occurrences.{Occurrence, Key, keys, IsOccurrence}
-use Rattle.wit_functions.specs.declared.function.Function.{Function}
-use Rattle.wit_arena.specs.SourceFunctions.{AreFunctions, placed_functions}
-use Rattle.wit_arena.specs.SideItems.{AreSideItems, settled}
-use Rattle.wit_arena.specs.UnfoldedTypes.{world_types}
-use Rattle.wit_arena.specs.OneByOne.{OneByOne}
+use Rattle.wit_arena.proofs.Names.{Address, AddsForeign, AreFunctions, AreIncludes, AreRequired, AreSideItems, Exported, ForeignVisit, Function, HasTypes, Id, Imported, Interface, IsForeignInterface, IsOccurrence, IsOrder, Item, Key, Names, Occurrence, OneByOne, PackageFile, Required, ScopeName, Turned, TypeDef, World, WorldArenas, address, all_items, all_occurrences, at_back, at_part, at_prefix, declarations, flat_map, flat_map-append, foreign_interfaces, foreign_worlds, functions, in_order, includes, inline_items, interfaces_of, item_rows, keys, length-map, map, map-append, map_map, option_map, placed_functions, resolved_scope, rows_of, scope_names, settled, side_items, slice_get, slice_get-map, slice_get_within, turn_handles, type_imports, visited, world_types, worlds_of}
 use Rattle.wit_arena.proofs.Ordered.{Ordered, OrderedWorld, AreOrdered, ordered_names, turned, world_turns, all_turns, all_inside, addresses, interface_addresses, world_addresses}
-use Rattle.wit_arena.specs.Whole.{Turned, turn_handles, AreRequired, all_occurrences, type_imports, declarations, HasTypes, AreIncludes, IsForeignInterface}
 use Rattle.wit_arena.proofs.ByParts.{HasSides, IsPackage, IsResolvedInterface, IsResolvedWorld}
-use Rattle.wit_arena.specs.Resolving.{Names, Required, resolved_scope}
-use Rattle.wit_arena.specs.ResolvedArenas.{WorldArenas, AddsForeign}
 use Rattle.wit_arena.proofs.Members.{DoneScope, turn_of, members}
 use Rattle.wit_arena.proofs.Prefix.{interface_scope, prefix_scopes}
 use Rattle.wit_arena.proofs.ScopesInTurn.{done_required, required_in_turn, ordered_addresses, scope_at, scope_of_entry}

@@ -1,10 +1,9 @@
 -- The types of parts, by their places.
 use Rattle.std.proofs.Common.{◌≡◌, ℕ, zero, suc, [], ◌∷◌, List, Some, All, subst, ◌⊎◌, inl, inr, refl}
-use Rattle.wit_syntax.proofs.Common.{Address, All-cons, All-nil, More, Place, Shapes, placed, slice_get}
-use Rattle.wit_types.specs.declared.types.«Type».{«Type» as Ty}
+use Rattle.wit_arena.proofs.Names.{Address, All-cons, All-nil, AreAt, IsAt, Key, Place, Shapes, expr_of, exprs_of, slice_get}
+use Rattle.wit_syntax.proofs.Common.{More, placed}
 use Rattle.wit_syntax.specs.Shape.{End}
-use Rattle.wit_arena.specs.Expr.{expr_of, exprs_of}
-use Rattle.wit_arena.specs.Occurrences.{Key, IsAt, AreAt}
+use Rattle.wit_types.specs.declared.types.«Type».{«Type» as Ty}
 use Rattle.wit_arena.proofs.Places.{same_some}
 
 -- a type is one of these

@@ -1,20 +1,8 @@
 -- Functions whose setters were put directly after their getters are the same functions.
-use Rattle.std.proofs.Common.{◌≡◌, ℕ, zero, suc, Bool, true, ◌||◌, List, [], ◌∷◌, map, Option, Some, None, ◌⊎◌, inl, inr, refl, sym, ap, ◌∙◌}
-use Rattle.wit_syntax.proofs.Common.{after_one, cases_Bool, cond-false, cond-true, filter, flat_map_at, flat_map_has, kept_at, kept_has, list_any, map_at, option_map, slice_get, slice_get-map, and_parts}
-use Rattle.wit_functions.specs.SettersPlaced.{prefixes, is_getter, goes_on_alike, goes_with, early, others, with_setters, setters_placed, pairs}
-use Rattle.wit_functions.specs.declared.function.Function.{Function}
-use Rattle.wit_functions.specs.declared.function.FunctionKind.{FunctionKind}
+use Rattle.std.proofs.Common.{◌≡◌, ℕ, zero, suc, Bool, true, List, [], ◌∷◌, map, Option, Some, None, ◌⊎◌, inl, inr, refl, sym, ap, ◌∙◌}
+use Rattle.wit_arena.proofs.Names.{Function, FunctionKind, after_one, and_parts, any_found, both, by_name, cases_Bool, cond-false, cond-true, early, filter, flat_map_at, flat_map_has, goes_on_alike, is_getter, is_getter_of, kept_at, kept_has, list_any, map_at, option_map, others, pairs, placed_functions, prefixes, setters_placed, slice_get, slice_get-map, with_setters}
 use Rattle.wit_functions.specs.declared.function.FunctionKind.TheVariants as kind
-use Rattle.wit_arena.specs.SourceFunctions.{by_name, placed_functions}
 use Rattle.wit_arena.proofs.Places.{same_some}
-
--- what passes a test that one of a list passes
-pub any_at : {X : Type 0} (test : X → Bool) (xs : List X) → list_any test xs ≡ true → (i : ℕ) × (x : X) × (slice_get xs i ≡ Some x) × (test x ≡ true)
-any_at test [] h = absurd (let f : ⊥ = cc in f)
-any_at test (x ∷ xs) h = elim (cases_Bool (test x)) [
-  | inl hit ↦ (0, x, refl, hit)
-  | inr miss ↦ (let it = any_at test xs (sym (ap (λ b. b || list_any test xs) miss) ∙ h) in (suc it.0, it.1, it.2, it.3))
-]
 
 module _ {X : Type 0} (goes : X → X → Bool) where
   -- what comes early is in the list, and what is left too
@@ -51,7 +39,7 @@ module _ {X : Type 0} (goes : X → X → Bool) where
   early_or [] i x at = absurd (let f : ⊥ = cc in f)
   early_or (e ∷ es) zero x at = elim (cases_Bool (list_any (goes e) es)) [
     | inl hit ↦ (
-        let it = any_at (goes e) es hit in
+        let it = any_found (goes e) es hit in
         inr (record { place = 0; at = ap (λ zs. slice_get zs 0) (cond-true (list_any (goes e) es) (e ∷ early goes es) (early goes es) hit) ∙ at; index = suc it.0; getter = it.1; there = it.2; is = ap (λ z. goes z it.1) (sym (same_some at)) ∙ it.3 }))
     | inr miss ↦ inl (0, ap (λ zs. slice_get zs 0) (cond-false (list_any (goes e) es) (others goes es) (e ∷ others goes es) miss) ∙ at)
   ]
@@ -92,7 +80,7 @@ getter_prefix : (k : FunctionKind) → is_getter k ≡ true → prefixes k ≡ N
 getter_prefix kind.Getter h = refl
 getter_prefix _ h = cc
 
-stated_alone : (s g x : Option Function) → goes_with s g ≡ true → goes_with g x ≡ true → ⊥
+stated_alone : (s g x : Option Function) → both is_getter_of s g ≡ true → both is_getter_of g x ≡ true → ⊥
 stated_alone (Some s) (Some g) (Some x) one two =
     let getter = (and_parts (is_getter g.kind) (goes_on_alike (prefixes s.kind) s.name g.name) one).0 in
     let goes = (and_parts (is_getter x.kind) (goes_on_alike (prefixes g.kind) g.name x.name) two).1 in

@@ -1,11 +1,8 @@
 -- Where types are among the keys that occurred.
 use Rattle.std.proofs.Common.{◌≡◌, ℕ, List, [], ◌∷◌, ◌++◌, take, Some, refl, sym, ap, ◌∙◌, append_assoc}
-use Rattle.wit_syntax.proofs.Common.{AllDiffer, at_prefix, at_take, slice_get}
+use Rattle.wit_arena.proofs.Names.{AllDiffer, AreAt, Def, End, Expr, Exprs, IsAt, Key, More, Of, Prim, Use, Whole, all_seen, at_prefix, at_take, joined, seen, slice_get}
 use Rattle.wit_types.specs.declared.types.«Type».{«Type» as Ty}
 use Rattle.wit_types.specs.declared.types.«Type».TheVariants.{Id}
-use Rattle.wit_arena.specs.Expr.{Expr, Prim, Use, Of, Exprs, End, More, joined}
-use Rattle.wit_arena.specs.Occurrences.{Key, Def, Whole, IsAt, AreAt}
-use Rattle.wit_arena.specs.Resolving.{seen, all_seen}
 use Rattle.wit_arena.proofs.Primitives.{primitive_type-injective, primitive_type-id}
 
 pub same_some : {X : Type 0} {x y : X} → Some x ≡ Some y → x ≡ y

@@ -1,11 +1,8 @@
 -- Where a function gives the place of each key, it gives the types of all expressions.
 use Rattle.std.proofs.Common.{◌≡◌, ◌↔◌, ℕ, Bool, true, List, [], ◌∷◌, take, Some, refl, sym, ap, ◌∙◌}
-use Rattle.wit_syntax.proofs.Common.{AllDiffer, at_take, differ_at, map_at, position_or_len, slice_get}
+use Rattle.wit_arena.proofs.Names.{AllDiffer, AreAt, Def, End, Expr, Exprs, IsAt, Key, More, Occurrence, Of, Prim, Use, Whole, at_take, differ_at, keys, map_at, position_or_len, slice_get, type_of, types_of}
 use Rattle.wit_types.specs.declared.types.«Type».{«Type» as Ty}
 use Rattle.wit_types.specs.declared.types.«Type».TheVariants.{Id}
-use Rattle.wit_arena.specs.Expr.{Expr, Prim, Use, Of, Exprs, End, More}
-use Rattle.wit_arena.specs.Occurrences.{Key, Def, Whole, Occurrence, keys, IsAt, AreAt}
-use Rattle.wit_arena.specs.Made.{type_of, types_of}
 use Rattle.wit_arena.proofs.Interfaces.{prefix_len-only}
 
 -- this says where each of these keys is

@@ -1,17 +1,8 @@
 -- Where a function gives the place of each key, what means written functions and for names is stated.
 use Rattle.std.proofs.Common.{◌≡◌, ℕ, suc, List, [], ◌∷◌, Option, Some, None, refl, sym, ap, ◌∙◌, arith}
-use Rattle.wit_syntax.proofs.Common.{Address, Constructor, Docs, Id, Method, Role, ScopeName, Shape, SourceFunction, SourceParam, Span, Stability, Static, all_params, local_name, map, option_map, option_to_list, slice_get}
+use Rattle.wit_arena.proofs.Names.{Address, Constructor, Def, Docs, Function, FunctionKind, HasTypes, Id, IsAt, IsFunction, IsKind, IsParam, Key, Method, OneByOne, Param, Role, ScopeName, Shape, SourceFunction, SourceParam, Span, Stability, Static, Turned, all_params, expr_of, function_in, kinds_of, local_name, map, name_places, option_map, option_to_list, role_kind, slice_get, type_of}
 use Rattle.wit_types.specs.declared.types.«Type».{«Type» as Ty}
-use Rattle.wit_functions.specs.declared.function.Function.{Function}
-use Rattle.wit_functions.specs.declared.function.FunctionKind.{FunctionKind}
 use Rattle.wit_functions.specs.declared.function.FunctionKind.TheVariants as kind
-use Rattle.wit_functions.specs.declared.function.Param.{Param}
-use Rattle.wit_arena.specs.Expr.{expr_of}
-use Rattle.wit_arena.specs.SourceFunctions.{kinds_of, IsKind, IsParam, IsFunction}
-use Rattle.wit_arena.specs.Made.{type_of, role_kind, function_in, name_places}
-use Rattle.wit_arena.specs.Occurrences.{Key, Def, IsAt}
-use Rattle.wit_arena.specs.OneByOne.{OneByOne}
-use Rattle.wit_arena.specs.Whole.{Turned, HasTypes}
 use Rattle.wit_arena.proofs.Placing.{GivesPlaces, at-type_of}
 
 -- what is one by one beside a list, where what is beside each is stated, is its image

@@ -1,16 +1,10 @@
 -- Where each type is at its place, so do those below it, by one path.
 use Rattle.std.proofs.Common.{◌≡◌, ℕ, suc, List, [], ◌∷◌, Option, Some, None, inl, inr, refl, sym, ap, ◌∙◌, subst}
-use Rattle.wit_syntax.proofs.Common.{Address, Form, Id, Nothing, PackageFile, Place, ScopeName, Shape, Shapes, Span, TypeDef, about_name, local_name, meaning, named_node, option_map_or, placed, scope, slice_get, source_node, unwrap_or}
-use Rattle.wit_model.specs.declared.unresolved.UnresolvedPackage.{UnresolvedPackage}
+use Rattle.wit_arena.proofs.Names.{Address, AreAt, Decls, Def, Exprs, Form, Id, IsAt, Key, LiesBelow, Nothing, Occurrence, PackageFile, Place, ScopeName, Shape, Shapes, Span, TypeDef, UnresolvedPackage, Whole, about_name, all_seen, entry_node, expr_of, exprs_of, keys, kind_of, local_name, meaning, name_exprs, named_node, node_parts, option_map_or, package_node, scope, seen, slice_get, source_node, unwrap_or}
+use Rattle.wit_syntax.proofs.Common.{placed}
 use Rattle.wit_types.specs.declared.types.«Type».{«Type» as Ty}
 use Rattle.wit_types.specs.declared.types.«Type».TheVariants as type
 use Rattle.wit_syntax.specs.Shape as shape
-use Rattle.wit_arena.specs.Kind.{kind_of}
-use Rattle.wit_arena.specs.Expr.{Exprs, expr_of, exprs_of, name_exprs}
-use Rattle.wit_arena.specs.Occurrences.{Key, Def, Whole, Occurrence, keys, IsAt, AreAt, Decls}
-use Rattle.wit_arena.specs.UnfoldedTypes.{package_node, entry_node}
-use Rattle.wit_arena.specs.Faithful.{node_parts, LiesBelow}
-use Rattle.wit_arena.specs.Resolving.{seen, all_seen}
 use Rattle.wit_arena.proofs.Primitives.{primitive_node}
 use Rattle.wit_arena.proofs.Places.{all_at_untaken}
 use Rattle.wit_arena.proofs.Occurrence.{Has, has_either}

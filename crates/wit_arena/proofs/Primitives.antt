@@ -1,11 +1,9 @@
 -- Primitive types and their words.
 use Rattle.std.proofs.Common.{◌≡◌, ℕ, Option, Some, None, refl, sym, ap, ◌∙◌}
-use Rattle.wit_syntax.proofs.Common.{Leaf, Primitive, primitive_type}
+use Rattle.wit_arena.proofs.Names.{IsBelow, Leaf, Primitive, UnresolvedPackage, package_node, primitive_type}
 use Rattle.wit_type_tree.specs.declared.types.Primitive.TheVariants as primitive
 use Rattle.wit_types.specs.declared.types.«Type».{«Type» as Ty}
 use Rattle.wit_types.specs.declared.types.«Type».TheVariants as type
-use Rattle.wit_model.specs.declared.unresolved.UnresolvedPackage.{UnresolvedPackage}
-use Rattle.wit_arena.specs.UnfoldedTypes.{package_node, IsBelow}
 
 -- the primitive that a type is
 abbrev primitive_of : Ty → Option Primitive

@@ -1,11 +1,7 @@
 -- What handles require of other packages: what is given by the arena is what the files say.
 use Rattle.std.proofs.Common.{◌≡◌, ℕ, ◌+◌, List, [], ◌∷◌, ◌++◌, length, map, Option, Some, None, ◌⊎◌, inl, inr, refl, sym, ap, ◌∙◌, subst, arith}
-use Rattle.wit_syntax.proofs.Common.{Address, Id, PackageFile, TypeDef, at_split, cons_option, filter_map, filter_map-append, slice_get, slice_get_within, AllZip}
-use Rattle.wit_arena.specs.EntryEnds.{IsResource}
+use Rattle.wit_arena.proofs.Names.{Address, AllZip, AreEnded, AreNames, AreRequired, Decls, Def, Env, HandleRequires, Id, IsKeyed, IsResource, Key, PackageFile, Required, TypeDef, at_split, cons_option, filter_map, filter_map-append, slice_get, slice_get_within}
 use Rattle.wit_arena.specs.EntryEnds as ends
-use Rattle.wit_arena.specs.Occurrences.{Key, Def, Decls, IsKeyed}
-use Rattle.wit_arena.specs.Whole.{HandleRequires, AreRequired}
-use Rattle.wit_arena.specs.Resolving.{Env, AreNames, Required, AreEnded}
 use Rattle.wit_arena.proofs.Places.{Extended, key_extended}
 use Rattle.wit_arena.proofs.Ends.{IsDeclared, entry_end-more, end_source}
 
@@ -29,7 +25,7 @@ both_parts us vs xs ys count t a x at there = elim (at_split us vs t a at) [
 ]
 
 -- lists that belong together, one after another
-zip_both : {X Y : Type 0} (R : X → Y → Type 0) (us vs : List X) (xs ys : List Y) → AllZip R us xs → AllZip R vs ys → AllZip R (us ++ vs) (xs ++ ys)
+pub zip_both : {X Y : Type 0} (R : X → Y → Type 0) (us vs : List X) (xs ys : List Y) → AllZip R us xs → AllZip R vs ys → AllZip R (us ++ vs) (xs ++ ys)
 zip_both R [] vs [] ys h k = k
 zip_both R (u ∷ us) vs (x ∷ xs) ys h k = (h.0, zip_both R us vs xs ys h.1 k)
 zip_both R us vs xs ys h k = absurd h

@@ -1,8 +1,6 @@
 -- What the handles of a scope require is distinguished from what is while scopes are resolved.
 use Rattle.std.proofs.Common.{◌≡◌, ℕ, ◌+◌, List, [], ◌∷◌, ◌++◌, length, map, Some, ◌⊎◌, inl, inr, sym, ap, ◌∙◌, subst}
-use Rattle.wit_syntax.proofs.Common.{Address, AllDiffer, PackageFile, TypeDef, address, at_back, at_prefix, at_seam, functions, map-append, scope, slice_get}
-use Rattle.wit_arena.specs.Occurrences.{Occurrence, keys, Decls}
-use Rattle.wit_arena.specs.Resolving.{env_of, Required, resolved_scope, AreNames}
+use Rattle.wit_arena.proofs.Names.{Address, AllDiffer, AreNames, Decls, Occurrence, PackageFile, Required, TypeDef, address, at_back, at_prefix, at_seam, env_of, functions, keys, map-append, resolved_scope, scope, slice_get}
 use Rattle.wit_arena.proofs.Added.{decls}
 use Rattle.wit_arena.proofs.FunctionPart.{DoneFunction, AreDoneNames, IsFunctionPart}
 use Rattle.wit_arena.proofs.Members.{DoneScope, done_address, IsNameOf}

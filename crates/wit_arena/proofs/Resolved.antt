@@ -1,11 +1,7 @@
 -- Files whose interfaces and then worlds were added have these arenas.
 use Rattle.std.proofs.Common.{◌≡◌, ℕ, true, false, List, ◌++◌, map, refl, sym, subst}
-use Rattle.wit_syntax.proofs.Common.{AllDiffer, Fault, IsBrokenNames, IsOrder, Item, PackageFile, TypeDef, all_items, foreign_interfaces, foreign_worlds, in_order, interfaces_of, item_name, item_rows, visited, worlds_of}
-use Rattle.wit_model.specs.declared.interface.Interface.{Interface}
-use Rattle.wit_model.specs.declared.world.World.{World}
-use Rattle.wit_arena.specs.Resolving.{Required}
+use Rattle.wit_arena.proofs.Names.{AddsForeign, AddsInterfaces, AddsWorlds, AllDiffer, Fault, Interface, IsBrokenNames, IsOrder, Item, PackageFile, Required, TypeDef, World, WorldArenas, all_items, foreign_interfaces, foreign_worlds, in_order, interfaces_of, item_name, item_rows, prefix_worlds, visited, worlds_of}
 use Rattle.wit_arena.proofs.ByParts.{IsPackage}
-use Rattle.wit_arena.specs.ResolvedArenas.{WorldArenas, prefix_worlds, AddsInterfaces, AddsWorlds, AddsForeign}
 use Rattle.wit_arena.proofs.Visits.{AreUsableUses}
 use Rattle.wit_arena.proofs.Prefix.{prefix_scopes}
 use Rattle.wit_arena.proofs.Interfaces.{AreOfSort, interfaces_sort, worlds_sort}

@@ -1,12 +1,8 @@
 -- What occurs in types, one after another.
 use Rattle.std.proofs.Common.{ℕ, List, [], ◌∷◌, ◌++◌, refl, sym, ap, ◌∙◌}
-use Rattle.wit_syntax.proofs.Common.{Address, Span, Stability, TypeDef, TypeDefKind, append-nil}
+use Rattle.wit_arena.proofs.Names.{Address, AreResolved, End, Env, Exprs, IsInterned, Occurrence, Of, Span, Stability, TypeDef, TypeDefKind, Whole, all_seen, append-nil, joined, keys, kind_of, one}
 use Rattle.wit_types.specs.declared.types.«Type».{«Type» as Ty}
 use Rattle.wit_types.specs.declared.types.«Type».TheVariants.{Id}
-use Rattle.wit_arena.specs.Kind.{kind_of}
-use Rattle.wit_arena.specs.Expr.{Of, Exprs, End, one, joined}
-use Rattle.wit_arena.specs.Occurrences.{Whole, Occurrence, keys}
-use Rattle.wit_arena.specs.Resolving.{all_seen, Env, IsInterned, AreResolved}
 use Rattle.wit_arena.proofs.Places.{all_at_extended, all_at_joined, all_seen-joined}
 use Rattle.wit_arena.proofs.Occurrence.{keys-append, collects_append, collects_extended, names_kept, occur_whole, IsOnly}
 

@@ -1,14 +1,12 @@
 -- Whether two keys are one and the same.
 use Rattle.std.proofs.Common.{◌≡◌, ◌↔◌, Bool, true, false, ◌&&◌, nat_eq, refl, ap, rules}
 use Rattle.std.specs.Bool.{Decides, beq}
-use Rattle.wit_syntax.proofs.Common.{AliasForm, BorrowForm, Decides-and, Decides-eqb, Decides-like, EnumForm, FixedLengthListForm, FlagsForm, Form, FutureForm, ListForm, MapForm, Member, OptionForm, OwnForm, Primitive, RecordForm, ResourceForm, ResultForm, StreamForm, TupleForm, UnknownForm, VariantForm, bytes_eq, pointwise, primitive_type, same_address, same_address-equal, same_address-from}
+use Rattle.wit_arena.proofs.Names.{AliasForm, BorrowForm, Decides-and, Decides-eqb, Decides-like, Def, End, EnumForm, Expr, Exprs, FixedLengthListForm, FlagsForm, Form, FutureForm, Key, ListForm, MapForm, Member, More, Of, OptionForm, OwnForm, Prim, Primitive, RecordForm, ResourceForm, ResultForm, StreamForm, TupleForm, UnknownForm, Use, VariantForm, Whole, bytes_eq, pointwise, primitive_type, same_address, same_address-equal, same_address-from}
 use Rattle.std.specs.Cmp.{booleans_Decides}
 use Rattle.wit_values.specs.contracts.span.SpanPartialEq.TheImpl.{eq-value as span_test}
 use Rattle.wit_types.specs.contracts.docs.DocsPartialEq.TheImpl.{eq-value as docs_test}
 use Rattle.wit_types.specs.contracts.types.TypePartialEq.TheImpl.{eq-value as type_test}
 use Rattle.wit_types.proofs.Same.{Decides-row, Decides-text, Decides-type}
-use Rattle.wit_arena.specs.Expr.{Expr, Prim, Use, Of, Exprs, End, More}
-use Rattle.wit_arena.specs.Occurrences.{Key, Def, Whole}
 use Rattle.wit_arena.proofs.Primitives.{primitive_type-injective}
 
 abbrev same_primitive : Primitive → Primitive → Bool

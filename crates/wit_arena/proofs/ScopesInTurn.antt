@@ -1,12 +1,7 @@
 -- Interfaces, or worlds, that are done one after another, as scopes.
 use Rattle.std.proofs.Common.{◌≡◌, ℕ, suc, ◌+◌, List, [], ◌∷◌, ◌++◌, length, Some, inl, inr, refl, sym, ap, ◌∙◌, subst, append_assoc, arith, length-append, zero-add, add-zero}
-use Rattle.wit_syntax.proofs.Common.{Address, AllDiffer, AreDistinct, FunctionKey, IsOrder, Item, PackageFile, ScopeName, TypeDef, TypeOwner, address, append-nil, at_either, at_part, at_seam, at_within, differ_at, flat_map, flat_map-append, foreign_uses, functions, in_turn, in_turn_among, in_turn_distinct, in_turn_has, length-map, local_names, map, map-append, map_at, map_map, option_map, rows_of, scope, scope_names, slice_get, slice_get-map, slice_get_within}
-use Rattle.wit_arena.specs.Occurrences.{Key, Occurrence, Decls}
+use Rattle.wit_arena.proofs.Names.{Address, AddsAfter, AddsEach, AllDiffer, AreDistinct, AreRequired, Decls, Defines, Function, FunctionKey, IsOrder, Item, Key, Names, Occurrence, PackageFile, Required, ResolvedScope, ScopeName, Turned, TypeDef, TypeOwner, address, all_occurrences, append-nil, at_either, at_part, at_seam, at_within, differ_at, flat_map, flat_map-append, foreign_use_occurrence, foreign_uses, functions, in_turn, in_turn_among, in_turn_distinct, in_turn_has, length-map, local_names, map, map-append, map_at, map_map, option_map, rows_of, scope, scope_names, slice_get, slice_get-map, slice_get_within, turn_handles, turn_occurrences}
 use Rattle.wit_arena.proofs.Ordered.{Ordered, ordered_names, turned, addresses}
-use Rattle.wit_arena.specs.Whole.{Turned, turn_occurrences, foreign_use_occurrence, all_occurrences, turn_handles, AreRequired}
-use Rattle.wit_functions.specs.declared.function.Function.{Function}
-use Rattle.wit_arena.specs.Resolving.{Names, ResolvedScope, Required, Defines}
-use Rattle.wit_arena.specs.ResolvedArenas.{AddsAfter, AddsEach}
 use Rattle.wit_arena.proofs.Members.{DoneScope, turn_of, resolved_scope_of, IsTurn, IsDone}
 use Rattle.wit_arena.proofs.Required.{required_none, required_append}
 use Rattle.wit_arena.proofs.DoneScopes.{AddsDone, done_more}

@@ -1,7 +1,6 @@
 -- Names of a scope, one after another, and their rows.
 use Rattle.std.proofs.Common.{◌≡◌, ℕ, zero, suc, Bool, true, false, cond, List, [], ◌∷◌, ◌++◌, take, Option, Some, IsSome, nat_eq, inl, inr, refl, sym, ap, ◌∙◌, subst, arith, ◌<◌}
-use Rattle.wit_syntax.proofs.Common.{Contains, Id, IsEdge, IsOrder, Leads, Row, ScopeName, at_contains, at_either, get_or_from_slice_get, in_order, in_order_has, local_name, lookup-insert_entry, name_itself, needed_ids, option_map, place_of-Some, pointwise, row_of, rows_of, slice_get, slice_get-get_or, slice_get-map, slice_get-take, slice_get_within, slice_index, some_of, target}
-use Rattle.wit_arena.specs.Resolving.{Env, Names, env_of, HasNames, IsStored}
+use Rattle.wit_arena.proofs.Names.{Contains, Env, HasNames, Id, IsEdge, IsOrder, IsStored, Leads, Names, Row, ScopeName, at_contains, at_either, env_of, get_or_from_slice_get, in_order, in_order_has, local_name, lookup-insert_entry, name_itself, needed_ids, option_map, place_of-Some, pointwise, row_of, rows_of, slice_get, slice_get-get_or, slice_get-map, slice_get-take, slice_get_within, slice_index, some_of, target}
 
 -- the name after a row
 pub name_at : (xs : List ScopeName) (i : ℕ) (r : Row) → slice_get (rows_of xs) i ≡ Some r → (x : ScopeName) × (slice_get xs i ≡ Some x) × (row_of x ≡ r)

@@ -1,17 +1,8 @@
 -- A side of a world whose setters were placed has what it had: its types in front, and its interfaces in their order.
 use Rattle.std.proofs.Common.{◌≡◌, ℕ, zero, suc, Bool, true, false, cond, List, [], ◌∷◌, ◌++◌, Some, None, Option, inl, inr, refl, ap, ◌∙◌, subst}
-use Rattle.wit_syntax.proofs.Common.{Include, ScopeName, cases_Bool, filter, filter-append, flat_map, flat_map-append, flat_map_at, flat_map_has, kept_at, kept_none, list_any, slice_get}
-use Rattle.wit_functions.specs.SettersPlaced.{early, goes_with, others, with_setters, setters_placed, pairs}
-use Rattle.wit_model.specs.ItemsOfWorlds.{function_of}
-use Rattle.wit_functions.specs.declared.function.Function.{Function}
-use Rattle.wit_model.specs.declared.world.WorldItem.{WorldItem}
+use Rattle.wit_arena.proofs.Names.{Function, Include, Names, ScopeName, WorldItem, WorldKey, any_found, both, cases_Bool, early, filter, filter-append, flat_map, flat_map-append, flat_map_at, flat_map_has, function_of, interface_items, is_getter_of, is_interface_item, kept_at, kept_none, list_any, others, pairs, setters_placed, settled, slice_get, type_imports, with_setters}
 use Rattle.wit_model.specs.declared.world.WorldItem.TheVariants as item
-use Rattle.wit_model.specs.declared.world.WorldKey.{WorldKey}
-use Rattle.wit_arena.specs.UnfoldedTypes.{is_interface_item, interface_items}
-use Rattle.wit_arena.specs.Resolving.{Names}
-use Rattle.wit_arena.specs.SideItems.{settled}
-use Rattle.wit_arena.specs.Whole.{type_imports}
-use Rattle.wit_arena.proofs.Placed.{any_at, getters_alone, placed_at, placed_has}
+use Rattle.wit_arena.proofs.Placed.{getters_alone, placed_at, placed_has}
 use Rattle.wit_arena.proofs.Places.{same_some}
 
 abbrev Entry : Type 0
@@ -72,7 +63,7 @@ module _ {X : Type 0} (goes : X → X → Bool) where
     others_passed : (es : List X) → filter test (others goes es) ≡ filter test es
     others_passed [] = refl
     others_passed (e ∷ es) = elim (cases_Bool (list_any (goes e) es)) [
-      | inl hit ↦ (let g = any_at (goes e) es hit in rw (hit, fails e g.1 g.3) (others_passed es))
+      | inl hit ↦ (let g = any_found (goes e) es hit in rw (hit, fails e g.1 g.3) (others_passed es))
       | inr miss ↦ rw miss (ap (λ (l : List X). cond (test e) (e ∷ l) l) (others_passed es))
     ]
 
@@ -84,7 +75,7 @@ module _ {X : Type 0} (goes : X → X → Bool) where
         let none : filter test own ≡ [] = kept_none test own (λ i s at. (let k = kept_at (λ z. goes z e) setters i s at in fails s e k.2)) in
         ap (λ (l : List X). cond (test e) (e ∷ l) l) (filter-append test own rest ∙ ap (λ (l : List X). l ++ filter test rest) none ∙ set_passed setters es)
 
-goes_none : (s : Option Function) → goes_with s None ≡ false
+goes_none : (s : Option Function) → both is_getter_of s None ≡ false
 goes_none None = refl
 goes_none (Some s) = refl
 
@@ -98,7 +89,7 @@ types_stated xs types k x at = absurd (let f : ⊥ = cc in f)
 pub settled_types : (is : List Include) (xs : List ScopeName) (types : Names) (ys : List Entry) → settled is (type_imports xs types ++ ys) ≡ type_imports xs types ++ settled is ys
 settled_types [] xs types ys = placed_prefix (pairs function_of) (type_imports xs types) ys (λ k x at y. (
     let none = types_stated xs types k x at in
-    (ap (λ o. goes_with o (function_of y.1)) none, ap (λ o. goes_with (function_of y.1) o) none ∙ goes_none (function_of y.1))))
+    (ap (λ o. both is_getter_of o (function_of y.1)) none, ap (λ o. both is_getter_of (function_of y.1) o) none ∙ goes_none (function_of y.1))))
 settled_types (i ∷ is) xs types ys = refl
 
 -- no setter is an interface

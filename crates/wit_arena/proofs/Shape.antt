@@ -1,11 +1,7 @@
 -- Types refer backwards, and unnamed ones are one where they are equal.
 use Rattle.std.proofs.Common.{◌≡◌, ℕ, List, [], ◌∷◌, take, Some, None, inl, inr, sym, ap, ◌∙◌, subst, arith}
-use Rattle.wit_syntax.proofs.Common.{TypeDef, TypeDefKind, at_take, at_within, slice_get, slice_get_within}
+use Rattle.wit_arena.proofs.Names.{AreAt, At, Decls, Def, End, Expr, Exprs, IsAt, IsBelow, IsEntry, IsKeyed, Key, More, Of, Prim, TypeDef, TypeDefKind, Use, Whole, at_take, at_within, kind_of, name_exprs, slice_get, slice_get_within}
 use Rattle.wit_types.specs.declared.types.«Type».{«Type» as Ty}
-use Rattle.wit_arena.specs.Kind.{kind_of}
-use Rattle.wit_arena.specs.Expr.{Expr, Prim, Use, Of, Exprs, End, More, name_exprs}
-use Rattle.wit_arena.specs.Occurrences.{Key, Def, Whole, IsAt, AreAt, Decls, IsEntry, IsKeyed}
-use Rattle.wit_arena.specs.UnfoldedTypes.{At, IsBelow}
 use Rattle.wit_arena.proofs.Parts.{HasPart}
 use Rattle.wit_arena.proofs.Primitives.{primitive_below}
 use Rattle.wit_arena.proofs.Places.{all_at_untaken, all_at_injective}

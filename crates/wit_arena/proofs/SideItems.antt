@@ -1,12 +1,6 @@
 -- The functions and the types among what is on a side, and the addresses of its interfaces.
 use Rattle.std.proofs.Common.{◌≡◌, ℕ, List, [], ◌∷◌, ◌++◌, Option, Some, None, refl, sym, ap, ◌∙◌, map, inl, inr}
-use Rattle.wit_syntax.proofs.Common.{Address, Id, Link, SideFunction, SideInline, SideItem, SideLink, TopName, WorldSide, cases_Bool, cond-false, cond-true, flat_map, item_function, path_scope, role_side, same_side, slice_get}
-use Rattle.wit_functions.specs.declared.function.Function.{Function}
-use Rattle.wit_model.specs.declared.world.WorldKey.{WorldKey}
-use Rattle.wit_model.specs.declared.world.WorldItem.{WorldItem}
-use Rattle.wit_arena.specs.SourceFunctions.{by_name, function_item}
-use Rattle.wit_arena.specs.UnfoldedTypes.{import_types, item_functions}
-use Rattle.wit_arena.specs.SideItems.{link_item, inline_entry, put_on, AreSideItems}
+use Rattle.wit_arena.proofs.Names.{Address, AreSideItems, Function, Id, Link, SideFunction, SideInline, SideItem, SideLink, TopName, WorldItem, WorldKey, WorldSide, by_name, cases_Bool, cond-false, cond-true, flat_map, function_item, import_types, inline_entry, item_function, item_functions, link_item, path_scope, put_on, role_side, same_side, slice_get}
 use Rattle.wit_arena.proofs.MadeOn.{made_on}
 
 -- what an item puts on a side brings there what it has, or nothing

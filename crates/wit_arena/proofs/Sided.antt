@@ -1,21 +1,12 @@
 -- What is on the sides of a world is done, one after another: its functions, and the interfaces that are written there.
 use Rattle.std.proofs.Common.{◌≡◌, ℕ, suc, ◌+◌, false, List, [], ◌∷◌, ◌++◌, length, map, Some, inl, inr, refl, sym, ap, ◌∙◌, subst, append_assoc, arith, length-append}
-use Rattle.wit_syntax.proofs.Common.{Address, AllDiffer, Extern, Id, InterfaceItem, Item, Link, PackageFile, ScopeName, SideFunction, SideInline, SideItem, SideLink, SourceFunction, TypeDef, address, after_one, all_handles, all_types, append-nil, at_back, at_either, at_part, at_prefix, at_seam, differ_head, differ_tail, flat_map, functions, functions_imported, in_turn, is_world, item_function, item_inline, map-append, scope, scope_names, slice_get, written_types}
-use Rattle.wit_type_tree.specs.declared.types.«Type».{«Type» as Written}
+use Rattle.wit_arena.proofs.Names.{Address, AddsFunctions, AddsInterface, AddsSides, AllDiffer, AreEnded, AreRequired, Collects, Decls, Def, Extern, Function, HasFunctions, Id, Interface, InterfaceItem, IsFunction, Item, Key, Link, Occurrence, PackageFile, Required, ResolvedScope, ScopeName, SideFunction, SideInline, SideItem, SideLink, SourceFunction, Turned, TypeDef, address, after_one, all_function_occurrences, all_handles, all_types, append-nil, at_back, at_either, at_part, at_prefix, at_seam, differ_head, differ_tail, env_of, flat_map, functions, functions_at, functions_imported, in_turn, interface_functions, is_world, item_function, item_inline, keys, map-append, scope, scope_names, slice_get, turn_handles, turn_occurrences, written_types, «Type» as Written}
 use Rattle.wit_types.specs.declared.types.TypeOwner.TheVariants as owner
-use Rattle.wit_functions.specs.declared.function.Function.{Function}
-use Rattle.wit_model.specs.declared.interface.Interface.{Interface}
-use Rattle.wit_arena.specs.SourceFunctions.{IsFunction}
-use Rattle.wit_arena.specs.Occurrences.{Key, Def, Occurrence, keys, Collects, Decls, all_function_occurrences}
-use Rattle.wit_arena.specs.UnfoldedTypes.{interface_functions}
-use Rattle.wit_arena.specs.Resolving.{env_of, ResolvedScope, Required, HasFunctions, AddsFunctions, AreEnded}
-use Rattle.wit_arena.specs.ResolvedArenas.{AddsInterface, AddsSides}
 use Rattle.wit_arena.proofs.Ordered.{Ordered, turned, side_turns}
-use Rattle.wit_arena.specs.Whole.{Turned, functions_at, turn_occurrences, turn_handles, AreRequired}
 use Rattle.wit_arena.proofs.Added.{defines_wider}
 use Rattle.wit_arena.proofs.DoneNames.{done_function, done_function_from, names_of_functions}
 use Rattle.wit_arena.proofs.FunctionPart.{DoneFunction, done_functions, scope_functions, IsFunctionPart}
-use Rattle.wit_arena.proofs.DoneWorlds.{all_handles-append, function_part_declared}
+use Rattle.wit_arena.proofs.DoneWorlds.{function_part_declared}
 use Rattle.wit_arena.proofs.FreeNames.{AreStated}
 use Rattle.wit_arena.proofs.Inside.{IsInside, AreInside}
 use Rattle.wit_arena.proofs.ScopesInTurn.{laid_scope, in_turn_is}
@@ -25,6 +16,7 @@ use Rattle.wit_arena.proofs.Signatures.{function_extended, names_beside, no_name
 use Rattle.wit_arena.proofs.Members.{DoneScope, turn_of, resolved_scope_of, IsTurn}
 use Rattle.wit_arena.proofs.Stating.{stated_placed}
 use Rattle.wit_arena.proofs.Turns.{item_of, function_turn, occurrences, all_name_occurrences}
+use Rattle.wit_arena.proofs.Written.{all_handles-append}
 
 module _ (files : List PackageFile) (decls : Decls) (written : List Occurrence) (cs : List DoneScope) (gs : List DoneFunction) (es es' : List TypeDef) (d : IsFunctionPart files decls written cs gs es) (t : ℕ) (c : DoneScope) (at_c : slice_get cs t ≡ Some c) (fns : List SourceFunction) (fs : List Function) (adds : AddsFunctions es es' c.address c.types fns fs) where
   abbrev s : Address

@@ -1,20 +1,10 @@
 -- What occurs in functions, and the types of functions of the package.
 use Rattle.std.proofs.Common.{◌≡◌, ℕ, List, [], ◌∷◌, ◌++◌, length, map, Some, inl, inr, refl, sym, ap, ◌∙◌, subst, length-append, arith}
-use Rattle.wit_syntax.proofs.Common.{Address, Constructor, Form, Method, Role, Shape, SourceFunction, SourceParam, Static, Unknown, all_params, at_within, flat_map, length-map, map_at, option_to_list, signature, slice_get, slice_get_within, flat_map-flat_map}
+use Rattle.wit_arena.proofs.Names.{Address, AreFunctions, AreKnown, AreNames, Collects, Constructor, Def, Env, Exprs, Form, Function, FunctionKind, IsAt, IsFunction, IsKind, IsParam, Key, Method, Occurrence, OneByOne, Param, ResolvedScope, Role, Shape, SourceFunction, SourceParam, Static, Unknown, Whole, all_function_occurrences, all_params, all_seen, at_within, env_of, expr_of, exprs_of, flat_map, flat_map-flat_map, function_types, gathered, keys, length-map, map_at, option_to_list, seen, shape_occurrences, shapes_occurrences, signature, slice_get, slice_get_within}
 use Rattle.wit_types.specs.declared.types.«Type».{«Type» as Ty}
-use Rattle.wit_functions.specs.declared.function.Function.{Function}
-use Rattle.wit_functions.specs.declared.function.FunctionKind.{FunctionKind}
-use Rattle.wit_functions.specs.declared.function.Param.{Param}
-use Rattle.wit_arena.specs.SourceFunctions.{IsKind, IsFunction, AreFunctions, IsParam}
-use Rattle.wit_arena.specs.Expr.{Exprs, expr_of, exprs_of}
-use Rattle.wit_arena.specs.Occurrences.{Key, Def, Whole, Occurrence, keys, Collects, IsAt, shape_occurrences, shapes_occurrences, all_function_occurrences}
-use Rattle.wit_arena.specs.UnfoldedTypes.{function_types}
-use Rattle.wit_arena.specs.Resolving.{ResolvedScope, Env, env_of, seen, all_seen, AreNames, AreKnown}
-use Rattle.wit_arena.specs.Adding.{gathered}
 use Rattle.wit_arena.proofs.Keys.{keys-shape, keys-shapes}
 use Rattle.wit_arena.proofs.Occurrence.{Has, names_kept, no_defs, has_from}
 use Rattle.wit_arena.proofs.Places.{Extended, key_extended, at_extended}
-use Rattle.wit_arena.specs.OneByOne.{OneByOne}
 use Rattle.wit_arena.proofs.Required.{both_parts}
 
 -- the expressions in functions

@@ -1,16 +1,6 @@
 -- The types and the functions among what a world imports and exports, and what owners state of the functions that were made of theirs.
 use Rattle.std.proofs.Common.{◌≡◌, ℕ, ◌+◌, List, [], ◌∷◌, ◌++◌, length, map, Some, inl, inr, refl, sym, ap, ◌∙◌, subst}
-use Rattle.wit_syntax.proofs.Common.{Address, Exported, FunctionKey, Imported, Include, ScopeName, SideItem, SourceFunction, TopName, WorldSide, append-nil, at_back, at_prefix, at_split, flat_map, flat_map-append, item_function, local_names, map_at, option_map, role_side, slice_get, slice_get-map}
-use Rattle.wit_functions.specs.declared.function.Function.{Function}
-use Rattle.wit_model.specs.declared.interface.Interface.{Interface}
-use Rattle.wit_model.specs.declared.world.World.{World}
-use Rattle.wit_model.specs.declared.world.WorldKey.{WorldKey}
-use Rattle.wit_model.specs.declared.world.WorldItem.{WorldItem}
-use Rattle.wit_arena.specs.SourceFunctions.{by_name, placed_functions}
-use Rattle.wit_arena.specs.SideItems.{AreSideItems, settled}
-use Rattle.wit_arena.specs.UnfoldedTypes.{import_types, item_functions, keyed, interface_functions, world_functions}
-use Rattle.wit_arena.specs.Whole.{type_imports}
-use Rattle.wit_arena.specs.Resolving.{Names}
+use Rattle.wit_arena.proofs.Names.{Address, AreSideItems, Exported, Function, FunctionKey, Imported, Include, Interface, Names, ScopeName, SideItem, SourceFunction, TopName, World, WorldItem, WorldKey, WorldSide, append-nil, at_back, at_prefix, at_split, by_name, flat_map, flat_map-append, import_types, interface_functions, item_function, item_functions, keyed, local_names, map_at, option_map, placed_functions, role_side, settled, slice_get, slice_get-map, type_imports, world_functions}
 use Rattle.wit_arena.proofs.FreeNames.{made_key, AreStated}
 use Rattle.wit_arena.proofs.MadeOn.{made_on, made_on_has, made_on_pair}
 use Rattle.wit_arena.proofs.SideItems.{side_functions}

@@ -1,11 +1,6 @@
 -- Words for what the definitions of occurrences, of turns and of kinds say in place.
-use Rattle.wit_syntax.proofs.Common.{Address, ForeignVisit, FuncForm, Item, List, PackageFile, ScopeName, SourceFunction, Stability, [], about_name, filter, flat_map, foreign_visits, map, same_address, scope, stability_of, unwrap_or, visited, ℕ, ◌∷◌}
-use Rattle.wit_model.specs.declared.ast_item.AstItem.{AstItem}
-use Rattle.wit_functions.specs.declared.function.FunctionKind.{FunctionKind}
-use Rattle.wit_arena.specs.SourceFunctions.{kinds_of}
-use Rattle.wit_arena.specs.Occurrences.{Occurrence, shapes_occurrences, name_occurrences}
+use Rattle.wit_arena.proofs.Names.{Address, AstItem, ForeignVisit, FuncForm, FunctionKind, Item, List, Occurrence, PackageFile, ScopeName, SourceFunction, Stability, Turned, [], about_name, filter, flat_map, foreign_entry, foreign_visits, kinds_of, map, name_occurrences, same_address, scope, shapes_occurrences, stability_of, turn_occurrences, unwrap_or, visited, ℕ, ◌∷◌}
 use Rattle.wit_arena.proofs.Ordered.{Ordered, OrderedWorld}
-use Rattle.wit_arena.specs.Whole.{Turned, turn_occurrences, foreign_entry}
 
 abbrev pub item_of : Ordered → Item
 item_of o = o.item

@@ -1,11 +1,9 @@
 -- Kinds and their forms and parts.
 use Rattle.std.proofs.Common.{◌≡◌, List, [], ◌∷◌, ◌++◌, Option, Some, None, is_some, true, false, refl, sym, ap, ◌∙◌, subst}
-use Rattle.wit_syntax.proofs.Common.{Borrow, BorrowForm, FixedLengthListForm, Form, FutureForm, ListForm, MapForm, OptionForm, Own, ResultForm, StreamForm, TupleForm, TypeDefKind, option_to_list}
+use Rattle.wit_arena.proofs.Names.{Borrow, BorrowForm, FixedLengthListForm, Form, FutureForm, IsAnonymousForm, ListForm, MapForm, OptionForm, Own, ResultForm, StreamForm, TupleForm, TypeDefKind, kind_of, option_to_list}
 use Rattle.wit_types.specs.declared.types.«Type».{«Type» as Ty}
 use Rattle.wit_types.specs.declared.types.«Type».TheVariants.{Id}
 use Rattle.wit_types.specs.declared.types.TypeDefKind.TheVariants as kind
-use Rattle.wit_arena.specs.Kind.{kind_of}
-use Rattle.wit_arena.specs.Faithful.{IsAnonymousForm}
 use Rattle.wit_arena.proofs.Occurrence.{IsOnly}
 
 -- the kind of an unnamed type from its form and parts

@@ -1,7 +1,6 @@
 -- Used names, one after another.
 use Rattle.std.proofs.Common.{◌≡◌, ℕ, zero, suc, List, [], ◌∷◌, ◌++◌, length, Some, IsSome, true, inl, inr, nat_eq, refl, sym, ap, ◌∙◌}
-use Rattle.wit_syntax.proofs.Common.{Address, Attribute, ScopeName, TypeDef, TypeOwner, UseName, Used, local_name, local_names, lookup, map, map-append, name_cases, name_itself, names-insert_entry, option_map, pointwise, slice_get, slice_get-map}
-use Rattle.wit_arena.specs.Resolving.{Names, ResolvedScope, env_of, HasNames, IsUsed}
+use Rattle.wit_arena.proofs.Names.{Address, Attribute, HasNames, IsUsed, Names, ResolvedScope, ScopeName, TypeDef, TypeOwner, UseName, Used, env_of, local_name, local_names, lookup, map, map-append, name_cases, name_itself, names-insert_entry, option_map, pointwise, slice_get, slice_get-map}
 
 -- a name that is listed finds a value
 pub lookup-listed : (es : Names) (k : ℕ) (name : List ℕ) → slice_get (map (λ p. p.0) es) k ≡ Some name → IsSome (lookup (pointwise nat_eq name) es)

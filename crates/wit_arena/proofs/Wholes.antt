@@ -1,9 +1,6 @@
 -- Where unnamed types occur in scopes.
 use Rattle.std.proofs.Common.{◌≡◌, ℕ, List, [], ◌∷◌, ◌++◌, Some, ◌⊎◌, inl, inr, subst}
-use Rattle.wit_syntax.proofs.Common.{Address, Form, ScopeName, SourceFunction, local_name, slice_get}
-use Rattle.wit_arena.specs.Expr.{Exprs, name_exprs}
-use Rattle.wit_arena.specs.Occurrences.{Key, Def, Whole, keys, name_occurrences, all_function_occurrences}
-use Rattle.wit_arena.specs.Resolving.{all_seen}
+use Rattle.wit_arena.proofs.Names.{Address, Def, Exprs, Form, Key, ScopeName, SourceFunction, Whole, all_function_occurrences, all_seen, keys, local_name, name_exprs, name_occurrences, slice_get}
 use Rattle.wit_arena.proofs.Occurrence.{Has, has_either, keys-append, has_from}
 use Rattle.wit_arena.proofs.DefinitionPart.{name_keys, parts_keys}
 use Rattle.wit_arena.proofs.Signatures.{IsInFunctions, whole_in_functions}

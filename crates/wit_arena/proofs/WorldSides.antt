@@ -1,16 +1,9 @@
 -- The names of a world that comes next, and what is on its sides, after interfaces and worlds that are done.
 use Rattle.std.proofs.Common.{◌≡◌, ℕ, ◌+◌, true, false, List, [], ◌∷◌, ◌++◌, length, map, Some, inl, inr, sym, ap, ◌∙◌, subst, append_assoc, arith, length-append}
-use Rattle.wit_syntax.proofs.Common.{Address, FunctionKey, Item, PackageFile, ScopeName, SideItem, TypeDef, TypeOwner, WorldNamed, address, all_items, append-nil, at_back, at_either, at_part, at_prefix, at_seam, differ_at, differ_by, flat_map, flat_map-append, foreign_interfaces, foreign_worlds, in_turn, inline_inside, inline_interface, inline_items, inline_items_differ, inside_one, is_inside, length-map, map-append, map_at, option_map, scope, scope_names, slice_get, slice_get-map, slice_get_within, visited}
-use Rattle.wit_functions.specs.declared.function.Function.{Function}
-use Rattle.wit_model.specs.declared.interface.Interface.{Interface}
-use Rattle.wit_model.specs.declared.world.World.{World}
+use Rattle.wit_arena.proofs.Names.{Address, AddsForeign, AddsScope, AddsSides, Defines, Function, FunctionKey, Interface, Item, Names, Occurrence, PackageFile, Required, ResolvedScope, ScopeName, SideItem, Turned, TypeDef, TypeOwner, World, WorldArenas, WorldNamed, address, all_items, all_occurrences, append-nil, at_back, at_either, at_part, at_prefix, at_seam, differ_at, differ_by, flat_map, flat_map-append, foreign_interfaces, foreign_worlds, in_turn, inline_inside, inline_interface, inline_items, inline_items_differ, inside_one, interfaces_at, is_inside, length-map, map-append, map_at, option_map, resolved_scopes, scope, scope_names, slice_get, slice_get-map, slice_get_within, visited, worlds_at}
 use Rattle.wit_types.specs.declared.types.TypeOwner.TheVariants as owner
-use Rattle.wit_arena.specs.Occurrences.{Occurrence}
-use Rattle.wit_arena.specs.ResolvedArenas.{interfaces_at, worlds_at, WorldArenas, AddsScope, AddsSides, AddsForeign}
 use Rattle.wit_arena.proofs.Visits.{AreUsableUses}
-use Rattle.wit_arena.specs.Resolving.{Names, ResolvedScope, Required, resolved_scopes, Defines}
 use Rattle.wit_arena.proofs.Ordered.{Ordered, all_turns, all_inside}
-use Rattle.wit_arena.specs.Whole.{Turned, all_occurrences}
 use Rattle.wit_syntax.specs.Source as source
 use Rattle.wit_arena.proofs.Added.{InterfacesDone, WorldOwner, inside_of, interface_list, world_list, decls, defines_wider, prefix_apart, resolved_scopes_among, next_world, inline_declared, world_item_declared}
 use Rattle.wit_arena.proofs.Sided.{AreSided, IsFreshInside, are_sided}

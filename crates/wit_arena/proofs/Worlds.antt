@@ -1,18 +1,8 @@
 -- Worlds that were added are done, after interfaces, each with the interfaces that are written in it.
 use Rattle.std.proofs.Common.{◌≡◌, ℕ, suc, ◌+◌, true, false, List, [], ◌∷◌, ◌++◌, length, map, Some, inl, inr, refl, sym, ap, ◌∙◌, subst, append_assoc, arith, length-append, zero-add, add-zero}
-use Rattle.wit_syntax.proofs.Common.{Address, Exported, FunctionKey, Id, Imported, Item, PackageFile, ScopeName, SourceFunction, TypeDef, address, all_handles, all_items, append-nil, at_back, at_either, at_prefix, at_seam, flat_map, flat_map-append, flat_map_has, foreign_interfaces, foreign_worlds, functions, functions_items, in_turn, includes, inline_items, item_function, length-map, local_names, map-append, name_types, scope_names, side_items, slice_get, visited, written_types}
-use Rattle.wit_functions.specs.declared.function.Function.{Function}
-use Rattle.wit_model.specs.declared.interface.Interface.{Interface}
-use Rattle.wit_model.specs.declared.world.World.{World}
-use Rattle.wit_type_tree.specs.declared.types.«Type».{«Type» as Written}
-use Rattle.wit_arena.specs.Occurrences.{Occurrence, keys, Collects}
-use Rattle.wit_arena.specs.UnfoldedTypes.{import_types, world_functions}
-use Rattle.wit_arena.specs.SideItems.{settled}
-use Rattle.wit_arena.specs.ResolvedArenas.{interfaces_at, worlds_at, WorldArenas, prefix_worlds, AddsWorld, AddsWorlds, AddsForeign}
+use Rattle.wit_arena.proofs.Names.{Address, AddsForeign, AddsWorld, AddsWorlds, AreRequired, Collects, Exported, Function, FunctionKey, Id, Imported, Interface, Item, Names, Occurrence, PackageFile, Required, ScopeName, SourceFunction, Turned, TypeDef, World, WorldArenas, address, all_handles, all_items, all_occurrences, append-nil, at_back, at_either, at_prefix, at_seam, env_of, flat_map, flat_map-append, flat_map_has, foreign_interfaces, foreign_worlds, functions, functions_at, functions_items, import_types, in_turn, includes, inline_items, interfaces_at, item_function, keys, length-map, local_names, map-append, name_types, prefix_worlds, scope_names, settled, side_items, slice_get, turn_handles, visited, world_functions, worlds_at, written_types, «Type» as Written}
 use Rattle.wit_arena.proofs.Visits.{AreUsableUses}
-use Rattle.wit_arena.specs.Resolving.{Names, env_of, Required}
 use Rattle.wit_arena.proofs.Ordered.{Ordered, OrderedWorld, addresses, turned, side_turns, world_turns, all_turns, all_inside}
-use Rattle.wit_arena.specs.Whole.{Turned, all_occurrences, turn_handles, AreRequired, functions_at}
 use Rattle.wit_arena.proofs.Added.{InterfacesDone, WorldOwner, inside_of, interface_list, world_list, decls}
 use Rattle.wit_arena.proofs.Sided.{AreAsStated, AreSided}
 use Rattle.wit_arena.proofs.DoneNames.{done_of}
@@ -29,10 +19,11 @@ use Rattle.wit_arena.proofs.SideItems.{side_types, side_items_wider}
 use Rattle.wit_arena.proofs.Members.{DoneScope, turn_of, resolved_scope_of, IsDone}
 use Rattle.wit_arena.proofs.Settled.{settled_none, settled_types}
 use Rattle.wit_arena.proofs.Stating.{stated_settled}
-use Rattle.wit_arena.proofs.DoneWorlds.{none_left, inline_count, SaysWorld, MakesWorld, world_resolved_scope, DoneWorld, own_scope, scopes_of, all_within, own_order, AreWorldsDone, includes_wider, named_world, own_types, all_handles-append, written_more, scopes_more, handles_more, one_of_three, function_part_declared}
+use Rattle.wit_arena.proofs.DoneWorlds.{none_left, inline_count, SaysWorld, MakesWorld, world_resolved_scope, DoneWorld, own_scope, scopes_of, all_within, own_order, AreWorldsDone, includes_wider, named_world, own_types, written_more, scopes_more, handles_more, one_of_three, function_part_declared}
 use Rattle.wit_arena.proofs.Requiring.{requiring, function_part_requiring}
 use Rattle.wit_arena.proofs.WorldSides.{place, next_place, long_inside, inside_split, world_added, interface_added, c, names_done, sides_done}
 use Rattle.wit_arena.proofs.Turns.{item_of, own_item, occurrences, all_name_occurrences}
+use Rattle.wit_arena.proofs.Written.{all_handles-append}
 
 module _ (files : List PackageFile) (is ws : List Item) (interfaces : AreOfSort false is) (worlds : AreOfSort true ws) (is_items : AreItems files is) (ws_items : AreItems files ws) (uses : AreUsableUses files (all_items files)) (es : List TypeDef) (prefix : List Interface) (wprefix : List World) (foreign : AddsForeign files es prefix wprefix) (middle : List TypeDef) (xs : List Interface) (irs : List Required) (d : InterfacesDone files is ws prefix is middle xs irs) where
   abbrev ss : List Address

@@ -1,12 +1,10 @@
 -- Written types by their parts: the shapes of these, and the names in them.
 use Rattle.std.proofs.Common.{◌≡◌, List, [], ◌∷◌, ◌++◌, refl, sym, ap, ◌∙◌, append_assoc, Vec}
-use Rattle.wit_syntax.proofs.Common.{Address, Both', Err', Global, Id, More, Neither, None', Of, Ok', Prim, ResultTypes, Row_of-Type, Shape, Shapes, Some', Span, Stability, all_handles, all_shapes, all_words, append-nil, end_of-Type, handles, head, more_of-Type, part_types, result_shapes, result_types, row_handles, row_shapes, row_types, shape_of, tuple_types, words}
-use Rattle.wit_type_tree.specs.declared.types.«Type».{«Type» as Written}
-use Rattle.wit_type_tree.specs.declared.types.«Type».TheVariants as written
+use Rattle.wit_arena.proofs.Names.{Address, Both', Err', Global, Id, Neither, None', Ok', ResultTypes, Row_of-Type, Shape, Shapes, Some', Span, Stability, all_handles, all_shapes, all_words, append-nil, end_of-Type, expr_of, exprs_of, handles, head, joined, more_of-Type, part_types, result_shapes, result_types, row_handles, row_shapes, row_types, shape_occurrences, shape_of, shapes_occurrences, tuple_types, words, «Type» as Written}
+use Rattle.wit_syntax.proofs.Common.{More, Of, Prim}
 use Rattle.wit_syntax.specs.Shape.{End}
-use Rattle.wit_arena.specs.Expr.{joined, expr_of, exprs_of}
+use Rattle.wit_type_tree.specs.declared.types.«Type».TheVariants as written
 use Rattle.wit_arena.specs.Expr as exprs
-use Rattle.wit_arena.specs.Occurrences.{shape_occurrences, shapes_occurrences}
 
 pub row_shapes-all : {m : _} (ts : Row_of-Type m) → row_shapes ts ≡ all_shapes (row_types ts)
 row_shapes-all end_of-Type = refl

@@ -1,9 +1,7 @@
 -- Where entries of the arena end, through those that are other words for a type.
 use Rattle.std.specs.Prelude.{ℕ, zero, suc, List, ◌∷◌, Option, Some, None, slice_get, take}
-use Rattle.wit_syntax.specs.Form.{Form, AliasForm, ResourceForm, UnknownForm}
-use Rattle.wit_types.specs.declared.types.«Type».{«Type» as Ty}
+use Rattle.wit_arena.specs.Names.{AliasForm, Form, ResourceForm, TypeDef, UnknownForm, «Type» as Ty}
 use Rattle.wit_types.specs.declared.types.«Type».TheVariants as type
-use Rattle.wit_types.specs.declared.types.TypeDef.{TypeDef}
 use Rattle.wit_arena.specs.Kind.{kind_of}
 
 -- where an entry of the arena ends: at a resource, at the unknown type at a place, or at anything else

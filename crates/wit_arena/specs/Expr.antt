@@ -1,12 +1,8 @@
 -- Types as expressions: without spans, each name with the scope that it is in.
 use Rattle.std.specs.Prelude.{ℕ, List}
-use Rattle.wit_syntax.specs.Form.{Form}
+use Rattle.wit_arena.specs.Names.{Address, Form, ScopeName, Shape, Shapes, about_name, unwrap_or}
 use Rattle.wit_type_tree.specs.declared.types.Primitive.{Primitive}
-use Rattle.wit_syntax.specs.Shape.{Shape, Shapes}
 use Rattle.wit_syntax.specs.Shape as shape
-use Rattle.wit_syntax.specs.Address.{Address}
-use Rattle.wit_syntax.specs.Source.{ScopeName, about_name}
-use Rattle.std.specs.Option.{unwrap_or}
 
 -- a primitive, a name of a scope, or a form over parts
 mutual

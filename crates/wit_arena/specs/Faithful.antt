@@ -1,25 +1,11 @@
 -- What holds of a resolved package: each written type has one at its position, with its tree, and nothing else is there.
 use Rattle.std.specs.Prelude.{◌≡◌, ◌↔◌, ◌<◌, ℕ, All, List, [], ◌∷◌, length, Some, None, slice_get, Contains}
-use Rattle.wit_tree.specs.declared.tree.PackageFile.{PackageFile}
-use Rattle.wit_functions.specs.declared.function.Function.{Function}
-use Rattle.wit_types.specs.declared.types.«Type».{«Type» as Ty}
+use Rattle.wit_arena.specs.Names.{Address, AliasForm, EnumForm, FlagsForm, Form, Function, IsLegal, Leaf, Named, Node, Nothing, OwnForm, PackageFile, Place, RecordForm, ResourceForm, ScopeName, Shape, SourceFunction, TypeDef, TypeOwner, UnknownForm, Unnamed, UnresolvedPackage, VariantForm, Word, function_key, local_id, local_name, scope, signature, source_node, source_tree, «Type» as Ty}
 use Rattle.wit_types.specs.declared.types.«Type».TheVariants.{Id}
-use Rattle.wit_types.specs.declared.types.TypeDef.{TypeDef}
-use Rattle.wit_types.specs.declared.types.TypeOwner.{TypeOwner}
-use Rattle.wit_model.specs.declared.unresolved.UnresolvedPackage.{UnresolvedPackage}
-use Rattle.wit_syntax.specs.Form.{Form, OwnForm, AliasForm, ResourceForm, UnknownForm, RecordForm, FlagsForm, VariantForm, EnumForm}
-use Rattle.wit_syntax.specs.Shape.{Shape, Word}
-use Rattle.wit_syntax.specs.Address.{Address}
-use Rattle.wit_syntax.specs.Node.{Node, Leaf, Named, Unnamed, Nothing}
-use Rattle.wit_syntax.specs.Source.{ScopeName, Place, local_name, local_id}
-use Rattle.wit_syntax.specs.ScopesOfTrees.{scope, source_node, source_tree}
-use Rattle.wit_syntax.specs.Function.{SourceFunction, signature}
-use Rattle.wit_syntax.specs.Sides.{function_key}
 use Rattle.wit_arena.specs.Kind.{kind_of}
 use Rattle.wit_arena.specs.Expr.{expr_of}
 use Rattle.wit_arena.specs.UnfoldedTypes.{owner_of, names_of, functions_of, function_types, package_node, package_tree, IsBelow}
 use Rattle.wit_arena.specs.Occurrences.{Def, keys}
-use Rattle.wit_syntax.specs.Broken.{IsLegal}
 use Rattle.wit_arena.specs.Whole.{functions_at}
 use Rattle.wit_arena.specs.Made.{Makes, type_of}
 

@@ -1,17 +1,9 @@
 -- The form and the parts of a type of the arena.
 use Rattle.std.specs.Prelude.{List, [], ◌∷◌, ◌++◌, map, is_some}
-use Rattle.std.specs.List.{filter_map}
-use Rattle.std.specs.Option.{option_to_list}
-use Rattle.wit_types.specs.declared.types.«Type».{«Type» as Ty}
+use Rattle.wit_arena.specs.Names.{AliasForm, BorrowForm, Case, EnumCase, EnumForm, Field, FixedLengthListForm, Flag, FlagsForm, Form, FutureForm, ListForm, MapForm, OptionForm, OwnForm, RecordForm, ResourceForm, ResultForm, StreamForm, TupleForm, TypeDefKind, UnknownForm, VariantForm, filter_map, option_to_list, «Type» as Ty}
 use Rattle.wit_types.specs.declared.types.«Type».TheVariants.{Id}
-use Rattle.wit_types.specs.declared.types.Field.{Field}
-use Rattle.wit_types.specs.declared.types.Flag.{Flag}
-use Rattle.wit_types.specs.declared.types.Case.{Case}
-use Rattle.wit_types.specs.declared.types.EnumCase.{EnumCase}
 use Rattle.wit_types.specs.declared.types.Handle.TheVariants.{Own, Borrow}
-use Rattle.wit_types.specs.declared.types.TypeDefKind.{TypeDefKind}
 use Rattle.wit_types.specs.declared.types.TypeDefKind.TheVariants as kind
-use Rattle.wit_syntax.specs.Form.{Form, RecordForm, ResourceForm, OwnForm, BorrowForm, FlagsForm, TupleForm, VariantForm, EnumForm, OptionForm, ResultForm, ListForm, MapForm, FixedLengthListForm, FutureForm, StreamForm, AliasForm, UnknownForm}
 
 -- what a type is: a form over parts
 pub record Kind : Type 0 where

@@ -13,3 +13,5 @@ pub mod Resolving
 pub mod ResolvedArenas
 pub mod Adding
 pub mod SplitOccurrences
+pub mod Common
+pub mod Names

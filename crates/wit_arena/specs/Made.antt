@@ -1,48 +1,12 @@
 -- The package that files make, as a value.
 use Rattle.std.specs.Prelude.{if◌then◌else◌, ◌≡◌, ◌↔◌, ℕ, Bool, true, List, [], ◌∷◌, ◌++◌, length, map, take, Option, Some, None, Contains, slice_get}
-use Rattle.std.specs.List.{flat_map, filter_map, position_or_len}
-use Rattle.std.specs.Option.{option_map, unwrap_or}
-use Rattle.wit_values.specs.declared.span.Span.{Span}
-use Rattle.wit_tree.specs.declared.tree.PackageFile.{PackageFile}
+use Rattle.wit_arena.specs.Names.{Address, Constructor, Exported, ExternalId, ForeignUse, ForeignVisit, Freestanding, Function, FunctionKind, Id, Imported, Include, Interface, IsOrder, Item, Metadata, Method, OnSide, PackageFile, Role, ScopeName, SideFunction, SideInline, SideItem, SideLink, SourceFunction, SourceParam, Span, Stability, Static, TopName, TypeDef, TypeDefKind, TypeOwner, UnresolvedPackage, World, WorldInclude, WorldItem, WorldKey, WorldNamed, WorldSide, about, about_name, address, all_items, all_params, all_scopes, declared_metadata, docs_of, filter_map, first_foreign_uses, first_known, firsts, flat_map, foreign_interfaces, foreign_packages, foreign_worlds, functions, headers, in_order, in_turn, includes, inline_items, interfaces_of, item_rows, last_header, leads, local_id, local_name, no_docs, no_metadata, option_map, package_of, path_id, path_scope, placed, position_or_len, primitive_type, role_side, rows_of, same_side, scope, scope_names, side_items, stability_of, stated_text, target_scope, unwrap_or, visited, worlds_of, «Type» as Ty}
 use Rattle.wit_tree.specs.declared.tree.PackageName.{PackageName as Header}
-use Rattle.wit_tree.specs.declared.tree.Include.{Include}
-use Rattle.wit_tree.specs.declared.tree.WorldSide.{WorldSide}
-use Rattle.wit_tree.specs.declared.tree.WorldSide.TheVariants.{Imported, Exported}
-use Rattle.wit_type_tree.specs.declared.leaves.Id.{Id}
-use Rattle.wit_type_tree.specs.declared.attribute_kind.AttributeKind.TheVariants.{ExternalId}
-use Rattle.wit_type_tree.specs.Attributes.{stated_text}
-use Rattle.wit_types.specs.declared.stability.Stability.{Stability}
-use Rattle.wit_types.specs.declared.types.TypeDef.{TypeDef}
-use Rattle.wit_types.specs.declared.types.TypeDefKind.{TypeDefKind}
-use Rattle.wit_types.specs.declared.types.TypeOwner.{TypeOwner}
 use Rattle.wit_types.specs.declared.types.TypeOwner.TheVariants as owner
-use Rattle.wit_types.specs.declared.types.«Type».{«Type» as Ty}
 use Rattle.wit_types.specs.declared.types.«Type».TheVariants as type
-use Rattle.wit_functions.specs.declared.function.Function.{Function}
-use Rattle.wit_functions.specs.declared.function.FunctionKind.{FunctionKind}
 use Rattle.wit_functions.specs.declared.function.FunctionKind.TheVariants as kind
-use Rattle.wit_functions.specs.SettersPlaced.{placed}
-use Rattle.wit_model.specs.declared.interface.Interface.{Interface}
-use Rattle.wit_model.specs.declared.world.World.{World}
-use Rattle.wit_model.specs.declared.world.WorldInclude.{WorldInclude}
-use Rattle.wit_model.specs.declared.world.WorldKey.{WorldKey}
 use Rattle.wit_model.specs.declared.world.WorldKey.TheVariants as key
-use Rattle.wit_model.specs.declared.world.WorldItem.{WorldItem}
 use Rattle.wit_model.specs.declared.world.WorldItem.TheVariants as item
-use Rattle.wit_model.specs.declared.unresolved.UnresolvedPackage.{UnresolvedPackage}
-use Rattle.wit_graph.specs.Table.{IsOrder}
-use Rattle.wit_syntax.specs.Repeats.{firsts}
-use Rattle.wit_syntax.specs.ExternPart.{same_side}
-use Rattle.wit_syntax.specs.Address.{Address, package_of, WorldNamed}
-use Rattle.wit_syntax.specs.Node.{primitive_type}
-use Rattle.wit_syntax.specs.Metadata.{Metadata, docs_of, no_docs, no_metadata, stability_of, first_known}
-use Rattle.wit_syntax.specs.Source.{path_id, path_scope, leads, TopName, Item, address, ScopeName, all_items, scope_names, local_name, local_id, ForeignUse, first_foreign_uses, about, declared_metadata, target_scope, about_name}
-use Rattle.wit_syntax.specs.ScopesOfTrees.{scope}
-use Rattle.wit_syntax.specs.Foreign.{ForeignVisit, visited, foreign_interfaces, foreign_worlds, foreign_packages}
-use Rattle.wit_syntax.specs.Function.{Role, Freestanding, Method, Static, Constructor, OnSide, SourceParam, SourceFunction, functions, all_params}
-use Rattle.wit_syntax.specs.ScopeTables.{item_rows, interfaces_of, worlds_of, includes, rows_of, in_order, in_turn}
-use Rattle.wit_syntax.specs.Sides.{SideItem, SideFunction, SideLink, SideInline, role_side, side_items, inline_items, all_scopes}
-use Rattle.wit_syntax.specs.Broken.{last_header, headers}
 use Rattle.wit_arena.specs.Kind.{kind_of}
 use Rattle.wit_arena.specs.Expr.{Expr, Prim, Use, Of, Exprs, End, More, expr_of, name_exprs}
 use Rattle.wit_arena.specs.Occurrences.{Key, Def, Whole, Occurrence, keys, stability_at}

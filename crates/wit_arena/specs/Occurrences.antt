@@ -1,26 +1,10 @@
 -- The arena of types as the list of first occurrences.
 use Rattle.std.specs.Prelude.{◌≡◌, ℕ, List, [], ◌∷◌, ◌++◌, length, map, take, Some, None, ◌⊎◌, slice_get}
-use Rattle.wit_values.specs.declared.span.Span.{Span}
-use Rattle.std.specs.List.{flat_map}
-use Rattle.wit_types.specs.declared.stability.Stability.{Stability}
-use Rattle.wit_types.specs.declared.stability.Stability.TheVariants.{Unknown}
-use Rattle.std.specs.Option.{option_map_or, unwrap_or}
-use Rattle.wit_types.specs.declared.types.«Type».{«Type» as Ty}
+use Rattle.wit_arena.specs.Names.{Address, AllDiffer, AreMetadata, Form, ScopeName, Shape, Shapes, SourceFunction, Span, Stability, TypeDef, TypeDefKind, TypeOwner, Unknown, about_name, first_known, flat_map, local_name, no_docs, option_map_or, primitive_type, signature, unwrap_or, «Type» as Ty}
 use Rattle.wit_types.specs.declared.types.«Type».TheVariants as type
-use Rattle.wit_types.specs.declared.types.TypeDef.{TypeDef}
-use Rattle.wit_types.specs.declared.types.TypeDefKind.{TypeDefKind}
-use Rattle.wit_types.specs.declared.types.TypeOwner.{TypeOwner}
 use Rattle.wit_types.specs.declared.types.TypeOwner.TheVariants as owner
-use Rattle.wit_syntax.specs.Form.{Form}
 use Rattle.wit_arena.specs.Kind.{kind_of}
-use Rattle.wit_syntax.specs.Node.{primitive_type}
-use Rattle.wit_syntax.specs.Repeats.{AllDiffer}
-use Rattle.wit_syntax.specs.Shape.{Shape, Shapes}
 use Rattle.wit_syntax.specs.Shape as shape
-use Rattle.wit_syntax.specs.Metadata.{AreMetadata, no_docs, first_known}
-use Rattle.wit_syntax.specs.Address.{Address}
-use Rattle.wit_syntax.specs.Source.{ScopeName, local_name, about_name}
-use Rattle.wit_syntax.specs.Function.{SourceFunction, signature}
 use Rattle.wit_arena.specs.Expr.{Expr, Prim, Use, Of, Exprs, End, More, exprs_of, name_exprs}
 
 -- what occurs: a name of a scope, or an unnamed type

@@ -1,31 +1,15 @@
 -- What resolving interfaces and worlds does to the arenas, one after another.
 use Rattle.std.specs.Prelude.{◌≡◌, ℕ, ◌+◌, List, [], ◌∷◌, ◌++◌, length, map}
-use Rattle.std.specs.List.{flat_map}
-use Rattle.wit_tree.specs.declared.tree.PackageFile.{PackageFile}
-use Rattle.wit_types.specs.declared.types.TypeDef.{TypeDef}
+use Rattle.wit_arena.specs.Names.{Address, AreDistinct, Exported, ForeignUse, Function, Imported, Interface, IsOrder, Item, PackageFile, ScopeName, SideFunction, SideInline, SideItem, SideLink, TypeDef, TypeOwner, World, WorldNamed, about, address, all_handles, all_types, declared_metadata, first_foreign_uses, flat_map, foreign_interfaces, foreign_worlds, functions as item_functions, in_turn, includes, inline_items, metadata, name_types, no_docs, rows_of, scope_names, side_items, visited, written_types}
 use Rattle.wit_types.specs.declared.types.TypeDefKind.TheVariants.{Unknown}
-use Rattle.wit_types.specs.declared.types.TypeOwner.{TypeOwner}
 use Rattle.wit_types.specs.declared.types.TypeOwner.TheVariants as owner
-use Rattle.wit_model.specs.declared.interface.Interface.{Interface}
-use Rattle.wit_model.specs.declared.world.World.{World}
-use Rattle.wit_graph.specs.Table.{IsOrder}
-use Rattle.wit_syntax.specs.Address.{Address, WorldNamed}
-use Rattle.wit_syntax.specs.Metadata.{metadata, no_docs}
-use Rattle.wit_syntax.specs.Source.{Item, address, ScopeName, scope_names, ForeignUse, first_foreign_uses, about, declared_metadata}
-use Rattle.wit_syntax.specs.Foreign.{visited, foreign_interfaces, foreign_worlds}
 use Rattle.wit_arena.specs.Occurrences.{keys}
 use Rattle.wit_arena.specs.OneByOne.{OneByOne}
 use Rattle.wit_arena.specs.UnfoldedTypes.{IsInterface, IsWorld, IsForeignWorld}
-use Rattle.wit_syntax.specs.ScopeTables.{includes, rows_of, in_turn, AreDistinct}
-use Rattle.wit_functions.specs.declared.function.Function.{Function}
-use Rattle.wit_syntax.specs.Function.{functions as item_functions, name_types, written_types, all_types}
-use Rattle.wit_tree.specs.declared.tree.WorldSide.TheVariants.{Imported, Exported}
 use Rattle.wit_arena.specs.SourceFunctions.{placed_functions}
 use Rattle.wit_arena.specs.SideItems.{HasSide}
-use Rattle.wit_syntax.specs.Sides.{SideItem, SideFunction, SideLink, SideInline, side_items, inline_items}
 use Rattle.wit_arena.specs.Whole.{owner_at, foreign_use_occurrence, IsForeignInterface, type_imports, AreIncludes}
 use Rattle.wit_arena.specs.Resolving.{Names, env_of, ResolvedScope, resolved_scopes, named, Defines, AddsFunctions, Required, AreEnded}
-use Rattle.wit_syntax.specs.Shape.{all_handles}
 
 -- what the names of a scope add to the arena of types, in the order of its table; `cs` are the scopes that they may use
 pub record AddsScope (old new : List TypeDef) (cs : List ResolvedScope) (o : TypeOwner) (xs : List ScopeName) (types : Names) : Type 0 where

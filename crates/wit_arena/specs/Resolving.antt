@@ -1,32 +1,13 @@
 -- What resolving types and names does to the arena, from whatever occurred before.
 use Rattle.std.specs.Prelude.{◌≡◌, ℕ, List, [], ◌∷◌, ◌++◌, length, map, Option, Some, None, ◌⊎◌, slice_get, nat_eq, IsSome}
-use Rattle.std.specs.Cmp.Lexicographic.{pointwise}
-use Rattle.std.specs.List.{flat_map}
-use Rattle.std.specs.Map.{lookup}
-use Rattle.std.specs.Option.{unwrap_or}
-use Rattle.indexmap.specs.IndexMap.{insert_entry}
-use Rattle.wit_values.specs.declared.span.Span.{Span}
-use Rattle.wit_type_tree.specs.declared.leaves.Id.{Id}
+use Rattle.wit_arena.specs.Names.{Address, AreDistinct, Function, Id, Interface, InterfaceNamed, Metadata, ScopeName, SourceFunction, Span, Stability, TypeDef, TypeDefKind, TypeOwner, Type_, Used, flat_map, insert_entry, local_name, local_names, lookup, metadata, no_docs, pointwise, unwrap_or, «Type» as Ty}
 use Rattle.wit_type_tree.specs.declared.leaves.Attribute.{Attribute}
 use Rattle.wit_tree.specs.declared.tree.UseName.{UseName}
-use Rattle.wit_types.specs.declared.stability.Stability.{Stability}
-use Rattle.wit_types.specs.declared.types.«Type».{«Type» as Ty}
 use Rattle.wit_types.specs.declared.types.«Type».TheVariants as type
-use Rattle.wit_types.specs.declared.types.TypeDefKind.{TypeDefKind}
-use Rattle.wit_types.specs.declared.types.TypeDefKind.TheVariants.{Type_}
-use Rattle.wit_types.specs.declared.types.TypeDef.{TypeDef}
-use Rattle.wit_types.specs.declared.types.TypeOwner.{TypeOwner}
 use Rattle.wit_types.specs.declared.types.TypeOwner.TheVariants as owner
-use Rattle.wit_model.specs.declared.interface.Interface.{Interface}
-use Rattle.wit_syntax.specs.Address.{Address, InterfaceNamed}
-use Rattle.wit_syntax.specs.Source.{ScopeName, Used, local_name}
-use Rattle.wit_syntax.specs.ScopeTables.{AreDistinct, local_names}
-use Rattle.wit_syntax.specs.Metadata.{Metadata, metadata, no_docs}
 use Rattle.wit_arena.specs.Expr.{Expr, Prim, Use, Of, Exprs, End, More}
 use Rattle.wit_arena.specs.Occurrences.{Key, Def, Whole, Occurrence, keys, IsSeen, Collects, AreAt, Decls, IsOccurrence, name_occurrences, all_function_occurrences, settled}
 use Rattle.wit_arena.specs.UnfoldedTypes.{At}
-use Rattle.wit_syntax.specs.Function.{SourceFunction}
-use Rattle.wit_functions.specs.declared.function.Function.{Function}
 use Rattle.wit_arena.specs.SourceFunctions.{AreFunctions, freestanding_names}
 use Rattle.wit_arena.specs.EntryEnds.{IsResource, IsUnknown as IsUnknownEntry, entry_end}
 

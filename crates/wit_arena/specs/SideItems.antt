@@ -1,28 +1,9 @@
 -- What is on the sides of a world in a package, after types: functions, and interfaces at their places; and where its setters are.
 use Rattle.std.specs.Prelude.{◌≡◌, ℕ, List, [], ◌∷◌, Option, Some, slice_get, if◌then◌else◌, ◌++◌}
-use Rattle.std.specs.Option.{option_map_or}
-use Rattle.wit_tree.specs.declared.tree.Extern.{Extern}
-use Rattle.wit_type_tree.specs.declared.leaves.Id.{Id}
-use Rattle.wit_type_tree.specs.declared.attribute_kind.AttributeKind.TheVariants.{ExternalId}
-use Rattle.wit_type_tree.specs.Attributes.{stated_text}
-use Rattle.wit_tree.specs.declared.tree.Include.{Include}
-use Rattle.wit_tree.specs.declared.tree.UsePath.{UsePath}
-use Rattle.wit_tree.specs.declared.tree.WorldSide.{WorldSide}
-use Rattle.wit_values.specs.declared.span.Span.{Span}
-use Rattle.wit_functions.specs.declared.function.Function.{Function}
-use Rattle.wit_model.specs.declared.world.WorldKey.{WorldKey}
+use Rattle.wit_arena.specs.Names.{Address, Extern, ExternalId, Function, Id, Include, Item, Link, SideFunction, SideInline, SideItem, SideLink, Span, TopName, UsePath, WorldItem, WorldKey, WorldSide, docs_of, function_of, includes, no_docs, option_map_or, path_id, path_scope, placed, role_side, same_side, side_items, stability_of, stated_text}
 use Rattle.wit_model.specs.declared.world.WorldKey.TheVariants as key
-use Rattle.wit_model.specs.declared.world.WorldItem.{WorldItem}
 use Rattle.wit_model.specs.declared.world.WorldItem.TheVariants as item
-use Rattle.wit_functions.specs.SettersPlaced.{placed}
-use Rattle.wit_model.specs.ItemsOfWorlds.{function_of}
-use Rattle.wit_syntax.specs.Address.{Address}
-use Rattle.wit_syntax.specs.ExternPart.{same_side}
-use Rattle.wit_syntax.specs.Metadata.{docs_of, no_docs, stability_of}
-use Rattle.wit_syntax.specs.Source.{TopName, path_id, path_scope, Item}
-use Rattle.wit_syntax.specs.Sides.{role_side, Link, SideItem, SideFunction, SideLink, SideInline, side_items}
 use Rattle.wit_arena.specs.SourceFunctions.{function_item}
-use Rattle.wit_syntax.specs.ScopeTables.{includes}
 
 -- an interface without a name of its own goes by its place
 abbrev pub link_key : Option Id → ℕ → WorldKey

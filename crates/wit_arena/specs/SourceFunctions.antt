@@ -1,25 +1,14 @@
 -- What the functions of a package say: each is a written function, whose types are at the places of their expressions.
 use Rattle.std.specs.Prelude.{◌≡◌, ℕ, List, [], ◌∷◌, map, Some, slice_get, codes}
-use Rattle.std.specs.Option.{option_to_list}
+use Rattle.wit_arena.specs.Names.{Address, AreMetadata, Constructor, Freestanding, Function, FunctionKind, Method, OnSide, Param, Role, Shape, SourceFunction, SourceParam, Static, WorldItem, WorldKey, all_params, docs_of, metadata, option_to_list, placed, «Type» as Ty}
 use Rattle.wit_names.specs.Prefix.{rest_after}
 use Rattle.wit_type_tree.specs.declared.types.FuncForm.{FuncForm}
 use Rattle.wit_type_tree.specs.declared.types.FuncForm.TheVariants as form
-use Rattle.wit_types.specs.declared.types.«Type».{«Type» as Ty}
-use Rattle.wit_functions.specs.declared.function.Function.{Function}
-use Rattle.wit_functions.specs.declared.function.FunctionKind.{FunctionKind}
 use Rattle.wit_functions.specs.declared.function.FunctionKind.TheVariants as kind
-use Rattle.wit_functions.specs.declared.function.Param.{Param}
-use Rattle.wit_model.specs.declared.world.WorldKey.{WorldKey}
 use Rattle.wit_model.specs.declared.world.WorldKey.TheVariants as key
-use Rattle.wit_model.specs.declared.world.WorldItem.{WorldItem}
 use Rattle.wit_model.specs.declared.world.WorldItem.TheVariants as item
-use Rattle.wit_functions.specs.SettersPlaced.{placed}
-use Rattle.wit_syntax.specs.Address.{Address}
-use Rattle.wit_syntax.specs.Shape.{Shape}
-use Rattle.wit_syntax.specs.Function.{Role, Freestanding, Method, Static, Constructor, OnSide, SourceParam, SourceFunction, all_params}
 use Rattle.wit_arena.specs.Expr.{expr_of}
 use Rattle.wit_arena.specs.Occurrences.{Key, Def, IsAt}
-use Rattle.wit_syntax.specs.Metadata.{AreMetadata, metadata, docs_of}
 use Rattle.wit_arena.specs.OneByOne.{OneByOne}
 
 -- the kind of a function that is no resource's, and, over the place of its resource, that of a method and that of a static function

@@ -1,8 +1,6 @@
 -- The first occurrences of files, and that they are the same of files that say the same.
 use Rattle.std.specs.Prelude.{◌≡◌, ◌↔◌, ℕ, List, []}
-use Rattle.wit_tree.specs.declared.tree.PackageFile.{PackageFile}
-use Rattle.wit_model.specs.declared.unresolved.UnresolvedPackage.{UnresolvedPackage}
-use Rattle.wit_syntax.specs.Source.{Declared, Item}
+use Rattle.wit_arena.specs.Names.{Declared, Item, PackageFile, UnresolvedPackage}
 use Rattle.wit_arena.specs.Occurrences.{Occurrence, Collects}
 use Rattle.wit_arena.specs.Made.{AreInOrder, AreNamesInOrder, Makes, item_turns}
 use Rattle.wit_arena.specs.Whole.{all_occurrences}

@@ -1,34 +1,12 @@
 -- What types of a package mean: the arenas unfolded, whose names are by what the package calls them, and what an interface says.
 use Rattle.std.specs.Prelude.{◌≡◌, ℕ, suc, ◌<◌, Bool, true, false, nat_eq, List, [], ◌∷◌, ◌++◌, Option, Some, None, map, find, slice_get}
-use Rattle.std.specs.List.{flat_map, filter}
-use Rattle.std.specs.Option.{option_map, option_map_or, option_and_then, option_or, option_to_list}
-use Rattle.wit_functions.specs.declared.function.Function.{Function}
-use Rattle.wit_functions.specs.declared.function.Param.{Param}
-use Rattle.wit_model.specs.declared.ast_item.AstItem.{AstItem}
+use Rattle.wit_arena.specs.Names.{Address, AstItem, Exported, ForeignNamed, ForeignVisit, Function, FunctionKey, Head, Imported, InlineAt, Interface, InterfaceNamed, Leaf, Metadata, Named, Node, Nothing, PackageName, Param, Span, Stability, Tree, TypeDef, TypeOwner, Unnamed, UnresolvedPackage, World, WorldItem, WorldKey, WorldNamed, WorldSide, filter, flat_map, no_metadata, option_and_then, option_map, option_map_or, option_or, option_to_list, unfolded, «Type» as Ty}
 use Rattle.wit_model.specs.declared.ast_item.AstItem.TheVariants as entry
-use Rattle.wit_package_names.specs.declared.package_name.PackageName.{PackageName}
-use Rattle.wit_model.specs.declared.interface.Interface.{Interface}
-use Rattle.wit_model.specs.declared.world.World.{World}
-use Rattle.wit_model.specs.declared.world.WorldKey.{WorldKey}
 use Rattle.wit_model.specs.declared.world.WorldKey.TheVariants as key
-use Rattle.wit_model.specs.declared.world.WorldItem.{WorldItem}
 use Rattle.wit_model.specs.declared.world.WorldItem.TheVariants as item
-use Rattle.wit_model.specs.declared.unresolved.UnresolvedPackage.{UnresolvedPackage}
-use Rattle.wit_types.specs.declared.stability.Stability.{Stability}
-use Rattle.wit_types.specs.declared.types.«Type».{«Type» as Ty}
 use Rattle.wit_types.specs.declared.types.«Type».TheVariants as type
-use Rattle.wit_types.specs.declared.types.TypeDef.{TypeDef}
-use Rattle.wit_types.specs.declared.types.TypeOwner.{TypeOwner}
 use Rattle.wit_types.specs.declared.types.TypeOwner.TheVariants as owner
 use Rattle.wit_arena.specs.Kind.{kind_of}
-use Rattle.wit_syntax.specs.Address.{Address, InterfaceNamed, WorldNamed, InlineAt, ForeignNamed}
-use Rattle.wit_syntax.specs.Foreign.{ForeignVisit}
-use Rattle.wit_syntax.specs.Node.{Head, Node, Leaf, Named, Unnamed, Nothing, Tree, unfolded}
-use Rattle.wit_tree.specs.declared.tree.WorldSide.{WorldSide}
-use Rattle.wit_tree.specs.declared.tree.WorldSide.TheVariants.{Imported, Exported}
-use Rattle.wit_syntax.specs.Sides.{FunctionKey}
-use Rattle.wit_syntax.specs.Metadata.{Metadata, no_metadata}
-use Rattle.wit_values.specs.declared.span.Span.{Span}
 
 -- what other packages' items a package names, each with its address
 abbrev pub dep_items : PackageName × List (List ℕ × (AstItem × List Stability)) → List (AstItem × Address)

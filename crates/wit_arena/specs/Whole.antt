@@ -1,37 +1,14 @@
 -- The theorem: what a resolved package is.
 use Rattle.std.specs.Prelude.{if◌then◌else◌, ◌≡◌, ◌==◌, ℕ, not, List, [], ◌∷◌, ◌++◌, length, map, Option, Some, None, slice_get, position}
-use Rattle.wit_values.specs.declared.span.Span.{Span}
-use Rattle.std.specs.Option.{option_map, option_map_or, option_or, unwrap_or}
+use Rattle.wit_arena.specs.Names.{Address, AllZip, AstItem, AtForeign, AtResource, EndsAt, ForeignUse, ForeignVisit, Id, Include, Interface, Item, PackageFile, PackageName, ScopeName, SourceFunction, Span, Stability, TopName, TypeOwner, WorldInclude, WorldItem, WorldKey, WorldNamed, address, all_handles, all_scopes, all_types, docs_of, filter, filter_map, flat_map, foreign_interfaces, foreign_items, foreign_uses, foreign_visits, foreign_worlds, functions as item_functions, includes, item_at, leads, local_id, local_name, no_docs, no_metadata, option_map, option_map_or, option_or, package_of, path_id, prefix_len, same_address, same_item, same_package, scope, stability_of, target_scope, unwrap_or, visited}
 use Rattle.wit_tree.specs.declared.tree.PackageName.{PackageName as Header}
-use Rattle.wit_tree.specs.declared.tree.PackageFile.{PackageFile}
-use Rattle.wit_tree.specs.declared.tree.Include.{Include}
 use Rattle.wit_tree.specs.declared.tree.IncludeName.{IncludeName as Renaming}
-use Rattle.wit_model.specs.declared.ast_item.AstItem.{AstItem}
 use Rattle.wit_model.specs.declared.ast_item.AstItem.TheVariants as entry
-use Rattle.wit_package_names.specs.declared.package_name.PackageName.{PackageName}
-use Rattle.wit_model.specs.declared.interface.Interface.{Interface}
-use Rattle.wit_model.specs.declared.world.WorldInclude.{WorldInclude}
 use Rattle.wit_model.specs.declared.world.IncludeName.{IncludeName}
-use Rattle.wit_model.specs.declared.world.WorldKey.{WorldKey}
 use Rattle.wit_model.specs.declared.world.WorldKey.TheVariants as key
-use Rattle.wit_model.specs.declared.world.WorldItem.{WorldItem}
 use Rattle.wit_model.specs.declared.world.WorldItem.TheVariants.{Type_}
-use Rattle.wit_types.specs.declared.stability.Stability.{Stability}
-use Rattle.wit_types.specs.declared.types.TypeOwner.{TypeOwner}
 use Rattle.wit_types.specs.declared.types.TypeOwner.TheVariants as owner
-use Rattle.std.specs.List.{flat_map, filter_map, prefix_len, filter, AllZip}
-use Rattle.wit_syntax.specs.Shape.{all_handles}
-use Rattle.wit_syntax.specs.Address.{Address, same_address, WorldNamed, package_of, same_package}
-use Rattle.wit_syntax.specs.Source.{path_id, leads, TopName, Item, address, ScopeName, item_at, local_name, local_id, ForeignUse, foreign_uses, target_scope}
-use Rattle.wit_syntax.specs.ScopesOfTrees.{scope}
-use Rattle.wit_syntax.specs.Foreign.{ForeignVisit, visited, same_item, foreign_interfaces, foreign_worlds, foreign_visits, foreign_items}
-use Rattle.wit_syntax.specs.Function.{SourceFunction, functions as item_functions, all_types}
-use Rattle.wit_syntax.specs.NameEnds.{AtResource, AtForeign, EndsAt}
-use Rattle.wit_type_tree.specs.declared.leaves.Id.{Id}
-use Rattle.wit_syntax.specs.ScopeTables.{includes}
 use Rattle.wit_types.specs.declared.docs.Docs.{Docs}
-use Rattle.wit_syntax.specs.Metadata.{docs_of, no_docs, stability_of, no_metadata}
-use Rattle.wit_syntax.specs.Sides.{all_scopes}
 use Rattle.wit_arena.specs.Occurrences.{Key, Def, Occurrence, name_occurrences, all_function_occurrences, Decls}
 use Rattle.wit_arena.specs.OneByOne.{OneByOne}
 use Rattle.wit_arena.specs.UnfoldedTypes.{IsInterface}
