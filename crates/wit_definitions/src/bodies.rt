@@ -10,16 +10,14 @@ ghost use Rattle.wit_definitions.specs.Bodies.{ResolvesBody, case_member, enum_c
 
 use std::alloc::{AllocError, Global};
 use wit_entries::entries::Entries;
-use wit_entries::names::find_resource;
+use wit_entries::names::{TypeScope, find_resource};
 use wit_entries::scope::Required;
 use wit_entries::types::{named_kind, read, resolve_type};
-use wit_maps::TextTable;
 use wit_notes::docs;
 use wit_rules::rules::{check_enum, check_flags, check_record, check_variant};
 use wit_tree::{ParseResult, Span, tree};
 use wit_types::{
-    Case, Enum, EnumCase, Field, Flag, Flags, Handle, Record, Stability, Type, TypeDefKind, TypeId,
-    Variant,
+    Case, Enum, EnumCase, Field, Flag, Flags, Handle, Record, Stability, Type, TypeDefKind, Variant,
 };
 use wit_values::{Row, Text};
 
@@ -39,17 +37,17 @@ fn field(alloc: Global, field: &tree::Field<'_>, ty: Type) -> Result<Field, Allo
 fn resolve_fields(
     alloc: Global,
     types: &mut Entries,
-    names: &TextTable<TypeId>,
+    scope: TypeScope<'_, '_, '_>,
     required: &mut Vec<Required>,
     given: &Stability,
     fields: &[tree::Field<'_>],
 ) -> ParseResult<Row<Field>>
     ensures members { IfOk result (λ made. map field_member made ≡ map (λ f. member f.docs f.name) fields.now) }
-    ensures resolves { ResolvesTypes names.now given.now types.old types.new required.old.items required.new.items (field_types fields.now) (map (λ f. f.ty)) result }
+    ensures resolves { ResolvesTypes scope.entry given.now types.old types.new required.old.items required.new.items (field_types fields.now) (map (λ f. f.ty)) result }
 {
     let mut resolved = Vec::with_capacity(alloc, fields.len())?;
     for written in fields {
-        let ty = resolve_type(alloc, types, names, required, given, &written.ty)?;
+        let ty = resolve_type(alloc, types, scope, required, given, &written.ty)?;
         resolved.push(field(alloc, written, ty)?)?;
     }
     Ok(Row::from(resolved))
@@ -93,17 +91,17 @@ fn case(alloc: Global, case: &tree::Case<'_>, ty: Option<Type>) -> Result<Case, 
 fn resolve_case(
     alloc: Global,
     types: &mut Entries,
-    names: &TextTable<TypeId>,
+    scope: TypeScope<'_, '_, '_>,
     required: &mut Vec<Required>,
     given: &Stability,
     written: &tree::Case<'_>,
 ) -> ParseResult<Case>
     ensures member { IfOk result (λ made. case_member made ≡ (member written.now.docs written.now.name, is_some written.now.ty)) }
-    ensures resolves { ResolvesTypes names.now given.now types.old types.new required.old.items required.new.items (option_to_list written.now.ty) (λ c. option_to_list c.ty) result }
+    ensures resolves { ResolvesTypes scope.entry given.now types.old types.new required.old.items required.new.items (option_to_list written.now.ty) (λ c. option_to_list c.ty) result }
 {
     match &written.ty {
         Some(ty) => {
-            let ty = resolve_type(alloc, types, names, required, given, ty)?;
+            let ty = resolve_type(alloc, types, scope, required, given, ty)?;
             Ok(case(alloc, written, Some(ty))?)
         }
         None => Ok(case(alloc, written, None)?),
@@ -114,17 +112,17 @@ fn resolve_case(
 fn resolve_cases(
     alloc: Global,
     types: &mut Entries,
-    names: &TextTable<TypeId>,
+    scope: TypeScope<'_, '_, '_>,
     required: &mut Vec<Required>,
     given: &Stability,
     cases: &[tree::Case<'_>],
 ) -> ParseResult<Row<Case>>
     ensures members { IfOk result (λ made. map case_member made ≡ map (λ c. (member c.docs c.name, is_some c.ty)) cases.now) }
-    ensures resolves { ResolvesTypes names.now given.now types.old types.new required.old.items required.new.items (case_types cases.now) (filter_map (λ c. c.ty)) result }
+    ensures resolves { ResolvesTypes scope.entry given.now types.old types.new required.old.items required.new.items (case_types cases.now) (filter_map (λ c. c.ty)) result }
 {
     let mut resolved = Vec::with_capacity(alloc, cases.len())?;
     for written in cases {
-        let case = resolve_case(alloc, types, names, required, given, written)?;
+        let case = resolve_case(alloc, types, scope, required, given, written)?;
         resolved.push(case)?;
     }
     Ok(Row::from(resolved))
@@ -156,18 +154,18 @@ fn enum_cases(alloc: Global, cases: &[tree::EnumCase<'_>]) -> Result<Row<EnumCas
 fn resolve_plain(
     alloc: Global,
     types: &mut Entries,
-    names: &TextTable<TypeId>,
+    scope: TypeScope<'_, '_, '_>,
     required: &mut Vec<Required>,
     given: &Stability,
     ty: &tree::Type<'_>,
 ) -> ParseResult<TypeDefKind>
-    ensures { ResolvesBody names.now given.now types.old types.new required.old.items required.new.items (Plain ty.now) result }
+    ensures { ResolvesBody scope.entry given.now types.old types.new required.old.items required.new.items (Plain ty.now) result }
 {
     if let tree::Type::Own(_, id) = ty {
-        let resource = find_resource(alloc, types, names, required, *id)?;
+        let resource = find_resource(alloc, types, scope, required, *id)?;
         return Ok(TypeDefKind::Handle(Handle::Own(resource)));
     }
-    let reading = read(alloc, types, names, required, given, ty)?;
+    let reading = read(alloc, types, scope, required, given, ty)?;
     Ok(named_kind(reading))
 }
 
@@ -177,17 +175,17 @@ fn resolve_plain(
 pub fn resolve_body(
     alloc: Global,
     types: &mut Entries,
-    names: &TextTable<TypeId>,
+    scope: TypeScope<'_, '_, '_>,
     required: &mut Vec<Required>,
     given: &Stability,
     body: &tree::TypeBody<'_>,
 ) -> ParseResult<TypeDefKind>
-    ensures { ResolvesBody names.now given.now types.old types.new required.old.items required.new.items body.now result }
+    ensures { ResolvesBody scope.entry given.now types.old types.new required.old.items required.new.items body.now result }
 {
     match body {
         tree::TypeBody::Record { span, fields } => {
             check_record(alloc, *span, fields)?;
-            let fields = resolve_fields(alloc, types, names, required, given, fields)?;
+            let fields = resolve_fields(alloc, types, scope, required, given, fields)?;
             Ok(TypeDefKind::Record(Record { fields }))
         }
         tree::TypeBody::Flags {
@@ -200,7 +198,7 @@ pub fn resolve_body(
         }
         tree::TypeBody::Variant { span, cases } => {
             check_variant(alloc, *span, cases)?;
-            let cases = resolve_cases(alloc, types, names, required, given, cases)?;
+            let cases = resolve_cases(alloc, types, scope, required, given, cases)?;
             Ok(TypeDefKind::Variant(Variant { cases }))
         }
         tree::TypeBody::Enum { span, cases } => {
@@ -210,7 +208,7 @@ pub fn resolve_body(
         }
         tree::TypeBody::Resource { .. } => Ok(TypeDefKind::Resource),
         tree::TypeBody::Plain(ty) => {
-            let kind = resolve_plain(alloc, types, names, required, given, ty)?;
+            let kind = resolve_plain(alloc, types, scope, required, given, ty)?;
             Ok(kind)
         }
     }

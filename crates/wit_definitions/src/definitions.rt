@@ -4,6 +4,7 @@ ghost use Rattle.wit_entries.specs.Defining.{DefinesOne};
 use crate::bodies::resolve_body;
 use std::alloc::Global;
 use wit_entries::entries::Entries;
+use wit_entries::names::TypeScope;
 use wit_entries::scope::Scope;
 use wit_notes::metadata_of;
 use wit_tree::{ParseResult, tree};
@@ -23,7 +24,10 @@ pub fn define(
     let kind = resolve_body(
         alloc,
         types,
-        &scope.names,
+        TypeScope {
+            names: &scope.names,
+            functions: None,
+        },
         &mut scope.required,
         &metadata.stability,
         &definition.body,

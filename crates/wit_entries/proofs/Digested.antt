@@ -1,7 +1,7 @@
 -- A place more in an ordered map from hashes.
 use Rattle.std.proofs.Common.{◌≡◌, ℕ, ◌<◌, true, false, Option, Some, None, inl, inr, refl, ap, ◌∙◌}
 use Rattle.std.specs.BTreeMap.{BTreeMap, get, Updates}
-use Rattle.wit_syntax.proofs.Common.{MatchOrdering, cases_Bool, is_eq, is_some, nat_cmp}
+use Rattle.wit_arena.proofs.Common.{MatchOrdering, cases_Bool, is_eq, is_some, nat_cmp}
 use Rattle.std.specs.declared.cmp.Ordering.{Ordering}
 use Rattle.std.specs.declared.cmp.Ordering.TheVariants.{Less, Equal, Greater}
 use Rattle.std.proofs.lemmas.Cmp.{ranked}

@@ -1,9 +1,8 @@
 -- In how many steps it is found where an entry ends.
 use Rattle.std.proofs.Common.{◌≡◌, ℕ, zero, suc, ◌≤◌, List, [], ◌∷◌, Option, Some, None, refl, sym, ap, ◌∙◌, arith}
-use Rattle.wit_syntax.proofs.Common.{AliasForm, Form, TypeDef, at_take, slice_get, take}
+use Rattle.wit_arena.proofs.Common.{AliasForm, EntryEnd, Form, TypeDef, at_take, entry_end, found_end, kind_end, kind_of, part_end, slice_get, take}
 use Rattle.wit_types.specs.declared.types.«Type».{«Type» as Ty}
 use Rattle.wit_types.specs.declared.types.«Type».TheVariants as type
-use Rattle.wit_arena.proofs.Common.{EntryEnd, entry_end, found_end, kind_end, kind_of, part_end}
 use Rattle.wit_entries.specs.EntryFaults.{end_in}
 
 -- what one way to say ends finds, another one finds that says all that the first does

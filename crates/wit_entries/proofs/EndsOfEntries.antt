@@ -1,22 +1,17 @@
 -- Arenas beside which it is stated where each entry ends, and one entry more.
 use Rattle.std.proofs.Common.{◌≡◌, ℕ, suc, List, [], ◌∷◌, ◌++◌, length, take, Option, Some, None, inl, inr, refl, sym, ap, ◌∙◌, subst, length-append, arith}
-use Rattle.wit_syntax.proofs.Common.{TypeDef, TypeDefKind, at_either, at_within, slice_get, slice_get_within, take-append_seam}
+use Rattle.wit_arena.proofs.Common.{EntryEnd, IsOther, TypeDef, TypeDefKind, at_either, at_seam, at_within, entry_end, entry_end-same, found_end, kind_end, kind_of, slice_get, slice_get_within, take-append_seam}
 use Rattle.wit_types.specs.declared.types.«Type».TheVariants as type
 use Rattle.wit_types.specs.declared.types.TypeDefKind.TheVariants as kind
 use Rattle.wit_types.specs.declared.types.Handle.TheVariants as handle
-use Rattle.wit_arena.proofs.Common.{EntryEnd, IsOther, entry_end, entry_end-same, found_end, kind_end, kind_of}
 use Rattle.wit_entries.specs.declared.ends.End.{End}
 use Rattle.wit_entries.specs.EndsOfEntries.{end_means, EndsNext, AreAsStated}
 use Rattle.wit_entries.specs.EntryFaults.{end_in}
 use Rattle.wit_entries.proofs.Ending.{found_in}
 
-at_last : {X : Type 0} (xs : List X) (x : X) → slice_get (xs ++ x ∷ []) (length xs) ≡ Some x
-at_last [] x = refl
-at_last (y ∷ xs) x = at_last xs x
-
 -- where the last entry ends
 last_end : (n : ℕ) (es : List TypeDef) (e : TypeDef) → entry_end (suc n) (es ++ e ∷ []) (length es) ≡ kind_end (entry_end n es) (length es) (kind_of e.kind).form (kind_of e.kind).parts
-last_end n es e = ap (λ (l : List TypeDef). found_end (entry_end n l) (length es) (slice_get (es ++ e ∷ []) (length es))) (take-append_seam es (e ∷ [])) ∙ ap (found_end (entry_end n es) (length es)) (at_last es e)
+last_end n es e = ap (λ (l : List TypeDef). found_end (entry_end n l) (length es) (slice_get (es ++ e ∷ []) (length es))) (take-append_seam es (e ∷ [])) ∙ ap (found_end (entry_end n es) (length es)) (at_seam es e)
 
 abbrev pub ends_by : ℕ → List TypeDef → TypeDefKind → Option EntryEnd
 ends_by n es k = kind_end (entry_end n es) (length es) (kind_of k).form (kind_of k).parts

@@ -1,14 +1,9 @@
 -- Written types without a fault in an arena that grows.
 use Rattle.std.proofs.Common.{◌≡◌, ℕ, suc, List, [], ◌∷◌, ◌++◌, take, Option, Some, None, refl, sym, ap, ◌∙◌, Vec}
-use Rattle.wit_syntax.proofs.Common.{Fault, Global, Id, Span, TypeBody, TypeDef, body_types, missing_type_at, option_or, slice_get, slice_get_within}
-use Rattle.wit_type_tree.specs.declared.types.«Type».{«Type» as Written}
+use Rattle.wit_arena.proofs.Common.{Env, Fault, Global, Id, IsOther, Span, TypeBody, TypeDef, body_types, entry_end, entry_end-same, found_end, option_or, slice_get, slice_get_within, «Type» as Written}
 use Rattle.wit_type_tree.specs.declared.types.«Type».TheVariants as written
-use Rattle.wit_first.specs.ListFaults.{empty_fault, list_fault}
-use Rattle.wit_first.proofs.Bridge.{or_none_both}
-use Rattle.wit_first.proofs.First.{none_both}
-use Rattle.wit_first.proofs.TypeFaults.{tuple_fault, type_kept}
-use Rattle.wit_arena.proofs.Common.{Env, IsOther, entry_end, entry_end-same, found_end}
-use Rattle.wit_entries.specs.EntryFaults.{end_in, name_fault, end_fault, handled_fault, handle_fault, named_fault, written_fault, types_fault, body_fault}
+use Rattle.wit_walk.proofs.Common.{empty_fault, list_fault, none_both, or_none_both, tuple_fault, type_kept}
+use Rattle.wit_entries.specs.EntryFaults.{end_in, name_fault, end_fault, handled_fault, handle_fault, written_fault, types_fault, body_fault}
 use Rattle.wit_entries.specs.Requiring.{IsExtended}
 
 -- a name in a handle ends at a resource, or at a type of another package: so it does in a grown arena
@@ -26,23 +21,20 @@ handled_extended lost es more id (Some place) h = end_extended es more id place 
 handle_extended : (lost : Id → Fault) (env : Env) (old new : List TypeDef) → IsExtended old new → (id : Id) → handle_fault lost env old id ≡ None → handle_fault lost env new id ≡ None
 handle_extended lost env old new g id h = rw g.is (handled_extended lost old g.more id (env id.name.now) h)
 
-pub named_extended : (lost : Id → Fault) (env : Env) (old new : List TypeDef) (t : Written) → IsExtended old new → named_fault lost env old t ≡ None → named_fault lost env new t ≡ None
-named_extended lost env old new t g h = type_kept (name_fault lost env) (handle_fault lost env old) (name_fault lost env) (handle_fault lost env new) (λ id none. none) (handle_extended lost env old new g) t h
+pub written_extended : (lost : Id → Fault) (env : Env) (old new : List TypeDef) (t : Written) → IsExtended old new → written_fault lost env old t ≡ None → written_fault lost env new t ≡ None
+written_extended lost env old new t g h = type_kept (name_fault lost env) (handle_fault lost env old) (name_fault lost env) (handle_fault lost env new) (λ id none. none) (handle_extended lost env old new g) t h
 
-pub written_extended : (env : Env) (old new : List TypeDef) (t : Written) → IsExtended old new → written_fault env old t ≡ None → written_fault env new t ≡ None
-written_extended env old new t g h = named_extended missing_type_at env old new t g h
+pub types_extended : (lost : Id → Fault) (env : Env) (old new : List TypeDef) (ts : List Written) → IsExtended old new → types_fault lost env old ts ≡ None → types_fault lost env new ts ≡ None
+types_extended lost env old new [] g h = refl
+types_extended lost env old new (t ∷ ts) g h =
+    let all = or_none_both (written_fault lost env old t) (types_fault lost env old ts) h in
+    none_both (written_extended lost env old new t g all.0) (types_extended lost env old new ts g all.1)
 
-pub types_extended : (env : Env) (old new : List TypeDef) (ts : List Written) → IsExtended old new → types_fault env old ts ≡ None → types_fault env new ts ≡ None
-types_extended env old new [] g h = refl
-types_extended env old new (t ∷ ts) g h =
-    let all = or_none_both (written_fault env old t) (types_fault env old ts) h in
-    none_both (written_extended env old new t g all.0) (types_extended env old new ts g all.1)
-
-pub body_extended : (env : Env) (old new : List TypeDef) (b : TypeBody) → IsExtended old new → body_fault env old b ≡ None → body_fault env new b ≡ None
-body_extended env old new b g h =
-    let all = or_none_both (list_fault b) (types_fault env old (body_types b)) h in
-    none_both all.0 (types_extended env old new (body_types b) g all.1)
+pub body_extended : (lost : Id → Fault) (env : Env) (old new : List TypeDef) (b : TypeBody) → IsExtended old new → body_fault lost env old b ≡ None → body_fault lost env new b ≡ None
+body_extended lost env old new b g h =
+    let all = or_none_both (list_fault b) (types_fault lost env old (body_types b)) h in
+    none_both all.0 (types_extended lost env old new (body_types b) g all.1)
 
 -- a tuple, by the list of its types
-pub tuple_first : (env : Env) (es : List TypeDef) (span : Span) (v : Vec Written Global) → written_fault env es (written.Tuple span v) ≡ option_or (empty_fault 22 v.items span) (types_fault env es v.items)
-tuple_first env es span v = tuple_fault (name_fault missing_type_at env) (handle_fault missing_type_at env es) span v
+pub tuple_first : (lost : Id → Fault) (env : Env) (es : List TypeDef) (span : Span) (v : Vec Written Global) → written_fault lost env es (written.Tuple span v) ≡ option_or (empty_fault 22 v.items span) (types_fault lost env es v.items)
+tuple_first lost env es span v = tuple_fault (name_fault lost env) (handle_fault lost env es) span v

@@ -1,8 +1,7 @@
 -- Tables that know unnamed entries, and one entry more.
 use Rattle.std.proofs.Common.{◌≡◌, ◌⊎◌, ℕ, Bool, true, false, List, [], ◌∷◌, ◌++◌, length, Option, Some, None, if◌then◌else◌, inl, inr, refl, sym, ap, ◌∙◌}
 use Rattle.std.specs.Bool.{Decides}
-use Rattle.wit_syntax.proofs.Common.{Span, Stability, TypeDef, TypeDefKind, at_either}
-use Rattle.wit_arena.proofs.Common.{unnamed}
+use Rattle.wit_arena.proofs.Common.{Span, Stability, TypeDef, TypeDefKind, at_either, unnamed}
 use Rattle.wit_intern.specs.declared.key.InternKey.{InternKey}
 use Rattle.wit_intern.specs.TypeKeys.{key_of}
 use Rattle.wit_intern.specs.FiniteMap.{FiniteMap}

@@ -1,9 +1,8 @@
 -- Definitions and functions with the metadata that their docs and attributes say.
 use Rattle.std.proofs.Common.{◌≡◌, List, [], ◌∷◌, ap, ◌∙◌, subst}
-use Rattle.wit_syntax.proofs.Common.{Address, AreMetadata, Attribute, Defined, Metadata, SourceFunction, Stability, TypeDef, TypeDefKind, TypeOwner, about_name, body_of, docs_of, metadata}
+use Rattle.wit_arena.proofs.Common.{Address, AreMetadata, Attribute, Defined, Defines, IsAdded, Metadata, Names, ResolvedScope, SourceFunction, Stability, TypeDef, TypeDefKind, TypeOwner, about_name, body_of, defines_one, docs_of, env_of, kind_of, metadata}
 use Rattle.wit_type_tree.specs.declared.leaves.Docs.{Docs}
 use Rattle.wit_type_tree.specs.declared.types.TypeDef.{TypeDef as Definition}
-use Rattle.wit_arena.proofs.Common.{Defines, IsAdded, Names, ResolvedScope, defines_one, env_of, kind_of}
 use Rattle.wit_notes.specs.BorrowedMetadata.{metadata_view}
 use Rattle.wit_notes.specs.declared.metadata.Metadata.{Metadata as Made}
 use Rattle.wit_entries.specs.ResolvedForms.{AreParts, IsKindOf}

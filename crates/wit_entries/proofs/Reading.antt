@@ -1,12 +1,11 @@
 -- Written types whose parts are resolved: as they are in a type, and under a name.
 use Rattle.std.proofs.Common.{◌≡◌, ℕ, List, [], ◌∷◌, ◌++◌, Some, refl, sym, subst}
-use Rattle.wit_syntax.proofs.Common.{AliasForm, Id as Name, Of, Prim, Shape, Span, Stability, TypeDef, TypeDefKind, Word, append-nil, head, one, shape_of, written_body}
+use Rattle.wit_arena.proofs.Common.{AliasForm, AreResolved, Env, Id as Name, IsAnonymousForm, IsInterned, Shape, Span, Stability, TypeDef, TypeDefKind, Word, all_exprs-append, all_occurrences-append, append-nil, expr_of, head, shape_occurrences, shape_of, written_body, «Type» as Written}
+use Rattle.wit_walk.proofs.Common.{Of, Prim, one}
+use Rattle.wit_syntax.specs.Shape.{Body}
 use Rattle.wit_types.specs.declared.types.«Type».{«Type» as Ty}
 use Rattle.wit_types.specs.declared.types.«Type».TheVariants.{Id}
-use Rattle.wit_type_tree.specs.declared.types.«Type».{«Type» as Written}
 use Rattle.wit_type_tree.specs.declared.types.«Type».TheVariants as written
-use Rattle.wit_arena.proofs.Common.{AreResolved, Env, IsAnonymousForm, IsInterned, all_exprs-append, all_occurrences-append, expr_of, shape_occurrences}
-use Rattle.wit_syntax.specs.Shape.{Body}
 use Rattle.wit_arena.specs.Expr as exprs
 use Rattle.wit_arena.proofs.UnnamedKinds.{only_anonymous}
 use Rattle.wit_arena.proofs.Resolving.{resolved_more, resolved_whole}

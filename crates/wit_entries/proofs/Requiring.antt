@@ -1,8 +1,6 @@
 -- Arenas that grow, and what handles require, one after another.
 use Rattle.std.proofs.Common.{◌≡◌, ℕ, suc, List, [], ◌∷◌, ◌++◌, Some, inl, inr, refl, sym, ap, ◌∙◌, subst, append_assoc}
-use Rattle.wit_syntax.proofs.Common.{Id, TypeDef, all_handles, append-nil, handles, part_types}
-use Rattle.wit_type_tree.specs.declared.types.«Type».{«Type» as Written}
-use Rattle.wit_arena.proofs.Common.{AreEnded, Env, IsNoHandle, IsResource, IsUnknown, Required, all_handles-append, ended_append, ended_more, handles-parts}
+use Rattle.wit_arena.proofs.Common.{AreEnded, Env, Id, IsNoHandle, IsResource, IsUnknown, Required, TypeDef, all_handles, all_handles-append, append-nil, ended_append, ended_more, handles, handles-parts, part_types, «Type» as Written}
 use Rattle.wit_entries.specs.EntryFaults.{end_in}
 use Rattle.wit_entries.specs.Requiring.{IsExtended, Requires}
 
@@ -46,12 +44,6 @@ requires_types env mid new ts us a b c g p q = subst (λ (l : List Id). Requires
 pub requires_one : (env : Env) (es : List TypeDef) (t : Written) (a b : List Required) → Requires env es (handles t) a b → Requires env es (all_handles (t ∷ [])) a b
 requires_one env es t a b p = subst (λ (l : List Id). Requires env es l a b) (sym (append-nil (handles t))) p
 
-pub requires_boxed : (env : Env) (es : List TypeDef) (t u : Written) (a b : List Required) → t ≡ u → Requires env es (handles t) a b → Requires env es (all_handles (u ∷ [])) a b
-requires_boxed env es t u a b same p = subst (λ (x : Written). Requires env es (all_handles (x ∷ [])) a b) same (requires_one env es t a b p)
-
 -- by the parts of a type that is no handle
 pub requires_parts : (env : Env) (es : List TypeDef) (whole : Written) (ts : List Written) (a b : List Required) → IsNoHandle whole → part_types whole ≡ ts → Requires env es (all_handles ts) a b → Requires env es (handles whole) a b
 requires_parts env es whole ts a b other same p = subst (λ (l : List Id). Requires env es l a b) (sym (handles-parts whole other ∙ ap all_handles same)) p
-
-pub requires_only : (env : Env) (es : List TypeDef) (whole part : Written) (a b : List Required) → IsNoHandle whole → part_types whole ≡ (part ∷ []) → Requires env es (handles part) a b → Requires env es (handles whole) a b
-requires_only env es whole part a b other same p = requires_parts env es whole (part ∷ []) a b other same (requires_one env es part a b p)

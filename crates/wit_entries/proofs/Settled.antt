@@ -1,12 +1,12 @@
 -- The first known stability of the parts of a kind, slot by slot.
 use Rattle.std.proofs.Common.{◌≡◌, ℕ, zero, suc, ◌+◌, List, [], ◌∷◌, ◌++◌, take, Option, Some, None, refl, sym, ap, ◌∙◌}
-use Rattle.wit_syntax.proofs.Common.{Field, Stability, TypeDef, TypeDefKind, cons_option, first_known, get_or_from_slice_get, map, map_map, option_map, option_to_list, slice_get, slice_get-map, slice_get_within, slots, take_more, filter_map}
+use Rattle.wit_types.specs.declared.types.Field.{Field}
+use Rattle.wit_arena.proofs.Common.{Stability, TypeDef, TypeDefKind, cons_option, filter_map, first_known, get_or_from_slice_get, kind_of, map, map_map, option_map, option_to_list, slice_get, slice_get-map, slice_get_within, slots, stability_at, take_more}
 use Rattle.wit_types.specs.declared.stability.Stability.TheVariants as stability
 use Rattle.wit_types.specs.declared.types.Case.{Case}
 use Rattle.wit_types.specs.declared.types.Handle.{Handle}
 use Rattle.wit_types.specs.declared.types.«Type».{«Type» as Ty}
 use Rattle.wit_types.specs.declared.types.TypeDefKind.TheVariants as kind
-use Rattle.wit_arena.proofs.Common.{kind_of, stability_at}
 use Rattle.wit_entries.specs.FirstStability.{known, slot_stability}
 
 -- a known one is the first of all after it

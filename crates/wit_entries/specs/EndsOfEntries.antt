@@ -1,10 +1,8 @@
 -- Arenas beside which it is stated where each entry ends.
 use Rattle.std.specs.Prelude.{◌≡◌, ℕ, List, length, Some, slice_get}
 use Rattle.wit_types.specs.declared.types.«Type».TheVariants as type
-use Rattle.wit_types.specs.declared.types.TypeDef.{TypeDef}
-use Rattle.wit_types.specs.declared.types.TypeDefKind.{TypeDefKind}
+use Rattle.wit_arena.specs.Common.{EntryEnd, IsOther, IsResource, IsUnknown, TypeDef, TypeDefKind}
 use Rattle.wit_types.specs.declared.types.TypeDefKind.TheVariants as kind
-use Rattle.wit_arena.specs.EntryEnds.{EntryEnd, IsResource, IsUnknown, IsOther}
 use Rattle.wit_entries.specs.EntryFaults.{end_in}
 use Rattle.wit_entries.specs.declared.ends.End.{End}
 use Rattle.wit_entries.specs.declared.ends.End.TheVariants as end

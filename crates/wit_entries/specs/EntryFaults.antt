@@ -1,19 +1,16 @@
 -- The first fault of written types and of definitions, by what the names of a scope mean in an arena: E15 and E27, and the rules of types.
-use Rattle.std.specs.Prelude.{ℕ, suc, List, Option, Some, None}
-use Rattle.std.specs.Option.{option_or}
-use Rattle.wit_type_tree.specs.declared.leaves.Id.{Id}
+use denote.Ref.{Bor}
+use Rattle.std.specs.Prelude.{ℕ, suc, List, Option, Some, None, map}
+use Rattle.wit_arena.specs.Common.{EntryEnd, Env, Fault, Id, IsOther, TypeBody, TypeDef, body_types, entry_end, missing_type_at, no_resource, option_or}
 use Rattle.wit_type_tree.specs.declared.types.«Type».{«Type» as Written}
-use Rattle.wit_type_tree.specs.declared.types.TypeBody.{TypeBody}
 use Rattle.wit_type_tree.specs.declared.types.TypeDef.{TypeDef as Definition}
-use Rattle.wit_type_tree.specs.TypeParts.{body_types}
-use Rattle.wit_types.specs.declared.types.TypeDef.{TypeDef}
-use Rattle.wit_syntax.specs.Fault.{Fault, missing_type_at, no_resource}
 use Rattle.wit_first.specs.AttributeFaults.{metadata_fault}
 use Rattle.wit_first.specs.First.{first_in}
 use Rattle.wit_first.specs.ListFaults.{list_fault}
 use Rattle.wit_first.specs.TypeFaults.{type_fault}
-use Rattle.wit_arena.specs.EntryEnds.{EntryEnd, IsOther, entry_end}
-use Rattle.wit_arena.specs.Resolving.{Env}
+use Rattle.wit_walk.specs.Functions.{lost_word}
+use Rattle.wit_rules.specs.declared.borrowed.BorrowedFunction.{BorrowedFunction}
+use Rattle.wit_rules.specs.BorrowedFunctions.{function_view}
 
 -- where the entry at a place ends: in these steps it is found for each arena
 abbrev pub end_in : List TypeDef → ℕ → Option EntryEnd
@@ -39,21 +36,22 @@ handled_fault lost es id (Some place) = end_fault id (end_in es place)
 abbrev pub handle_fault : (Id → Fault) → Env → List TypeDef → Id → Option Fault
 handle_fault lost env es id = handled_fault lost es id (env id.name.now)
 
--- of a written type, where `lost` is the fault of a name that means nothing
-abbrev pub named_fault : (Id → Fault) → Env → List TypeDef → Written → Option Fault
-named_fault lost env es t = type_fault (name_fault lost env) (handle_fault lost env es) t
+-- of a written type, where `lost` is the fault of a name that means nothing, and of types one after another
+abbrev pub written_fault : (Id → Fault) → Env → List TypeDef → Written → Option Fault
+written_fault lost env es t = type_fault (name_fault lost env) (handle_fault lost env es) t
 
--- of a type, and of types one after another, in a definition
-abbrev pub written_fault : Env → List TypeDef → Written → Option Fault
-written_fault env es t = named_fault missing_type_at env es t
+abbrev pub types_fault : (Id → Fault) → Env → List TypeDef → List Written → Option Fault
+types_fault lost env es ts = first_in (written_fault lost env es) ts
 
-abbrev pub types_fault : Env → List TypeDef → List Written → Option Fault
-types_fault env es ts = first_in (written_fault env es) ts
+-- in the signature of the last of these functions that name is one of theirs, or of nothing; else it is none of a type
+abbrev pub lost_in : Option (Bor (List BorrowedFunction)) → Id → Fault
+lost_in None = missing_type_at
+lost_in (Some fns) = lost_word (map function_view fns.now)
 
 -- of the body of a definition: its list first, and then the types in it
-abbrev pub body_fault : Env → List TypeDef → TypeBody → Option Fault
-body_fault env es b = option_or (list_fault b) (types_fault env es (body_types b))
+abbrev pub body_fault : (Id → Fault) → Env → List TypeDef → TypeBody → Option Fault
+body_fault lost env es b = option_or (list_fault b) (types_fault lost env es (body_types b))
 
 -- of a definition: its attributes first
 abbrev pub definition_fault : Env → List TypeDef → Definition → Option Fault
-definition_fault env es d = option_or (metadata_fault d.attributes.items) (body_fault env es d.body)
+definition_fault env es d = option_or (metadata_fault d.attributes.items) (body_fault missing_type_at env es d.body)

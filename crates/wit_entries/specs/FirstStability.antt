@@ -1,10 +1,7 @@
 -- The stabilities that are known, among those of what is in a kind.
 use Rattle.std.specs.Prelude.{List, Option, Some, None}
-use Rattle.wit_types.specs.declared.stability.Stability.{Stability}
+use Rattle.wit_arena.specs.Common.{Stability, TypeDef, stability_at, «Type» as Ty}
 use Rattle.wit_types.specs.declared.stability.Stability.TheVariants as stability
-use Rattle.wit_types.specs.declared.types.«Type».{«Type» as Ty}
-use Rattle.wit_types.specs.declared.types.TypeDef.{TypeDef}
-use Rattle.wit_arena.specs.Occurrences.{stability_at}
 
 -- a stability, where it is known
 abbrev pub known : Stability → Option Stability

@@ -1,11 +1,9 @@
--- Tables that know the unnamed entries of an arena.
-use Rattle.std.specs.Prelude.{◌≡◌, ◌⊎◌, ℕ, List, Option, Some, None}
+-- Tables that know the unnamed entries of an arena, and the type that a list or an option is made of.
+use Rattle.std.specs.Prelude.{◌≡◌, ◌⊎◌, ℕ, List, Option, Some, None, ◌+◌}
 use Rattle.std.specs.Hash.FoldHasher.{initial, write, finish}
-use Rattle.std.specs.List.{fold}
-use Rattle.wit_types.specs.declared.types.TypeDef.{TypeDef}
-use Rattle.wit_types.specs.declared.types.TypeDefKind.{TypeDefKind}
-use Rattle.wit_arena.specs.Resolving.{IsUnnamedOf}
-use Rattle.wit_arena.specs.UnfoldedTypes.{At}
+use Rattle.wit_arena.specs.Common.{At, IsUnnamedOf, TypeDef, TypeDefKind, fold}
+use Rattle.wit_types.specs.declared.types.«Type».TheVariants.{Id}
+use Rattle.wit_types.specs.declared.types.TypeDefKind.TheVariants as kind
 use Rattle.wit_intern.specs.contracts.key.InternKeyHash.TheImpl.{hash_input-value as key_writes}
 use Rattle.wit_intern.specs.declared.key.InternKey.{InternKey}
 use Rattle.wit_intern.specs.TypeKeys.{key_of}
@@ -33,3 +31,13 @@ IsMissing kind es = (j : ℕ) (e : TypeDef) → At es j e → IsUnnamedOf kind e
 abbrev pub IsFoundOr : Type 0 → List TypeDef → TypeDefKind → Option ℕ → Type 0
 IsFoundOr Other es kind (Some i) = (e : TypeDef) × At es i e × IsUnnamedOf kind e
 IsFoundOr Other es kind None = Other
+
+-- the place of the type that a list or an option is made of, unless that is a primitive
+abbrev pub inner_of : TypeDefKind → Option ℕ
+inner_of (kind.List (Id i)) = Some i
+inner_of (kind.Option (Id i)) = Some i
+inner_of k = None
+
+-- the unnamed type of a kind is not right after the unnamed type that it is made of
+abbrev pub IsNotAfter : List TypeDef → TypeDefKind → Type 0
+IsNotAfter types kind = (i : ℕ) (inner e : TypeDef) → inner_of kind ≡ Some i → At types i inner → inner.name ≡ None → At types (i + 1) e → IsUnnamedOf kind e → ⊥

@@ -6,4 +6,3 @@ pub mod EndsOfEntries
 pub mod EntryFaults
 pub mod Requiring
 pub mod Defining
-pub mod ElementTypes

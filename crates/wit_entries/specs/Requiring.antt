@@ -1,12 +1,9 @@
 -- What handles require of types of other packages, arenas that have grown, and calls that resolve written types.
 use Rattle.std.specs.Prelude.{◌≡◌, ℕ, List, [], ◌∷◌, ◌++◌, MatchResult, None, Option, Result, Some}
-use Rattle.wit_type_tree.specs.declared.error.ParseError.{ParseError}
-use Rattle.wit_type_tree.specs.declared.leaves.Id.{Id}
-use Rattle.wit_types.specs.declared.types.TypeDef.{TypeDef}
-use Rattle.wit_syntax.specs.Fault.{Fault, missing_type_at}
+use Rattle.wit_arena.specs.Common.{AreEnded, Env, Fault, Id, ParseError, Required, TypeDef, env_of}
 use Rattle.wit_first.specs.First.{Reports}
-use Rattle.wit_arena.specs.Resolving.{Env, Names, Required, AreEnded, env_of}
-use Rattle.wit_entries.specs.EntryFaults.{handle_fault}
+use Rattle.wit_entries.specs.EntryFaults.{handle_fault, lost_in}
+use Rattle.wit_entries.specs.declared.names.TypeScope.{TypeScope}
 
 -- the new arena is the old one and more
 pub record IsExtended (old new : List TypeDef) : Type 0 where
@@ -36,5 +33,5 @@ abbrev pub Resolves : {T : Type 0} → Env → (old new : List TypeDef) → (bef
 Resolves env old new before after ids wrong Made r = MatchResult r (λ x. Resolved env old new before after ids wrong (Made x)) (Stopped old new wrong)
 
 -- a call finds what a name in a handle means: a resource, or a type of another package, which has to be one
-abbrev pub FindsResource : Names → List TypeDef → (before after : List Required) → Id → Result ℕ ParseError → Type 0
-FindsResource names es before after id r = Resolves (env_of names) es es before after (id ∷ []) (handle_fault missing_type_at (env_of names) es id) (λ place. env_of names id.name.now ≡ Some place) r
+abbrev pub FindsResource : TypeScope → List TypeDef → (before after : List Required) → Id → Result ℕ ParseError → Type 0
+FindsResource s es before after id r = Resolves (env_of s.names.now) es es before after (id ∷ []) (handle_fault (lost_in s.functions) (env_of s.names.now) es id) (λ place. env_of s.names.now id.name.now ≡ Some place) r

@@ -1,25 +1,15 @@
 -- What a written type is once its parts are resolved.
 use Rattle.std.specs.Prelude.{◌≡◌, List, [], ◌∷◌, Result}
-use Rattle.wit_values.specs.declared.span.Span.{Span}
-use Rattle.wit_type_tree.specs.declared.error.ParseError.{ParseError}
+use Rattle.wit_arena.specs.Common.{Address, AreResolved, Body, Env, Of, ParseError, Prim, Required, Shape, Shapes, Span, Stability, TypeDef, TypeDefKind, Type_, Word, all_handles, all_shapes, env_of, handles, kind_of, shape_occurrences, shape_of, shapes_occurrences, «Type» as Ty}
 use Rattle.wit_type_tree.specs.declared.types.«Type».{«Type» as Written}
 use Rattle.wit_type_tree.specs.declared.types.«Type».TheVariants as written
-use Rattle.wit_types.specs.declared.stability.Stability.{Stability}
-use Rattle.wit_types.specs.declared.types.«Type».{«Type» as Ty}
-use Rattle.wit_types.specs.declared.types.TypeDef.{TypeDef}
-use Rattle.wit_types.specs.declared.types.TypeDefKind.{TypeDefKind}
-use Rattle.wit_types.specs.declared.types.TypeDefKind.TheVariants.{Type_}
-use Rattle.wit_arena.specs.Kind.{kind_of}
-use Rattle.wit_syntax.specs.Shape.{Body, Shape, Shapes, Prim, Word, Of, all_handles, all_shapes, handles, shape_of}
-use Rattle.wit_syntax.specs.Address.{Address}
 use Rattle.wit_arena.specs.Expr.{one, expr_of, exprs_of}
-use Rattle.wit_arena.specs.Occurrences.{shape_occurrences, shapes_occurrences}
-use Rattle.wit_arena.specs.Resolving.{Env, Names, AreResolved, Required, env_of}
 use Rattle.wit_arena.specs.Faithful.{IsAnonymousForm}
-use Rattle.wit_entries.specs.EntryFaults.{types_fault, written_fault}
+use Rattle.wit_entries.specs.EntryFaults.{lost_in, types_fault, written_fault}
 use Rattle.wit_entries.specs.Requiring.{Resolves}
 use Rattle.wit_entries.specs.declared.types.Reading.{Reading}
 use Rattle.wit_entries.specs.declared.types.Reading.TheVariants as reading
+use Rattle.wit_entries.specs.declared.names.TypeScope.{TypeScope}
 
 -- from whatever occurred, the new arena is that with what occurs in a type, which is in a definition of this stability, and it means this
 abbrev pub IsResolved : List TypeDef → List TypeDef → Env → Stability → Shape → Ty → Type 0
@@ -65,9 +55,9 @@ named_kind (reading.Leaf ty) = Type_ ty
 named_kind (reading.Form kind span) = kind
 
 -- a call reads a type
-abbrev pub Reads : Names → Stability → (old new : List TypeDef) → (before after : List Required) → Written → Result Reading ParseError → Type 0
-Reads names given old new before after t r = Resolves (env_of names) old new before after (handles t) (written_fault (env_of names) new t) (IsRead old new (env_of names) given (shape_of t)) r
+abbrev pub Reads : TypeScope → Stability → (old new : List TypeDef) → (before after : List Required) → Written → Result Reading ParseError → Type 0
+Reads s given old new before after t r = Resolves (env_of s.names.now) old new before after (handles t) (written_fault (lost_in s.functions) (env_of s.names.now) new t) (IsRead old new (env_of s.names.now) given (shape_of t)) r
 
 -- a call resolves types, one after another, to those in what it makes
-abbrev pub ResolvesTypes : {T : Type 0} → Names → Stability → (old new : List TypeDef) → (before after : List Required) → List Written → (T → List Ty) → Result T ParseError → Type 0
-ResolvesTypes names given old new before after ts types r = Resolves (env_of names) old new before after (all_handles ts) (types_fault (env_of names) new ts) (λ x. AreTypes old new (env_of names) given ts (types x)) r
+abbrev pub ResolvesTypes : {T : Type 0} → TypeScope → Stability → (old new : List TypeDef) → (before after : List Required) → List Written → (T → List Ty) → Result T ParseError → Type 0
+ResolvesTypes s given old new before after ts types r = Resolves (env_of s.names.now) old new before after (all_handles ts) (types_fault (lost_in s.functions) (env_of s.names.now) new ts) (λ x. AreTypes old new (env_of s.names.now) given ts (types x)) r

@@ -1,7 +1,7 @@
 //! The names of a scope, while it is resolved.
 ghost use Rattle.std.specs.Prelude.{◌≡◌, OnOk};
+ghost use Rattle.wit_arena.specs.Resolving.{IsAdded};
 ghost use Rattle.wit_notes.specs.BorrowedMetadata.{metadata_view};
-ghost use Rattle.wit_entries.specs.Defining.{Declares};
 ghost use Rattle.wit_entries.specs.Requiring.{IsExtended};
 
 use crate::entries::Entries;
@@ -38,7 +38,7 @@ impl Scope {
         metadata: Metadata,
         kind: TypeDefKind,
     ) -> Result<(), AllocError>
-        ensures added { OnOk result (Declares self.old self.new types.old types.new name.entry (metadata_view metadata) kind) }
+        ensures added { OnOk result (IsAdded types.old types.new self.old.owner self.old.names self.new.names name.entry.name.now (metadata_view metadata) name.entry.span kind) }
         ensures owner { OnOk result (self.new.owner ≡ self.old.owner) }
         ensures required { self.new.required ≡ self.old.required }
         ensures extended { IsExtended types.old types.new }

@@ -9,13 +9,12 @@ ghost use Rattle.wit_arena.specs.Kind.{kind_of};
 ghost use Rattle.wit_entries.specs.ResolvedForms.{IsLeaf, IsList, Reads, ResolvesTypes, named_kind as the_named_kind};
 
 use crate::entries::Entries;
-use crate::names::{find_name, find_resource};
+use crate::names::{TypeScope, find_name, find_resource};
 use crate::scope::Required;
 use std::alloc::Global;
-use wit_maps::TextTable;
 use wit_rules::rules::{check_key, check_tuple};
 use wit_tree::{ParseResult, Span, tree};
-use wit_types::{Handle, Result_, Stability, Tuple, Type, TypeDefKind, TypeId};
+use wit_types::{Handle, Result_, Stability, Tuple, Type, TypeDefKind};
 use wit_values::Row;
 
 /// A written type over its resolved parts.
@@ -54,29 +53,29 @@ fn primitive_type(primitive: tree::Primitive) -> Type
 pub fn read(
     alloc: Global,
     types: &mut Entries,
-    names: &TextTable<TypeId>,
+    scope: TypeScope<'_, '_, '_>,
     required: &mut Vec<Required>,
     given: &Stability,
     ty: &tree::Type<'_>,
 ) -> ParseResult<Reading>
-    ensures { Reads names.now given.now types.old types.new required.old.items required.new.items ty.now result }
+    ensures { Reads scope.entry given.now types.old types.new required.old.items required.new.items ty.now result }
 {
     if let tree::Type::Primitive(_, primitive) = ty {
         return Ok(Reading::Leaf(primitive_type(*primitive)));
     }
     if let tree::Type::Name(id) = ty {
-        let found = find_name(alloc, names, *id)?;
+        let found = find_name(alloc, scope, *id)?;
         return Ok(Reading::Leaf(Type::Id(found)));
     }
     if let tree::Type::Own(_, id) = ty {
-        let resource = find_resource(alloc, types, names, required, *id)?;
+        let resource = find_resource(alloc, types, scope, required, *id)?;
         return Ok(Reading::Leaf(Type::Id(resource)));
     }
     if let tree::Type::List(span, item) = ty {
-        let item = resolve_type(alloc, types, names, required, given, item)?;
+        let item = resolve_type(alloc, types, scope, required, given, item)?;
         return Ok(Reading::Form(TypeDefKind::List(item), *span));
     }
-    read_form(alloc, types, names, required, given, ty)
+    read_form(alloc, types, scope, required, given, ty)
 }
 
 /// A form but a list, and no resource that is handed over. It is by itself since each of its calls has room for
@@ -86,49 +85,49 @@ pub fn read(
 fn read_form(
     alloc: Global,
     types: &mut Entries,
-    names: &TextTable<TypeId>,
+    scope: TypeScope<'_, '_, '_>,
     required: &mut Vec<Required>,
     given: &Stability,
     ty: &tree::Type<'_>,
 ) -> ParseResult<Reading>
     requires form { IsLeaf (shape_of ty.now) → ⊥ }
     requires unlisted { IsList ty.now → ⊥ }
-    ensures { Reads names.now given.now types.old types.new required.old.items required.new.items ty.now result }
+    ensures { Reads scope.entry given.now types.old types.new required.old.items required.new.items ty.now result }
 {
     match ty {
         tree::Type::FixedLengthList(span, item, size) => {
-            let item = resolve_type(alloc, types, names, required, given, item)?;
+            let item = resolve_type(alloc, types, scope, required, given, item)?;
             Ok(Reading::Form(TypeDefKind::FixedLengthList(item, *size), *span))
         }
         tree::Type::Map(span, key, value) => {
-            let key_type = resolve_type(alloc, types, names, required, given, key)?;
-            let value_type = resolve_type(alloc, types, names, required, given, value)?;
+            let key_type = resolve_type(alloc, types, scope, required, given, key)?;
+            let value_type = resolve_type(alloc, types, scope, required, given, value)?;
             check_key(alloc, *span, key)?;
             Ok(Reading::Form(TypeDefKind::Map(key_type, value_type), *span))
         }
         tree::Type::Option(span, value) => {
-            let value = resolve_type(alloc, types, names, required, given, value)?;
+            let value = resolve_type(alloc, types, scope, required, given, value)?;
             Ok(Reading::Form(TypeDefKind::Option(value), *span))
         }
         tree::Type::Result(span, parts) => {
-            let outcome = resolve_result(alloc, types, names, required, given, parts)?;
+            let outcome = resolve_result(alloc, types, scope, required, given, parts)?;
             Ok(Reading::Form(TypeDefKind::Result(outcome), *span))
         }
         tree::Type::Tuple(span, parts) => {
             check_tuple(alloc, *span, parts)?;
-            let types = resolve_types(alloc, types, names, required, given, parts)?;
+            let types = resolve_types(alloc, types, scope, required, given, parts)?;
             Ok(Reading::Form(TypeDefKind::Tuple(Tuple { types }), *span))
         }
         tree::Type::Future(span, value) => {
-            let value = resolve_optional(alloc, types, names, required, given, value)?;
+            let value = resolve_optional(alloc, types, scope, required, given, value)?;
             Ok(Reading::Form(TypeDefKind::Future(value), *span))
         }
         tree::Type::Stream(span, item) => {
-            let item = resolve_optional(alloc, types, names, required, given, item)?;
+            let item = resolve_optional(alloc, types, scope, required, given, item)?;
             Ok(Reading::Form(TypeDefKind::Stream(item), *span))
         }
         tree::Type::Borrow(span, id) => {
-            let resource = find_resource(alloc, types, names, required, *id)?;
+            let resource = find_resource(alloc, types, scope, required, *id)?;
             Ok(Reading::Form(TypeDefKind::Handle(Handle::Borrow(resource)), *span))
         }
         _ => unreachable!(),
@@ -140,13 +139,13 @@ fn read_form(
 fn resolve_result(
     alloc: Global,
     types: &mut Entries,
-    names: &TextTable<TypeId>,
+    scope: TypeScope<'_, '_, '_>,
     required: &mut Vec<Required>,
     given: &Stability,
     parts: &tree::ResultTypes<'_>,
 ) -> ParseResult<Result_>
     ensures there { IfOk result (λ r. (is_some r.ok ≡ is_some (ok_type parts.now)) × (is_some r.err ≡ is_some (err_type parts.now))) }
-    ensures resolves { ResolvesTypes names.now given.now types.old types.new required.old.items required.new.items (result_types parts.now) (λ r. (kind_of (Result r)).parts) result }
+    ensures resolves { ResolvesTypes scope.entry given.now types.old types.new required.old.items required.new.items (result_types parts.now) (λ r. (kind_of (Result r)).parts) result }
 {
     match parts {
         tree::ResultTypes::Neither => Ok(Result_ {
@@ -154,22 +153,22 @@ fn resolve_result(
             err: None,
         }),
         tree::ResultTypes::Ok(ok) => {
-            let ok = resolve_type(alloc, types, names, required, given, ok)?;
+            let ok = resolve_type(alloc, types, scope, required, given, ok)?;
             Ok(Result_ {
                 ok: Some(ok),
                 err: None,
             })
         }
         tree::ResultTypes::Err(err) => {
-            let err = resolve_type(alloc, types, names, required, given, err)?;
+            let err = resolve_type(alloc, types, scope, required, given, err)?;
             Ok(Result_ {
                 ok: None,
                 err: Some(err),
             })
         }
         tree::ResultTypes::Both(ok, err) => {
-            let ok = resolve_type(alloc, types, names, required, given, ok)?;
-            let err = resolve_type(alloc, types, names, required, given, err)?;
+            let ok = resolve_type(alloc, types, scope, required, given, ok)?;
+            let err = resolve_type(alloc, types, scope, required, given, err)?;
             let (ok, err) = (Some(ok), Some(err));
             Ok(Result_ { ok, err })
         }
@@ -181,17 +180,17 @@ fn resolve_result(
 fn resolve_optional(
     alloc: Global,
     types: &mut Entries,
-    names: &TextTable<TypeId>,
+    scope: TypeScope<'_, '_, '_>,
     required: &mut Vec<Required>,
     given: &Stability,
     ty: &Option<Box<tree::Type<'_>>>,
 ) -> ParseResult<Option<Type>>
     ensures there { IfOk result (λ o. is_some o ≡ is_some ty.now) }
-    ensures resolves { ResolvesTypes names.now given.now types.old types.new required.old.items required.new.items (boxed_types ty.now) option_to_list result }
+    ensures resolves { ResolvesTypes scope.entry given.now types.old types.new required.old.items required.new.items (boxed_types ty.now) option_to_list result }
 {
     match ty {
         Some(ty) => {
-            let found = resolve_type(alloc, types, names, required, given, ty)?;
+            let found = resolve_type(alloc, types, scope, required, given, ty)?;
             Ok(Some(found))
         }
         None => Ok(None),
@@ -203,16 +202,16 @@ fn resolve_optional(
 fn resolve_types(
     alloc: Global,
     types: &mut Entries,
-    names: &TextTable<TypeId>,
+    scope: TypeScope<'_, '_, '_>,
     required: &mut Vec<Required>,
     given: &Stability,
     parts: &[tree::Type<'_>],
 ) -> ParseResult<Row<Type>>
-    ensures { ResolvesTypes names.now given.now types.old types.new required.old.items required.new.items parts.now (λ r. r) result }
+    ensures { ResolvesTypes scope.entry given.now types.old types.new required.old.items required.new.items parts.now (λ r. r) result }
 {
     let mut resolved = Vec::with_capacity(alloc, parts.len())?;
     for part in parts {
-        let ty = resolve_type(alloc, types, names, required, given, part)?;
+        let ty = resolve_type(alloc, types, scope, required, given, part)?;
         resolved.push(ty)?;
     }
     Ok(Row::from(resolved))
@@ -220,19 +219,19 @@ fn resolve_types(
 
 /// The type that a written one means.
 ///
-/// A refusal is E15, E22, E26 or E27 at a type in it, or a failed allocation.
+/// A refusal is E15, or in a signature E28 or E29, E22, E26 or E27 at a type in it, or a failed allocation.
 #[cycle(types)]
 pub fn resolve_type(
     alloc: Global,
     types: &mut Entries,
-    names: &TextTable<TypeId>,
+    scope: TypeScope<'_, '_, '_>,
     required: &mut Vec<Required>,
     given: &Stability,
     ty: &tree::Type<'_>,
 ) -> ParseResult<Type>
-    ensures { ResolvesTypes names.now given.now types.old types.new required.old.items required.new.items (ty.now ∷ []) (λ t. t ∷ []) result }
+    ensures { ResolvesTypes scope.entry given.now types.old types.new required.old.items required.new.items (ty.now ∷ []) (λ t. t ∷ []) result }
 {
-    let reading = read(alloc, types, names, required, given, ty)?;
+    let reading = read(alloc, types, scope, required, given, ty)?;
     match reading {
         Reading::Leaf(ty) => Ok(ty),
         Reading::Form(kind, span) => {

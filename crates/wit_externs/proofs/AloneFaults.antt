@@ -1,22 +1,15 @@
 -- The first fault of functions where nothing else is on the sides of a scope: names again, and tests of names in handles in an arena that grows.
 use Rattle.std.proofs.Common.{◌≡◌, ℕ, true, false, List, [], ◌∷◌, ◌++◌, map, take, Option, Some, None, Result, Ok, Err, inl, inr, refl, sym, ap, ◌∙◌, ◌+◌}
-use Rattle.wit_syntax.proofs.Common.{Fault, Id, IfErr, OnOk, Param, ParseError, Refused, ScopeName, SourceFunction, SourceParam, Span, TypeDef, bytes_eq, false_from_ne_true, lower_case, folded_key, list_any, name_equal, name_itself, option_map, option_or, param_twice, slice_get, written_param, result_ok}
+use Rattle.wit_arena.proofs.Common.{Env, Fault, Id, IfErr, OnOk, ParseError, Refused, ScopeName, SourceFunction, SourceParam, Span, TypeDef, any_found, bytes_eq, false_from_ne_true, find-only, folded_key, list_any, lower_case, missing_type_at, name_equal, name_itself, option_map, option_or, param_twice, result_ok, slice_get, take_next, written_param, «Type» as Written}
+use Rattle.wit_walk.proofs.Common.{Finds, Param, Reports, after_kept, find_none, first_after, function_fault, given_fault, lost_word, metadata_fault, none_both, or_none_both, param_fault, repeat_of, result_fault, return_fault, type_fault, type_kept}
 use mathlib.Core.Path.{fun_ext}
-use Rattle.wit_type_tree.specs.declared.types.«Type».{«Type» as Written}
 use Rattle.wit_type_tree.specs.declared.types.«Type».TheVariants as written
-use Rattle.wit_walk.proofs.Common.{Finds, Reports, any_found, find-only, find_none, first_after, function_fault, lost_word, metadata_fault, none_both, or_none_both, param_fault, repeat_of, return_fault, type_fault}
-use Rattle.wit_first.specs.FunctionFaults.{given_fault, result_fault}
-use Rattle.wit_first.proofs.Repeats.{after_kept}
-use Rattle.wit_first.proofs.TypeFaults.{type_kept}
-use Rattle.wit_arena.proofs.Common.{Env}
 use Rattle.wit_refusals.specs.NameScopes.{Name, AreUsed, IsDefinedAgain}
-use Rattle.wit_entries.specs.EntryFaults.{handle_fault, handled_fault, name_fault, unless_found}
+use Rattle.wit_entries.specs.EntryFaults.{handle_fault, handled_fault, name_fault, unless_found, written_fault}
 use Rattle.wit_entries.specs.Requiring.{IsExtended}
 use Rattle.wit_entries.proofs.Faults.{written_extended}
 use Rattle.wit_signatures.specs.ForeignName.{name_key}
-use Rattle.wit_signatures.specs.SignatureFaults.{signed_fault}
 use Rattle.wit_externs.specs.AloneFaults.{EndsIn, IsSafe, again, again_fault, signed_by, words_in}
-use Rattle.wit_externs.proofs.Steps.{used_next}
 
 -- a name that is defined again, and one that is not
 pub again_report : (names : List Name) (name : List ℕ) (span : Span) (e : ParseError) → Refused (IsDefinedAgain names name span) e → Reports (again_fault names (name, span)) e
@@ -48,7 +41,7 @@ safe_of env es handle ends id place present none = ends id place present ∙ non
 
 -- so it was before the arena grew, and with fewer names
 pub safe_arena : (env : Env) (old new : List TypeDef) (handle : Id → Option Fault) → IsExtended old new → IsSafe env new handle → IsSafe env old handle
-safe_arena env old new handle g safe id place present none = safe id place present (written_extended (λ name. Some place) old new (written.Own id.span id) g none)
+safe_arena env old new handle g safe id place present none = safe id place present (written_extended missing_type_at (λ name. Some place) old new (written.Own id.span id) g none)
 
 pub safe_names : (env env' : Env) (es : List TypeDef) (handle : Id → Option Fault) → ((name : List ℕ) (i : ℕ) → env name ≡ Some i → env' name ≡ Some i) → IsSafe env' es handle → IsSafe env es handle
 safe_names env env' es handle keep safe id place present none = safe id place (keep id.name.now place present) none
@@ -95,16 +88,16 @@ module _ (env : Env) (es : List TypeDef) (handle : Id → Option Fault) (xs : Li
       by (Some place) present none = safe id place present none
 
   -- the fault of a function by an arena, and by a test that is right of it
-  pub function_same : EndsIn env es handle → (fns : List SourceFunction) (k : ℕ) (fn : SourceFunction) → slice_get fns k ≡ Some fn → function_fault (signed_fault env es (take (k + 1) fns)) xs fn ≡ function_fault (signed_by (words_in env) handle (take k fns ++ fn ∷ [])) xs fn
+  pub function_same : EndsIn env es handle → (fns : List SourceFunction) (k : ℕ) (fn : SourceFunction) → slice_get fns k ≡ Some fn → function_fault (written_fault (lost_word (take (k + 1) fns)) env es) xs fn ≡ function_fault (signed_by (words_in env) handle (take k fns ++ fn ∷ [])) xs fn
   function_same ends fns k fn at =
       let lost = lost_word (take (k + 1) fns) in
       let handles : handle_fault lost env es ≡ (λ (id : Id). option_or (name_fault lost env id) (handle id)) = fun_ext (signed_handle lost ends) in
       ap (λ (h : Id → Option Fault). function_fault (type_fault (name_fault lost env) h) xs fn) handles
-      ∙ ap (λ (l : List SourceFunction). function_fault (signed_by (words_in env) handle l) xs fn) (used_next fns k fn at)
+      ∙ ap (λ (l : List SourceFunction). function_fault (signed_by (words_in env) handle l) xs fn) (take_next fns k fn at)
 
-  pub function_safe : IsSafe env es handle → (fns : List SourceFunction) (k : ℕ) (fn : SourceFunction) → slice_get fns k ≡ Some fn → function_fault (signed_fault env es (take (k + 1) fns)) xs fn ≡ None → function_fault (signed_by (words_in env) handle (take k fns ++ fn ∷ [])) xs fn ≡ None
+  pub function_safe : IsSafe env es handle → (fns : List SourceFunction) (k : ℕ) (fn : SourceFunction) → slice_get fns k ≡ Some fn → function_fault (written_fault (lost_word (take (k + 1) fns)) env es) xs fn ≡ None → function_fault (signed_by (words_in env) handle (take k fns ++ fn ∷ [])) xs fn ≡ None
   function_safe safe fns k fn at none =
       let lost = lost_word (take (k + 1) fns) in
       let wrong = type_fault (name_fault lost env) (handle_fault lost env es) in
-      ap (λ (l : List SourceFunction). function_fault (signed_by (words_in env) handle l) xs fn) (sym (used_next fns k fn at))
+      ap (λ (l : List SourceFunction). function_fault (signed_by (words_in env) handle l) xs fn) (sym (take_next fns k fn at))
       ∙ function_kept wrong (signed_by (words_in env) handle (take (k + 1) fns)) (type_kept (name_fault lost env) (handle_fault lost env es) (name_fault lost env) (λ (id : Id). option_or (name_fault lost env id) (handle id)) (λ id h. h) (signed_safe lost safe)) xs fn none

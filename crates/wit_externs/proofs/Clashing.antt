@@ -1,6 +1,6 @@
 -- What is on each side once names are defined there.
 use Rattle.std.proofs.Common.{◌≡◌, ℕ, ◌+◌, Bool, List, [], ◌∷◌, ◌++◌, take, map, Some, None, refl, sym, ap, ◌∙◌, subst, append_assoc}
-use Rattle.wit_syntax.proofs.Common.{AllDiffer, Constructor, Err, Exported, Freestanding, FuncForm, Id, Imported, Method, Ok, OnOk, OnSide, Result, Role, SideItem, Span, Static, WorldSide, append-nil, item_side, items_on, names_on, role_side, same_side, slice_get}
+use Rattle.wit_arena.proofs.Common.{AllDiffer, Constructor, Err, Exported, Freestanding, FuncForm, Id, Imported, Method, Ok, OnOk, OnSide, Result, Role, SideItem, Span, Static, WorldSide, append-nil, item_side, items_on, names_on, role_side, same_side, slice_get}
 use Rattle.wit_refusals.specs.NameScopes.{Name, AreUsed}
 use Rattle.wit_sides.specs.SideNames.{only_on}
 use Rattle.wit_rules.specs.BorrowedFunctions.{across_of}

@@ -1,9 +1,7 @@
 -- The functions among what is on the sides of a scope, one after the other, over their types.
 use Rattle.std.proofs.Common.{◌≡◌, ◌<◌, ◌≤◌, ◌+◌, ℕ, List, [], ◌∷◌, ◌++◌, length, map, take, Some, All, IsTrue, sym, ap, ◌∙◌, subst, arith}
-use Rattle.wit_syntax.proofs.Common.{Address, All-push, All-same, SideFunction, SourceFunction, Span, TypeDef, all_handles, append-nil, flat_map, flat_map-append, is_mangled, length-map, length-take-le, map-append, option_map, slice_get, slice_get-map, slice_get_within, take_all, written_types}
+use Rattle.wit_arena.proofs.Common.{Address, AddsFunctions, All-push, All-same, Function, Required, SideFunction, SourceFunction, Span, TypeDef, all_handles, append-nil, env_of, flat_map, flat_map-append, functions_append, is_mangled, length-map, length-take-le, map-append, option_map, slice_get, slice_get-map, slice_get_within, take_all, written_types, «Type» as Written}
 use Rattle.wit_refusals.specs.NameScopes.{Name}
-use Rattle.wit_arena.proofs.Common.{AddsFunctions, Function, Required, env_of, functions_append}
-use Rattle.wit_type_tree.specs.declared.types.«Type».{«Type» as Written}
 use Rattle.wit_rules.specs.declared.function_scope.FunctionScope.{FunctionScope}
 use Rattle.wit_rules.specs.declared.borrowed.BorrowedFunction.{BorrowedFunction}
 use Rattle.wit_rules.specs.BorrowedFunctions.{function_view}

@@ -1,12 +1,8 @@
 -- The first setter without its getter, by the names of a scope or of a side among which are those of functions, in their order.
 use Rattle.std.proofs.Common.{◌≡◌, ◌⊎◌, ◌||◌, ◌&&◌, not, ℕ, suc, Bool, true, false, List, [], ◌∷◌, ◌++◌, map, take, Option, Some, None, Result, Ok, Err, inl, inr, refl, sym, ap, ◌∙◌, subst, arith, Contains}
-use Rattle.wit_syntax.proofs.Common.{Exported, Fault, Id, IfErr, Imported, OnOk, ParseError, Refused, SideFunction, SideInline, SideItem, SideLink, SourceFunction, WorldSide, and_parts, at_contains, at_take, bytes_eq, cases_Bool, cond-false, cond-true, contains_at, false_from_ne_true, fault_of, flat_map, getter_of, if◌then◌else◌, is_label, is_setter, item_function, item_side, items_on, kept_at, list_any, map_at, name_equal, name_itself, names_on, not-true, on_side, option_map_or, option_or, role_side, same_side, slice_get}
-use Rattle.wit_syntax.specs.Fault.{lone_setter}
-use Rattle.wit_first.proofs.First.{any_some, in-at}
-use Rattle.std.proofs.lemmas.Bool.{or_parts}
+use Rattle.wit_arena.proofs.Common.{Exported, Fault, Id, IfErr, Imported, OnOk, ParseError, Refused, SideFunction, SideInline, SideItem, SideLink, SourceFunction, WorldSide, and_parts, any_found, at_contains, at_take, bytes_eq, cases_Bool, cond-false, cond-true, contains_at, false_from_ne_true, fault_of, flat_map, getter_of, if◌then◌else◌, is_label, is_setter, item_function, item_side, items_on, kept_at, list_any, lone_setter, map_at, name_equal, name_itself, names_on, not-true, on_side, option_map_or, option_or, or_parts, role_side, same_side, slice_get}
+use Rattle.wit_walk.proofs.Common.{Finds, any_some, first_in, in-at, in_some, is_setter as form_sets, setter_fault}
 use Rattle.wit_functions.proofs.InTurn.{list_any-filter_none}
-use Rattle.wit_walk.specs.Setters.{is_setter as form_sets}
-use Rattle.wit_walk.proofs.Common.{Finds, any_found, first_in, in_some, setter_fault}
 use Rattle.wit_walk.proofs.ScopeFaults.{if_some}
 use Rattle.wit_refusals.specs.NameScopes.{Name, IsLoneSetter, IsFirstLoneSetter}
 use Rattle.wit_rules.specs.declared.borrowed.BorrowedFunction.{BorrowedFunction}

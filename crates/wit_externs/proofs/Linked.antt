@@ -1,17 +1,17 @@
 -- Interfaces on the sides of a world that have no name of their own, and one more of them.
 use Rattle.std.proofs.Common.{◌≡◌, ℕ, Bool, true, false, not, List, [], ◌∷◌, ◌++◌, Contains, sym, ap, ◌∙◌, subst}
-use Rattle.wit_syntax.proofs.Common.{AllDiffer, Exported, Imported, MatchBool, WorldSide, any_passes_from_place, append-nil, at_contains, cond-false, contains_at, differ_more, insert_key, list_any, not-false, not-true}
+use Rattle.wit_arena.proofs.Common.{AllDiffer, Exported, Imported, MatchBool, WorldSide, any_passes_from_place, append-nil, at_contains, cond-false, contains_at, differ_more, insert_key, list_any, not-false, not-true}
 use Rattle.indexmap.proofs.CallerLemmas.{Contains-list_any}
-use Rattle.wit_externs.specs.Next.{only_place}
+use Rattle.wit_sides.specs.SideNames.{only_on}
 
 -- an interface of a side, where it is none of these
-one_side : (s side : WorldSide) (old new : WorldSide → List ℕ) (id : ℕ) → new s ≡ old s ++ only_place s side id → (Contains (old side) id → ⊥) → AllDiffer (old s) → AllDiffer (new s)
+one_side : (s side : WorldSide) (old new : WorldSide → List ℕ) (id : ℕ) → new s ≡ old s ++ only_on s side id → (Contains (old side) id → ⊥) → AllDiffer (old s) → AllDiffer (new s)
 one_side Imported Imported old new id defined free d = subst AllDiffer (sym defined) (differ_more (old Imported) id d (λ i at. free (contains_at (old Imported) i id at)))
 one_side Exported Exported old new id defined free d = subst AllDiffer (sym defined) (differ_more (old Exported) id d (λ i at. free (contains_at (old Exported) i id at)))
 one_side Imported Exported old new id defined free d = subst AllDiffer (sym (defined ∙ append-nil (old Imported))) d
 one_side Exported Imported old new id defined free d = subst AllDiffer (sym (defined ∙ append-nil (old Exported))) d
 
-pub places_differ : (side : WorldSide) (old new : WorldSide → List ℕ) (id : ℕ) → ((s : WorldSide) → new s ≡ old s ++ only_place s side id) → (Contains (old side) id → ⊥) → (s : WorldSide) → AllDiffer (old s) → AllDiffer (new s)
+pub places_differ : (side : WorldSide) (old new : WorldSide → List ℕ) (id : ℕ) → ((s : WorldSide) → new s ≡ old s ++ only_on s side id) → (Contains (old side) id → ⊥) → (s : WorldSide) → AllDiffer (old s) → AllDiffer (new s)
 places_differ side old new id defined free s d = one_side s side old new id (defined s) free d
 
 -- a place is put after these, where it is none of them

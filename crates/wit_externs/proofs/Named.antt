@@ -1,6 +1,6 @@
 -- Names that are defined one after the other, of which no two may have one key.
 use Rattle.std.proofs.Common.{ℕ, ◌+◌, List, [], ◌∷◌, ◌++◌, sym, subst}
-use Rattle.wit_syntax.proofs.Common.{AllDiffer, Span, differ_more, folded_key, map, map-append, map_at}
+use Rattle.wit_arena.proofs.Common.{AllDiffer, Span, differ_more, folded_key, map, map-append, map_at}
 use Rattle.wit_refusals.specs.NameScopes.{Name, AreUsed}
 use Rattle.wit_signatures.specs.ForeignName.{name_key}
 

@@ -1,27 +1,20 @@
--- The first fault of names that are defined, E17, and of the functions of a scope where nothing else is on its sides: E17, E22, E26 to E42; and of setters, E18.
+-- What the functions of a scope require, and the first fault of names that are defined, E17, and of the functions of a scope where nothing else is on its sides: E17, E22, E26 to E42; and of setters, E18.
 use Rattle.std.specs.Prelude.{◌≡◌, ◌⊎◌, ℕ, List, [], ◌∷◌, ◌++◌, codes, MatchResult, None, Option, Result, Some, map}
-use Rattle.std.specs.Option.{option_or}
-use Rattle.wit_type_tree.specs.RefusalText.{IsAllocationFailure}
-use Rattle.wit_type_tree.specs.declared.error.ParseError.{ParseError}
-use Rattle.wit_type_tree.specs.declared.leaves.Id.{Id}
+use Rattle.wit_arena.specs.Common.{Env, Exported, Fault, Id, Imported, Names, ParseError, Required, ScopeName, SideFunction, SourceFunction, TypeDef, WorldSide, all_handles, env_of, fault_in, fault_of, flat_map, items_on, on_side, option_or, role_side, written_types}
 use Rattle.wit_type_tree.specs.declared.types.«Type».{«Type» as Written}
-use Rattle.wit_tree.specs.declared.tree.WorldSide.{WorldSide}
-use Rattle.wit_tree.specs.declared.tree.WorldSide.TheVariants.{Imported, Exported}
-use Rattle.wit_types.specs.declared.types.TypeDef.{TypeDef}
-use Rattle.wit_syntax.specs.Fault.{Fault, fault_in, fault_of}
-use Rattle.wit_syntax.specs.Function.{SourceFunction}
-use Rattle.wit_syntax.specs.Sides.{SideFunction, items_on, on_side, role_side}
-use Rattle.wit_syntax.specs.Source.{ScopeName}
+use Rattle.wit_type_tree.specs.RefusalText.{IsAllocationFailure}
 use Rattle.wit_syntax.specs.Words.{clash}
 use Rattle.wit_first.specs.First.{clash_of, first_after, first_in}
 use Rattle.wit_first.specs.TypeFaults.{type_fault}
 use Rattle.wit_walk.specs.Functions.{function_fault, lost_word}
 use Rattle.wit_walk.specs.Setters.{setter_fault}
-use Rattle.wit_arena.specs.Resolving.{Env}
 use Rattle.wit_refusals.specs.NameScopes.{Name}
 use Rattle.wit_sides.specs.SideNames.{defined_on}
 use Rattle.wit_sides.specs.declared.sides.Sides.{Sides}
+use Rattle.wit_rules.specs.Signatures.{functions_view}
+use Rattle.wit_rules.specs.declared.function_scope.FunctionScope.{FunctionScope}
 use Rattle.wit_entries.specs.EntryFaults.{end_fault, end_in, name_fault}
+use Rattle.wit_entries.specs.Requiring.{Requires}
 use Rattle.wit_signatures.specs.ForeignName.{name_key, name_of_function}
 use Rattle.wit_externs.specs.Clash.{names_of_items}
 
@@ -44,10 +37,6 @@ again earlier later = fault_in 17 later.1 (clash (codes "name") earlier.0 later.
 
 abbrev pub again_fault : List Name → Name → Option Fault
 again_fault before n = clash_of name_key again before n
-
--- of a function whose name is defined on its side
-abbrev pub next_fault : Sides → SourceFunction → Option Fault
-next_fault names fn = again_fault (defined_on (role_side fn.role) names) (name_of_function fn)
 
 -- of names that are defined after these, one after another
 abbrev pub defined_fault : List Name → List Name → Option Fault
@@ -76,3 +65,11 @@ lone_setters fns = first_in (setter_fault fns) fns
 -- of both sides
 abbrev pub sides_setters : List SourceFunction → Option Fault
 sides_setters fns = option_or (lone_setters (on_side Imported fns)) (lone_setters (on_side Exported fns))
+
+-- this is what the handles in the signatures of functions require
+abbrev pub SignaturesRequire : Names → List TypeDef → List SourceFunction → List Required → List Required → Type 0
+SignaturesRequire names types fns before after = Requires (env_of names) types (all_handles (flat_map written_types fns)) before after
+
+-- what a call finds of the functions of a scope, after the names that are defined
+abbrev pub FindsAlone : {T : Type 0} → FunctionScope → List TypeDef → Sides → List ScopeName → Result T ParseError → Type 0
+FindsAlone scope types names xs r = FindsIn (env_of scope.names.now) types (λ handle. alone_faults (words_in (env_of scope.names.now)) handle xs (λ s. defined_on s names) (functions_view scope)) r

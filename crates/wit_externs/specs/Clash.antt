@@ -1,12 +1,6 @@
 -- The names of what is on the sides of a scope, of which no two on one side may have one key.
 use Rattle.std.specs.Prelude.{◌≡◌, ◌++◌, List, [], ◌∷◌, map}
-use Rattle.std.specs.List.{flat_map}
-use Rattle.std.specs.Option.{option_map_or}
-use Rattle.wit_type_tree.specs.declared.leaves.Id.{Id}
-use Rattle.wit_tree.specs.declared.tree.WorldSide.{WorldSide}
-use Rattle.wit_syntax.specs.Function.{SourceFunction}
-use Rattle.wit_syntax.specs.Repeats.{AllDiffer}
-use Rattle.wit_syntax.specs.Sides.{SideItem, SideFunction, SideLink, SideInline, item_function, items_on, names_on}
+use Rattle.wit_arena.specs.Common.{AllDiffer, Id, SideFunction, SideInline, SideItem, SideLink, SourceFunction, WorldSide, flat_map, item_function, items_on, names_on, option_map_or}
 use Rattle.wit_refusals.specs.NameScopes.{Name}
 use Rattle.wit_sides.specs.SideNames.{defined_on}
 use Rattle.wit_sides.specs.declared.sides.Sides.{Sides}

@@ -2,4 +2,3 @@ pub mod AloneFaults
 pub mod Clash
 pub mod Links
 pub mod Next
-pub mod ScopeFunctions

@@ -1,9 +1,6 @@
 -- Interfaces that are on the sides of a world by their paths alone, where a function gives the places of those that paths lead to.
 use Rattle.std.specs.Prelude.{ℕ, List, [], Option}
-use Rattle.std.specs.List.{flat_map}
-use Rattle.std.specs.Option.{option_map_or, option_to_list}
-use Rattle.wit_tree.specs.declared.tree.UsePath.{UsePath}
-use Rattle.wit_syntax.specs.Sides.{SideItem, SideFunction, SideLink, SideInline}
+use Rattle.wit_arena.specs.Common.{SideFunction, SideInline, SideItem, SideLink, UsePath, flat_map, option_map_or, option_to_list}
 
 -- the place of an interface that has no name of its own
 abbrev pub bare_place : (UsePath → Option ℕ) → SideItem → List ℕ

@@ -1,21 +1,12 @@
 -- Interfaces on the sides of a world that have no name of their own, and one more of them.
-use Rattle.std.specs.Prelude.{◌≡◌, ◌++◌, ℕ, List, [], ◌∷◌, Contains, if◌then◌else◌}
-use Rattle.std.specs.Map.{keys_of}
-use Rattle.wit_values.specs.declared.span.Span.{Span}
-use Rattle.wit_tree.specs.declared.tree.WorldSide.{WorldSide}
-use Rattle.wit_tree.specs.declared.tree.WorldSide.TheVariants.{Imported, Exported}
-use Rattle.wit_syntax.specs.ExternPart.{same_side}
-use Rattle.wit_syntax.specs.Fault.{Fault, linked_twice}
+use Rattle.std.specs.Prelude.{◌≡◌, ◌++◌, ℕ, List, [], ◌∷◌, Contains}
+use Rattle.wit_arena.specs.Common.{Exported, Fault, Imported, Span, WorldSide, keys_of, linked_twice}
 use Rattle.wit_externs.specs.declared.links.Links.{Links}
 
 -- the places of the interfaces on a side that have no name of their own
 abbrev pub linked_on : WorldSide → Links → List ℕ
 linked_on Imported l = keys_of l.imports
 linked_on Exported l = keys_of l.exports
-
--- what one on a side adds to a side
-abbrev pub only_place : WorldSide → WorldSide → ℕ → List ℕ
-only_place s side id = if same_side s side then id ∷ [] else []
 
 -- an interface is put after these, and was none of them
 abbrev pub IsPutAfter : List ℕ → List ℕ → ℕ → Type 0

@@ -1,11 +1,12 @@
 //! Names of functions, where nothing else is on the sides of a scope.
 ghost use Rattle.std.specs.Prelude.{◌≡◌, ◌∷◌, [], IsTrue, OnOk};
 ghost use Rattle.wit_names.specs.Mangled.{is_mangled};
-ghost use Rattle.wit_syntax.specs.Sides.{SideFunction};
+ghost use Rattle.wit_syntax.specs.Sides.{SideFunction, role_side};
 ghost use Rattle.wit_first.specs.First.{Finds};
+ghost use Rattle.wit_sides.specs.SideNames.{defined_on};
 ghost use Rattle.wit_rules.specs.BorrowedFunctions.{function_view};
 ghost use Rattle.wit_signatures.specs.ForeignName.{name_of_made, name_of_function};
-ghost use Rattle.wit_externs.specs.AloneFaults.{next_fault};
+ghost use Rattle.wit_externs.specs.AloneFaults.{again_fault};
 ghost use Rattle.wit_externs.specs.Clash.{DefinesNames, StayApart};
 
 use wit_functions::Function;
@@ -26,7 +27,7 @@ pub fn define_alone(
     requires borrowed { name_of_made function.now ≡ name_of_function (function_view borrowed) }
     ensures defined { OnOk result (DefinesNames in_use.old in_use.new (SideFunction (function_view borrowed.entry) ∷ [])) }
     ensures differ { OnOk result (StayApart in_use.old in_use.new) }
-    ensures first { Finds (next_fault in_use.old (function_view borrowed.entry)) result }
+    ensures first { Finds (again_fault (defined_on (role_side (function_view borrowed.entry).role) in_use.old) (name_of_function (function_view borrowed.entry))) result }
 {
     let name = function.name.as_str();
     in_use.define(borrowed.side(), name, function.span)

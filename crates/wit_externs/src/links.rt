@@ -3,7 +3,8 @@ ghost use Rattle.std.specs.Prelude.{◌≡◌, ◌++◌, [], Contains, IfErr, If
 ghost use Rattle.std.specs.Map.{keys_of};
 ghost use Rattle.wit_syntax.specs.Broken.{Refused};
 ghost use Rattle.wit_syntax.specs.Words.{side_word};
-ghost use Rattle.wit_externs.specs.Next.{IsLinked, IsPutAfter, linked_on, only_place};
+ghost use Rattle.wit_sides.specs.SideNames.{only_on};
+ghost use Rattle.wit_externs.specs.Next.{IsLinked, IsPutAfter, linked_on};
 
 use std::alloc::{AllocError, Global};
 use wit_maps::Table;
@@ -68,7 +69,7 @@ impl Links {
         interface: usize,
         span: Span,
     ) -> ParseResult<()>
-        ensures defined { OnOk result ((s : WorldSide) → linked_on s self.new ≡ linked_on s self.old ++ only_place s side interface) }
+        ensures defined { OnOk result ((s : WorldSide) → linked_on s self.new ≡ linked_on s self.old ++ only_on s side interface) }
         ensures free { OnOk result (Contains (linked_on side self.old) interface → ⊥) }
         ensures refused { IfErr result (Refused (IsLinked side (linked_on side self.old) interface span)) }
     {

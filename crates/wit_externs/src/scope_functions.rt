@@ -8,7 +8,7 @@ ghost use Rattle.wit_entries.specs.Requiring.{IsExtended};
 ghost use Rattle.wit_rules.specs.Signatures.{functions_view, HaveOwners, IsScopeOf};
 ghost use Rattle.wit_signatures.specs.ForeignName.{name_of_function, name_of_made};
 ghost use Rattle.wit_externs.specs.Clash.{DefinesNames, StayApart};
-ghost use Rattle.wit_externs.specs.ScopeFunctions.{FindsAlone, SignaturesRequire};
+ghost use Rattle.wit_externs.specs.AloneFaults.{FindsAlone, SignaturesRequire};
 
 use crate::defining::define_alone;
 use std::alloc::Global;

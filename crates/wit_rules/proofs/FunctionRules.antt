@@ -1,6 +1,7 @@
 -- Rules of functions: their parameters by name, and setters among them.
 use Rattle.std.proofs.Common.{◌≡◌, ℕ, ◌<◌, List, [], ◌∷◌, ◌++◌, Option, Some, None, length, arith, refl, sym, ap, ◌∙◌, subst}
-use Rattle.wit_syntax.proofs.Common.{AllDiffer, FuncForm, Param, SourceFunction, SourceParam, Span, fault, lower_case, length-map, ltb-false, ltb-true, map, map-append, map_map, option_copied, slice_get, slice_get_past, slice_get_read, slice_get_within, written_param, Fault, ParseError, Result}
+use Rattle.wit_arena.proofs.Common.{AllDiffer, Fault, FuncForm, ParseError, Result, SourceFunction, SourceParam, Span, fault, length-map, lower_case, ltb-false, ltb-true, map, map-append, map_map, option_copied, slice_get, slice_get_past, slice_get_read, slice_get_within, written_param}
+use Rattle.wit_syntax.proofs.Common.{Param}
 use Rattle.std.specs.Slice.{IsItemAt}
 use denote.Ref.{Bor}
 use Rattle.wit_type_tree.specs.declared.types.FuncForm.TheVariants as form

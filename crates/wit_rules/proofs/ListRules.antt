@@ -1,7 +1,6 @@
 -- Rules of the lists in bodies: what a last call finds of the names in one that is not empty.
 use Rattle.std.proofs.Common.{◌≡◌, ℕ, ◌==◌, false, List, [], ◌∷◌, None, length, sym, subst}
-use Rattle.wit_syntax.proofs.Common.{Id, ParseError, Result, Span, codes, false≢true, map, fault, option_map, slice_get}
-use Rattle.wit_type_tree.specs.declared.types.Flag.{Flag}
+use Rattle.wit_arena.proofs.Common.{Flag, Id, ParseError, Result, Span, codes, false≢true, fault, map, option_map, slice_get}
 use Rattle.wit_first.specs.First.{Finds}
 use Rattle.wit_first.specs.ListFaults.{flags_fault, members_fault, names_fault}
 use Rattle.wit_first.proofs.First.{finds_back}

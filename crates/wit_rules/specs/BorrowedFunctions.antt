@@ -1,8 +1,6 @@
 -- Written functions that are borrowed until their types are resolved.
 use Rattle.std.specs.Prelude.{Option, Some, None}
-use Rattle.wit_type_tree.specs.declared.leaves.Id.{Id}
-use Rattle.wit_tree.specs.declared.tree.WorldSide.{WorldSide}
-use Rattle.wit_syntax.specs.Function.{Role, Method, Static, Constructor, OnSide, SourceFunction, free_function, resource_function, side_function}
+use Rattle.wit_arena.specs.Common.{Constructor, Id, Method, OnSide, Role, SourceFunction, Static, WorldSide, free_function, resource_function, side_function}
 use Rattle.wit_rules.specs.declared.borrowed.BorrowedFunction.{BorrowedFunction}
 use Rattle.wit_rules.specs.declared.borrowed.BorrowedFunction.TheVariants.{Free, Of, Across}
 

@@ -1,21 +1,11 @@
 -- What the functions of a scope are resolved in, and over which types.
 use Rattle.std.specs.Prelude.{◌≡◌, ℕ, nat_eq, List, length, map, Option, Some, None, IsSome, slice_get, ⊤}
-use Rattle.std.specs.Cmp.Lexicographic.{pointwise}
-use Rattle.std.specs.Map.{lookup}
-use Rattle.std.specs.Option.{option_to_list}
-use denote.Ref.{Bor}
-use Rattle.wit_type_tree.specs.declared.leaves.Id.{Id}
+use Rattle.wit_arena.specs.Common.{Address, Env, Fault, Id, Param, ScopeName, Shape, SourceFunction, SourceParam, TypeDef, env_of, lookup, meaning, option_to_list, pointwise, «Type» as Ty}
 use Rattle.wit_type_tree.specs.declared.types.«Type».{«Type» as Written}
-use Rattle.wit_types.specs.declared.types.«Type».{«Type» as Ty}
-use Rattle.wit_types.specs.declared.types.TypeDef.{TypeDef}
-use Rattle.wit_functions.specs.declared.function.Param.{Param}
-use Rattle.wit_syntax.specs.Address.{Address}
+use denote.Ref.{Bor}
 use Rattle.wit_arena.specs.Adding.{AreShapes, SaysParam}
-use Rattle.wit_syntax.specs.Shape.{Shape}
-use Rattle.wit_syntax.specs.Source.{ScopeName, meaning}
-use Rattle.wit_syntax.specs.Function.{SourceParam, SourceFunction}
-use Rattle.wit_syntax.specs.SignatureRules.{ok_of, meant_ok}
-use Rattle.wit_arena.specs.Resolving.{Env, env_of}
+use Rattle.wit_syntax.specs.SignatureRules.{ok_of, meant_ok, result_ok}
+use Rattle.wit_first.specs.FunctionFaults.{result_fault}
 use Rattle.wit_rules.specs.declared.function_scope.FunctionScope.{FunctionScope}
 use Rattle.wit_rules.specs.BorrowedFunctions.{function_view, owner_of}
 
@@ -28,13 +18,13 @@ stated_ok (Some t) = ok_of t.now
 pub record AreResults (results : List (List ℕ × Bor Written)) (xs : List ScopeName) : Type 0 where
   pub as_stated : (name : List ℕ) → stated_ok (lookup (pointwise nat_eq name) results) ≡ meant_ok (meaning xs name)
 
--- the names of a scope have no further one than those that mean places
-pub record AreAllNames (env : Env) (xs : List ScopeName) : Type 0 where
-  pub unmeant : (name : List ℕ) → env name ≡ None → meaning xs name ≡ None
+-- the fault of what a function of such a scope gives
+abbrev pub gives_fault : List ScopeName → SourceFunction → Written → Option Fault
+gives_fault xs fn t = result_fault fn.func.form fn.role t (result_ok xs t)
 
--- functions are resolved in a scope of these names
+-- functions are resolved in a scope of these names, which has no further one than those that mean places
 pub record IsScopeOf (scope : FunctionScope) (xs : List ScopeName) : Type 0 where
-  pub names : AreAllNames (env_of scope.names.now) xs
+  pub names : (name : List ℕ) → env_of scope.names.now name ≡ None → meaning xs name ≡ None
   pub results : AreResults scope.results.now xs
 
 -- the functions of a scope

@@ -7,12 +7,12 @@ ghost use Rattle.wit_names.specs.Folded.{lower_case};
 ghost use Rattle.wit_syntax.specs.Fault.{fault_in, fault_of};
 ghost use Rattle.wit_syntax.specs.Words.{defined_twice as twice_words};
 ghost use Rattle.wit_first.specs.First.{Finds, IsFirstRepeat};
-ghost use Rattle.wit_first.specs.FunctionFaults.{getter_fault, given_fault, is_written_as, made_fault, result_fault, setter_fault, params_fault};
+ghost use Rattle.wit_first.specs.FunctionFaults.{getter_fault, given_fault, is_written_as, made_fault, setter_fault, params_fault};
 ghost use Rattle.wit_syntax.specs.Source.{ScopeName};
 ghost use Rattle.wit_syntax.specs.Function.{all_params};
 ghost use Rattle.wit_syntax.specs.SignatureRules.{ok_span as the_ok_span, result_ok as the_result_ok};
 ghost use Rattle.wit_rules.specs.BorrowedFunctions.{function_view};
-ghost use Rattle.wit_rules.specs.Signatures.{AreResults};
+ghost use Rattle.wit_rules.specs.Signatures.{AreResults, gives_fault};
 
 use crate::borrowed::BorrowedFunction;
 use crate::function_scope::{result_ok, span_of};
@@ -194,7 +194,7 @@ pub fn check_result<'t, 'a>(
     function: BorrowedFunction<'t, 'a>,
     ty: &'t Type<'a>,
 ) -> ParseResult<()>
-    ensures { (xs : List ScopeName) → AreResults results.now xs → Finds (result_fault (function_view function.entry).func.form (function_view function.entry).role ty.now (the_result_ok xs ty.now)) result }
+    ensures { (xs : List ScopeName) → AreResults results.now xs → Finds (gives_fault xs (function_view function.entry) ty.now) result }
 {
     if let FuncForm::Setter = function.form() {
         return check_setter_result(alloc, results, ty);

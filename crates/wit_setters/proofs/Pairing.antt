@@ -1,7 +1,7 @@
 -- Where each setter comes after its getter, all stay where they are.
-use Rattle.std.proofs.Common.{◌≡◌, ℕ, suc, ◌<◌, Bool, true, false, List, [], ◌∷◌, Option, Some, None, inl, inr, refl, sym, ap, ◌∙◌, arith}
-use Rattle.wit_syntax.proofs.Common.{AllDiffer, cases_Bool, flat_map, if◌then◌else◌, list_any, map, name_equal, option_map, slice_get, slice_get-map, slice_get_within}
-use Rattle.wit_functions.specs.SettersPlaced.{early, is_getter, is_getter_of, is_same_text, others, setters_placed, with_setters}
+use Rattle.std.proofs.Common.{◌≡◌, ℕ, suc, ◌<◌, Bool, true, false, List, [], ◌∷◌, Option, Some, None, inl, inr, refl, sym, ap, ◌∙◌, nat_eq, arith}
+use Rattle.wit_syntax.proofs.Common.{AllDiffer, cases_Bool, flat_map, if◌then◌else◌, list_any, map, name_equal, option_map, pointwise, slice_get, slice_get-map, slice_get_within}
+use Rattle.wit_functions.specs.SettersPlaced.{early, is_getter, is_getter_of, others, setters_placed, with_setters, both}
 use Rattle.wit_functions.specs.declared.function.Function.{Function}
 use Rattle.wit_setters.specs.Paired.{ArePaired}
 use Rattle.wit_functions.specs.MaybeFunction.{is_setter, offered, wanted}
@@ -37,10 +37,10 @@ none_moves test es h =
     ∙ each_alone test es
 
 -- what a setter wants is the name of its getter
-getter_named : (o : Option (List ℕ)) (g : Function) → is_same_text o (offered (Some g)) ≡ true → o ≡ Some g.name
+getter_named : (o : Option (List ℕ)) (g : Function) → both (pointwise nat_eq) o (offered (Some g)) ≡ true → o ≡ Some g.name
 getter_named o g h = go (is_getter g.kind) o h
   where
-    go : (b : Bool) (o : Option (List ℕ)) → is_same_text o (if b then Some g.name else None) ≡ true → o ≡ Some g.name
+    go : (b : Bool) (o : Option (List ℕ)) → both (pointwise nat_eq) o (if b then Some g.name else None) ≡ true → o ≡ Some g.name
     go true None h = absurd (let f : ⊥ = cc in f)
     go true (Some a) h = ap Some (name_equal a g.name h)
     go false o h = absurd (let wrong : true ≡ false = sym h ∙ same_as_none o in let f : ⊥ = cc in f)
@@ -53,7 +53,7 @@ one_getter s g h of_g of_h =
     cc
 
 no_getter : (s g : Function) → is_setter (Some s) ≡ false → is_getter_of s g ≡ false
-no_getter s g none = goes_wanted (Some s) (Some g) ∙ ap (λ o. is_same_text o (offered (Some g))) (wants_none (Some s) none)
+no_getter s g none = goes_wanted (Some s) (Some g) ∙ ap (λ o. both (pointwise nat_eq) o (offered (Some g))) (wants_none (Some s) none)
 
 none_waits : (fs : List Function) → AllDiffer (map (λ f. f.name) fs) → ArePaired fs → NoneWaits is_getter_of fs
 none_waits fs own paired = λ i j s g lt ats atg. elim (cases_Bool (is_getter_of s g)) [

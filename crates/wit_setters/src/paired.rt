@@ -1,7 +1,8 @@
 //! Whether each setter comes directly after its getter already.
-ghost use Rattle.std.specs.Prelude.{◌≡◌, ◌<◌, length, IsTrue};
+ghost use Rattle.std.specs.Prelude.{◌≡◌, ◌<◌, length, nat_eq, IsTrue};
+ghost use Rattle.std.specs.Cmp.Lexicographic.{pointwise};
 ghost use Rattle.std.specs.Option.{option_copied};
-ghost use Rattle.wit_functions.specs.SettersPlaced.{prefixes as the_prefixes, goes_on_alike, is_getter_of, is_same_text};
+ghost use Rattle.wit_functions.specs.SettersPlaced.{prefixes as the_prefixes, goes_on_alike, is_getter_of, both};
 ghost use Rattle.wit_setters.specs.Paired.{ArePaired, IsPaired};
 
 use wit_functions::maybe_function::is_setter;
@@ -10,7 +11,7 @@ use wit_model::setters::{is_getter, prefixes};
 use wit_names::prefix::rest_after;
 
 fn is_same_text(a: Option<&str>, b: Option<&str>) -> bool
-    ensures { result ≡ is_same_text (option_copied a.entry) (option_copied b.entry) }
+    ensures { result ≡ both (pointwise nat_eq) (option_copied a.entry) (option_copied b.entry) }
 {
     match a {
         Some(a) => match b {

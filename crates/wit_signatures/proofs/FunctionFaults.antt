@@ -1,18 +1,12 @@
 -- The parameters of a function without a fault, one more and in an arena that grows.
 use Rattle.std.proofs.Common.{◌≡◌, ◌≤◌, ◌+◌, ℕ, List, [], ◌++◌, length, take, true, false, nat_eq, Option, Some, None, inl, inr, ap, ◌∙◌, subst, arith, sym}
-use Rattle.wit_syntax.proofs.Common.{Fault, Param, ScopeName, SourceFunction, SourceParam, TypeDef, at_back, cases_lt, lower_case, map, option_eq, option_map, param_twice, slice_get, slice_get-map, take-append-add, take-map, written_param, ParseError, option_or}
-use Rattle.wit_first.specs.First.{repeat_of, IsFirstRepeat, Reports, first_after}
-use Rattle.wit_first.specs.AttributeFaults.{metadata_fault}
-use Rattle.wit_first.specs.FunctionFaults.{given_fault}
-use Rattle.wit_first.proofs.Bridge.{or_none_both}
-use Rattle.wit_first.proofs.First.{none_both, reports_back, reports_prefix}
-use Rattle.wit_first.proofs.Repeats.{after_kept, repeat_after, repeat_found, unrepeated}
-use Rattle.wit_walk.specs.Functions.{function_fault, lost_word, param_fault, return_fault}
-use Rattle.wit_arena.proofs.Common.{Env}
+use Rattle.wit_arena.proofs.Common.{Env, Fault, ParseError, ScopeName, SourceFunction, SourceParam, TypeDef, cases_lt, lower_case, map, option_eq, option_or, param_twice, slice_get, written_param, «Type» as Written}
+use Rattle.wit_walk.proofs.Common.{IsFirstRepeat, Param, Reports, after_kept, first_after, function_fault, given_fault, lost_word, metadata_fault, none_both, or_none_both, param_fault, repeat_after, repeat_found, repeat_of, reports_back, reports_prefix, return_fault, unrepeated}
 use Rattle.wit_entries.specs.Requiring.{IsExtended}
-use Rattle.wit_entries.proofs.Faults.{named_extended}
-use Rattle.wit_type_tree.specs.declared.types.«Type».{«Type» as Written}
-use Rattle.wit_signatures.specs.SignatureFaults.{signed_fault, params_fault}
+use Rattle.wit_entries.proofs.Faults.{written_extended}
+use Rattle.wit_walk.proofs.FunctionFaults.{param_at, params_before}
+use Rattle.wit_entries.specs.EntryFaults.{written_fault}
+use Rattle.wit_signatures.specs.FunctionsOfScope.{params_fault}
 
 -- a parameter by its name, and the fault of a later one
 abbrev key : SourceParam → List ℕ
@@ -20,13 +14,6 @@ key q = lower_case q.name
 
 abbrev as_stated : SourceParam → Fault
 as_stated q = param_twice q.name q.span
-
--- the parameters before a written one
-params_before : (given : List SourceParam) (ps : List Param) (i : ℕ) → take (length given + i) (given ++ map written_param ps) ≡ given ++ map written_param (take i ps)
-params_before given ps i = take-append-add given (map written_param ps) i ∙ ap (λ (l : List SourceParam). given ++ l) (take-map written_param i ps)
-
-param_at : (given : List SourceParam) (ps : List Param) (i : ℕ) (p : Param) → slice_get ps i ≡ Some p → slice_get (given ++ map written_param ps) (length given + i) ≡ Some (written_param p)
-param_at given ps i p at = at_back given (map written_param ps) i (written_param p) (slice_get-map written_param ps i ∙ ap (option_map written_param) at)
 
 -- one that is the first repeated one, and one before that
 pub param_repeated : (given : List SourceParam) (ps : List Param) (found : Option ℕ) (i : ℕ) (p : Param) → IsFirstRepeat key (given ++ map written_param ps) found → found ≡ Some (length given + i) → slice_get ps i ≡ Some p → repeat_of key as_stated (given ++ map written_param (take i ps)) (written_param p) ≡ Some (param_twice p.name.name.now p.name.span)
@@ -60,10 +47,10 @@ pub repeat_lent : (fn : SourceFunction) (ps : List Param) (found : Option ℕ) �
 repeat_lent fn ps found same first = subst (λ (l : List Param). IsFirstRepeat key (fn.given ++ map written_param l) found) (sym same) first
 
 -- parameters without a fault, in a grown arena
-pub params_extended : (env : Env) (old new : List TypeDef) (fns : List SourceFunction) (fn : SourceFunction) (ps : List Param) → IsExtended old new → first_after (param_fault (signed_fault env old fns) fn) [] ps ≡ None → first_after (param_fault (signed_fault env new fns) fn) [] ps ≡ None
-params_extended env old new fns fn ps g none = after_kept (param_fault (signed_fault env old fns) fn) (param_fault (signed_fault env new fns) fn) (λ before p own. (
-    let both = or_none_both (repeat_of key as_stated (fn.given ++ map written_param before) (written_param p)) (signed_fault env old fns p.ty) own in
-    none_both both.0 (named_extended (lost_word fns) env old new p.ty g both.1))) [] ps none
+pub params_extended : (env : Env) (old new : List TypeDef) (fns : List SourceFunction) (fn : SourceFunction) (ps : List Param) → IsExtended old new → first_after (param_fault (written_fault (lost_word fns) env old) fn) [] ps ≡ None → first_after (param_fault (written_fault (lost_word fns) env new) fn) [] ps ≡ None
+params_extended env old new fns fn ps g none = after_kept (param_fault (written_fault (lost_word fns) env old) fn) (param_fault (written_fault (lost_word fns) env new) fn) (λ before p own. (
+    let both = or_none_both (repeat_of key as_stated (fn.given ++ map written_param before) (written_param p)) (written_fault (lost_word fns) env old p.ty) own in
+    none_both both.0 (written_extended (lost_word fns) env old new p.ty g both.1))) [] ps none
 
 -- the first fault of a function: of what it is given, of its parameters, of what it gives, or none
 module _ (wrong : Written → Option Fault) (xs : List ScopeName) (fn : SourceFunction) (meta : metadata_fault fn.attributes ≡ None) where

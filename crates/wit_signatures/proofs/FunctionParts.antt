@@ -1,14 +1,12 @@
 -- Parameters and results over their types, one after the other.
 use Rattle.std.proofs.Common.{◌≡◌, ◌≤◌, ℕ, zero, suc, List, [], ◌∷◌, ◌++◌, length, map, Option, Some, None, inl, inr, refl, sym, ap, ◌∙◌, subst, arith, append_assoc, length-append}
-use Rattle.wit_syntax.proofs.Common.{Address, Id, Param as WrittenParam, ResourceFunc, Shape, SourceParam, Span, TypeDef, Unknown, Word, at_split, map-append, resource_function, self_param, slice_get, slice_get_within, written_param}
+use Rattle.wit_arena.proofs.Common.{Address, AreShapes, Env, Id, IsInterned, Param, ResourceFunc, SaysParam, Shape, SourceParam, Span, TypeDef, Unknown, Word, at_split, map-append, resource_function, self_param, shapes_append, shapes_none, shapes_one, slice_get, slice_get_within, written_param, «Type» as Written}
+use Rattle.wit_walk.proofs.Common.{Param as WrittenParam}
 use Rattle.wit_type_tree.specs.declared.types.ResourceFunc.TheVariants as resource
-use Rattle.wit_type_tree.specs.declared.types.«Type».{«Type» as Written}
 use Rattle.wit_types.specs.declared.types.«Type».{«Type» as Ty}
 use Rattle.wit_types.specs.declared.types.«Type».TheVariants as type
 use Rattle.wit_types.specs.declared.types.TypeDefKind.TheVariants as kind
 use Rattle.wit_types.specs.declared.types.Handle.TheVariants as handle
-use Rattle.wit_arena.proofs.Common.{Env, IsInterned, Param, shapes_append, shapes_none, shapes_one}
-use Rattle.wit_arena.specs.Adding.{AreShapes, SaysParam}
 use Rattle.wit_rules.specs.declared.borrowed.BorrowedFunction.{BorrowedFunction}
 use Rattle.wit_rules.specs.declared.borrowed.BorrowedFunction.TheVariants as borrowed
 use Rattle.wit_rules.specs.BorrowedFunctions.{function_view, given_of}

@@ -1,11 +1,11 @@
 -- The names of functions: each is mangled, and it is a setter's exactly where the function is one.
 use Rattle.std.proofs.Common.{◌≡◌, ℕ, ◌==◌, ◌++◌, ◌||◌, List, [], ◌∷◌, Some, None, true, false, refl, sym, subst, append_assoc}
-use Rattle.wit_syntax.proofs.Common.{FuncForm, Id, IsTrue, Option, ResourceFunc, accessor, and_parts, codes, fragments, getter_of, is_ascii_alphabetic, is_dotted, is_fragment, is_label, is_mangled, is_setter, list_all, ne_eqb, passes, resource_function, rest_after, starts_with_letter, option_map_or}
-use Rattle.wit_type_tree.specs.declared.types.FuncForm.TheVariants.{Plain, Async, Getter, Setter}
+use Rattle.wit_arena.proofs.Common.{Async, FuncForm, Getter, Id, IsTrue, Option, ResourceFunc, accessor, and_parts, codes, fragments, getter_of, is_ascii_alphabetic, is_dotted, is_fragment, is_label, is_mangled, is_setter, list_all, ne_eqb, option_map_or, passes, resource_function, rest_after, starts_with_letter}
+use Rattle.wit_type_tree.specs.declared.types.FuncForm.TheVariants.{Plain, Setter}
 use Rattle.wit_type_tree.specs.declared.types.ResourceFunc.TheVariants as resource
 use Rattle.wit_names.proofs.Labels.{is_mangled-label}
 use Rattle.wit_names.proofs.MadeNames.{is_dotted-labels, is_mangled-get, is_mangled-set, is_mangled-constructor, is_mangled-method, is_mangled-method_get, is_mangled-method_set, is_mangled-static, is_mangled-static_get, is_mangled-static_set, is_setter-set, is_setter-method, is_setter-static}
-use Rattle.wit_walk.specs.Setters.{is_setter as form_sets}
+use Rattle.wit_walk.proofs.Common.{is_setter as form_sets}
 use Rattle.wit_rules.specs.declared.borrowed.BorrowedFunction.{BorrowedFunction}
 use Rattle.wit_rules.specs.declared.borrowed.BorrowedFunction.TheVariants.{Free, Of, Across}
 use Rattle.wit_rules.specs.BorrowedFunctions.{function_view}

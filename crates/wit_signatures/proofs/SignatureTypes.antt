@@ -1,8 +1,7 @@
 -- The types that are written in a function, as the types in its signature.
 use Rattle.std.proofs.Common.{◌≡◌, Option, Some, ap}
-use Rattle.wit_syntax.proofs.Common.{Id, ResourceFunc, SourceFunction, Word, option_map, option_map_or, resource_function, shape_of}
+use Rattle.wit_arena.proofs.Common.{Id, ResourceFunc, SourceFunction, Word, option_map, option_map_or, resource_function, shape_of, «Type» as Written}
 use Rattle.wit_type_tree.specs.declared.types.ResourceFunc.TheVariants as resource
-use Rattle.wit_type_tree.specs.declared.types.«Type».{«Type» as Written}
 use Rattle.wit_rules.specs.declared.borrowed.BorrowedFunction.{BorrowedFunction}
 use Rattle.wit_rules.specs.declared.borrowed.BorrowedFunction.TheVariants as borrowed
 use Rattle.wit_rules.specs.BorrowedFunctions.{function_view}

@@ -1,8 +1,6 @@
 -- A function over its types, from its parameters and its result.
 use Rattle.std.proofs.Common.{◌≡◌, ◌<◌, ℕ, List, [], ◌∷◌, length, map, Some, sym, ap, ◌∙◌, subst}
-use Rattle.wit_syntax.proofs.Common.{Address, AreMetadata, SourceFunction, SourceParam, TypeDef, all_params, docs_of, get_or, metadata, option_map, option_to_list, same_Some, slice_get, slice_get-get_or, slice_get-map}
-use Rattle.wit_arena.proofs.Common.{AddsFunctions, Function, Names, Param, env_of, function_one, shapes_append}
-use Rattle.wit_arena.specs.Adding.{IsKindIn}
+use Rattle.wit_arena.proofs.Common.{Address, AddsFunctions, AreMetadata, Function, IsKindIn, Names, Param, SourceFunction, SourceParam, TypeDef, all_params, docs_of, env_of, function_one, get_or, metadata, option_map, option_to_list, same_Some, shapes_append, slice_get, slice_get-get_or, slice_get-map}
 use Rattle.wit_rules.specs.declared.borrowed.BorrowedFunction.{BorrowedFunction}
 use Rattle.wit_rules.specs.BorrowedFunctions.{function_view}
 use Rattle.wit_rules.specs.Signatures.{AreParamsOver, IsResultOver}

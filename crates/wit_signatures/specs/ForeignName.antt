@@ -1,9 +1,7 @@
 -- The names of a scope, of which no two on one side may have one key.
 use Rattle.std.specs.Prelude.{ℕ, List}
 use Rattle.wit_names.specs.Folded.{folded_key}
-use Rattle.wit_type_tree.specs.declared.leaves.Id.{Id}
-use Rattle.wit_functions.specs.declared.function.Function.{Function}
-use Rattle.wit_syntax.specs.Function.{SourceFunction}
+use Rattle.wit_arena.specs.Common.{Function, Id, SourceFunction}
 use Rattle.wit_refusals.specs.NameScopes.{Name}
 
 abbrev pub name_of_id : Id → Name

@@ -1,36 +1,24 @@
 -- What a function of a scope adds to the arena, and what is found of it.
 use Rattle.std.specs.Prelude.{◌≡◌, ◌+◌, ◌∷◌, [], ℕ, IsTrue, List, Option, Result, Some, map, slice_get, take}
-use Rattle.std.specs.Option.{option_to_list}
-use Rattle.wit_names.specs.Mangled.{is_mangled}
-use Rattle.wit_type_tree.specs.declared.error.ParseError.{ParseError}
-use Rattle.wit_type_tree.specs.declared.types.Param.{Param as WrittenParam}
+use Rattle.wit_arena.specs.Common.{Address, AddsFunctions, Fault, Function, Param, ParseError, Required, ScopeName, SourceFunction, TypeDef, Unknown, all_handles, all_params, env_of, option_to_list, written_types, «Type» as Ty}
 use Rattle.wit_type_tree.specs.declared.types.«Type».{«Type» as Written}
-use Rattle.wit_types.specs.declared.stability.Stability.TheVariants.{Unknown}
-use Rattle.wit_types.specs.declared.types.«Type».{«Type» as Ty}
-use Rattle.wit_types.specs.declared.types.TypeDef.{TypeDef}
-use Rattle.wit_functions.specs.declared.function.Function.{Function}
-use Rattle.wit_functions.specs.declared.function.Param.{Param}
-use Rattle.wit_syntax.specs.Address.{Address}
-use Rattle.wit_syntax.specs.Fault.{Fault}
-use Rattle.wit_syntax.specs.Function.{SourceFunction, all_params, written_types}
-use Rattle.wit_syntax.specs.Shape.{all_handles}
-use Rattle.wit_syntax.specs.Source.{ScopeName}
-use Rattle.wit_first.specs.First.{Finds}
-use Rattle.wit_walk.specs.Functions.{function_fault, return_fault}
-use Rattle.wit_arena.specs.Resolving.{AddsFunctions, Required, env_of}
+use Rattle.wit_names.specs.Mangled.{is_mangled}
+use Rattle.wit_type_tree.specs.declared.types.Param.{Param as WrittenParam}
+use Rattle.wit_first.specs.First.{Finds, first_after}
+use Rattle.wit_walk.specs.Functions.{function_fault, lost_word, param_fault, return_fault}
 use Rattle.wit_entries.specs.Requiring.{IsExtended, Requires, Resolves}
 use Rattle.wit_entries.specs.ResolvedForms.{AreTypes}
 use Rattle.wit_rules.specs.Signatures.{AreParamsOver, IsResultOver, IsScopeOf, functions_view}
 use Rattle.wit_rules.specs.declared.function_scope.FunctionScope.{FunctionScope}
-use Rattle.wit_signatures.specs.SignatureFaults.{params_fault, signed_fault}
-
--- the function at a place
-abbrev pub IsAt : FunctionScope → ℕ → SourceFunction → Type 0
-IsAt s place fn = slice_get (functions_view s) place ≡ Some fn
+use Rattle.wit_entries.specs.EntryFaults.{written_fault}
 
 -- the fault of a type in its signature
 abbrev pub fault_at : FunctionScope → List TypeDef → ℕ → Written → Option Fault
-fault_at s es place = signed_fault (env_of s.names.now) es (take (place + 1) (functions_view s))
+fault_at s es place = written_fault (lost_word (take (place + 1) (functions_view s))) (env_of s.names.now) es
+
+-- and of parameters
+abbrev pub params_fault : (Written → Option Fault) → SourceFunction → Option Fault
+params_fault wrong fn = first_after (param_fault wrong fn) [] fn.func.params.items
 
 -- a call resolves a type in it, and all parameters
 abbrev pub ResolvesSigned : FunctionScope → ℕ → (old new : List TypeDef) → (before after : List Required) → Written → Result Ty ParseError → Type 0
@@ -49,11 +37,11 @@ pub record FindsReturn {T : Type 0} (s : FunctionScope) (place : ℕ) (old new :
 
 -- this is the function at a place, and what is found of that
 pub record AddsAt (s : FunctionScope) (place : ℕ) (old new : List TypeDef) (before after : List Required) (f : Function) : Type 0 where
-  pub adds : (fn : SourceFunction) → IsAt s place fn → (at : Address) → AddsFunctions old new at s.names.now (fn ∷ []) (f ∷ [])
-  pub named : (fn : SourceFunction) → IsAt s place fn → (f.name ≡ fn.name) × (f.span ≡ fn.span)
+  pub adds : (fn : SourceFunction) → slice_get (functions_view s) place ≡ Some fn → (at : Address) → AddsFunctions old new at s.names.now (fn ∷ []) (f ∷ [])
+  pub named : (fn : SourceFunction) → slice_get (functions_view s) place ≡ Some fn → (f.name ≡ fn.name) × (f.span ≡ fn.span)
   pub mangled : IsTrue (is_mangled f.name)
-  pub handled : (fn : SourceFunction) → IsAt s place fn → Requires (env_of s.names.now) new (all_handles (written_types fn)) before after
+  pub handled : (fn : SourceFunction) → slice_get (functions_view s) place ≡ Some fn → Requires (env_of s.names.now) new (all_handles (written_types fn)) before after
 
 pub record FindsFunction {T : Type 0} (s : FunctionScope) (place : ℕ) (old new : List TypeDef) (r : Result T ParseError) : Type 0 where
   pub extended : IsExtended old new
-  pub first : (xs : List ScopeName) → IsScopeOf s xs → (fn : SourceFunction) → IsAt s place fn → Finds (function_fault (fault_at s new place) xs fn) r
+  pub first : (xs : List ScopeName) → IsScopeOf s xs → (fn : SourceFunction) → slice_get (functions_view s) place ≡ Some fn → Finds (function_fault (fault_at s new place) xs fn) r

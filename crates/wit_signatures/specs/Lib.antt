@@ -1,3 +1,2 @@
 pub mod ForeignName
-pub mod SignatureFaults
 pub mod FunctionsOfScope

@@ -1,6 +1,5 @@
 use Rattle.std.proofs.Common.{◌≡◌, map, take}
-use Rattle.wit_type_tree.specs.declared.types.EnumCase.{EnumCase as WrittenEnumCase}
-use Rattle.wit_syntax.proofs.Common.{member}
+use Rattle.wit_arena.proofs.Common.{EnumCase as WrittenEnumCase, member}
 use Rattle.wit_definitions.specs.Bodies.{enum_case_member}
 use Rattle.wit_definitions.proofs.bodies.enum_cases.Given as goal
 

@@ -1,6 +1,5 @@
 use Rattle.std.proofs.Common.{map, ap, ◌∙◌}
-use Rattle.wit_syntax.proofs.Common.{member, take_all}
-use Rattle.wit_type_tree.specs.declared.types.Flag.{Flag as WrittenFlag}
+use Rattle.wit_arena.proofs.Common.{Flag as WrittenFlag, member, take_all}
 use Rattle.wit_first.proofs.Pushed.{pushed_next}
 use Rattle.wit_definitions.specs.Bodies.{flag_member}
 use Rattle.wit_definitions.proofs.bodies.flags.Goals as goal

@@ -1,10 +1,9 @@
 use Rattle.std.proofs.Common.{◌≡◌, [], ◌∷◌, ◌++◌, ◌+◌, Some, take, sym, ap, ◌∙◌, refl}
-use Rattle.wit_syntax.proofs.Common.{Case as WrittenCase, case_types, err_from_is_err_and, filter_map_more, member, option_to_list, slice_get, slice_get-get_or, take_all, take_more, filter_map, is_some}
+use Rattle.wit_arena.proofs.Common.{Case as WrittenCase, case_types, env_of, err_from_is_err_and, filter_map, filter_map_more, is_some, member, option_to_list, slice_get, slice_get-get_or, take_all, take_more}
 use Rattle.wit_types.specs.declared.types.Case.{Case}
-use Rattle.wit_arena.proofs.Common.{env_of}
 use Rattle.wit_first.proofs.First.{reports-in, reports_same}
 use Rattle.wit_first.proofs.Pushed.{pushed_next}
-use Rattle.wit_entries.specs.EntryFaults.{types_fault}
+use Rattle.wit_entries.specs.EntryFaults.{lost_in, types_fault}
 use Rattle.wit_entries.proofs.Faults.{types_extended}
 use Rattle.wit_entries.proofs.Requiring.{extended_then}
 use Rattle.wit_entries.proofs.Resolves.{memory_stopped, types_more, types_none}
@@ -13,7 +12,7 @@ use Rattle.wit_definitions.proofs.Payloads.{cases_first}
 use Rattle.wit_definitions.proofs.bodies.resolve_cases.Goals as goal
 
 pub loop-written-init : goal.loop-written-init
-loop-written-init c = rw c.in_ok-resolved.ensures.items (record { members = refl; types = types_none c.args.names.now c.args.given.now c.args.types.now c.args.required.now.items })
+loop-written-init c = rw c.in_ok-resolved.ensures.items (record { members = refl; types = types_none c.args.scope c.args.given.now c.args.types.now c.args.required.now.items })
 
 pub loop-written-preserved : goal.loop-written-preserved
 loop-written-preserved c =
@@ -28,7 +27,7 @@ loop-written-preserved c =
     let types : filter_map (λ (x : Case). x.ty) c.push.new.self.items ≡ filter_map (λ (x : Case). x.ty) out ++ option_to_list own.ty = ap (filter_map (λ (x : Case). x.ty)) c.in_ok-push.ensures.items ∙ filter_map_more (λ (x : Case). x.ty) out own in
     record {
       members = pushed_next case_member (λ (x : WrittenCase). (member x.docs x.name, is_some x.ty)) out _ cs i case _ c.loop-written-test.true c.written-item.is c.loop-written.invariant.members c.in_ok-push.ensures.items c.in_ok-case.ensures.member;
-      types = rw (written, types) (types_more c.args.names.now c.args.given.now (case_types (take i cs)) (option_to_list case.ty) (filter_map kept out) (option_to_list own.ty) c.loop-written.invariant.types c.in_ok-case.ensures.resolves);
+      types = rw (written, types) (types_more c.args.scope c.args.given.now (case_types (take i cs)) (option_to_list case.ty) (filter_map kept out) (option_to_list own.ty) c.loop-written.invariant.types c.in_ok-case.ensures.resolves);
     }
 
 pub returns-clause-members : goal.returns-clause-members
@@ -44,17 +43,18 @@ returns-clause-resolves c =
 pub returns-in_err-case-clause-resolves : goal.returns-in_err-case-clause-resolves
 returns-in_err-case-clause-resolves c =
     let p = err_from_is_err_and c.from_residual-in_err-case.result c.from_residual-in_err-case.ensures.1 in
-    let env = env_of c.args.names.now in
+    let lost = lost_in c.args.scope.functions in
+    let env = env_of c.args.scope.names.now in
     let new = c.resolve_case.new.types in
     let cs = c.args.cases.now in
     let i = c.loop-written.written-index in
     let case = c.written-item.result in
     let more = c.in_err-case.ensures.resolves.extended in
     let at : slice_get cs i ≡ Some case = slice_get-get_or cs i case c.loop-written-test.true ∙ ap Some (sym c.written-item.is) in
-    let none = types_extended env _ new (case_types (take i cs)) more c.loop-written.invariant.types.first in
+    let none = types_extended lost env _ new (case_types (take i cs)) more c.loop-written.invariant.types.first in
     rw (p.1, p.2) (record {
       extended = extended_then _ _ _ c.loop-written.invariant.types.extended more;
-      first = reports_same (sym (cases_first env new cs)) (reports-in (λ (x : WrittenCase). types_fault env new (option_to_list x.ty)) cs i case _ at (sym (cases_first env new (take i cs)) ∙ none) c.in_err-case.ensures.resolves.first);
+      first = reports_same (sym (cases_first lost env new cs)) (reports-in (λ (x : WrittenCase). types_fault lost env new (option_to_list x.ty)) cs i case _ at (sym (cases_first lost env new (take i cs)) ∙ none) c.in_err-case.ensures.resolves.first);
     })
 
 pub returns-in_err-push-clause-resolves : goal.returns-in_err-push-clause-resolves

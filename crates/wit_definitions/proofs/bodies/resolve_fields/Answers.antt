@@ -1,10 +1,9 @@
 use Rattle.std.proofs.Common.{◌≡◌, [], ◌∷◌, ◌++◌, ◌+◌, Some, None, take, sym, ap, ◌∙◌, map, refl}
-use Rattle.wit_syntax.proofs.Common.{Field, err_from_is_err_and, field_types, map-append, member, option_map, slice_get, slice_get-get_or, slice_get-map, take-map, take_all, take_more}
-use Rattle.wit_type_tree.specs.declared.types.Field.{Field as WrittenField}
-use Rattle.wit_arena.proofs.Common.{env_of}
+use Rattle.wit_types.specs.declared.types.Field.{Field}
+use Rattle.wit_arena.proofs.Common.{Field as WrittenField, env_of, err_from_is_err_and, field_types, map-append, member, option_map, slice_get, slice_get-get_or, slice_get-map, take-map, take_all, take_more}
 use Rattle.wit_first.proofs.First.{reports-in, or_none, reports_same}
 use Rattle.wit_first.proofs.Pushed.{pushed_next}
-use Rattle.wit_entries.specs.EntryFaults.{types_fault, written_fault}
+use Rattle.wit_entries.specs.EntryFaults.{lost_in, types_fault, written_fault}
 use Rattle.wit_entries.proofs.Faults.{types_extended}
 use Rattle.wit_entries.proofs.Requiring.{extended_then}
 use Rattle.wit_entries.proofs.Resolves.{memory_stopped, types_more, types_none}
@@ -12,7 +11,7 @@ use Rattle.wit_definitions.specs.Bodies.{field_member}
 use Rattle.wit_definitions.proofs.bodies.resolve_fields.Goals as goal
 
 pub loop-written-init : goal.loop-written-init
-loop-written-init c = rw c.in_ok-resolved.ensures.items (record { members = refl; types = types_none c.args.names.now c.args.given.now c.args.types.now c.args.required.now.items })
+loop-written-init c = rw c.in_ok-resolved.ensures.items (record { members = refl; types = types_none c.args.scope c.args.given.now c.args.types.now c.args.required.now.items })
 
 pub loop-written-preserved : goal.loop-written-preserved
 loop-written-preserved c =
@@ -27,7 +26,7 @@ loop-written-preserved c =
     let types : map type_of c.push.new.self.items ≡ map type_of out ++ c.in_ok-ty.ty ∷ [] = ap (map type_of) c.in_ok-push.ensures.items ∙ map-append type_of out (own ∷ []) ∙ ap (λ t. map type_of out ++ t ∷ []) c.in_ok-field.ensures.1 in
     record {
       members = pushed_next field_member (λ (x : WrittenField). member x.docs x.name) out _ fs i f _ c.loop-written-test.true c.written-item.is c.loop-written.invariant.members c.in_ok-push.ensures.items c.in_ok-field.ensures.0;
-      types = rw (written, types) (types_more c.args.names.now c.args.given.now (field_types (take i fs)) (f.ty ∷ []) (map type_of out) (c.in_ok-ty.ty ∷ []) c.loop-written.invariant.types c.in_ok-ty.ensures);
+      types = rw (written, types) (types_more c.args.scope c.args.given.now (field_types (take i fs)) (f.ty ∷ []) (map type_of out) (c.in_ok-ty.ty ∷ []) c.loop-written.invariant.types c.in_ok-ty.ensures);
     }
 
 pub returns-clause-members : goal.returns-clause-members
@@ -43,16 +42,17 @@ returns-clause-resolves c =
 pub returns-in_err-ty-clause-resolves : goal.returns-in_err-ty-clause-resolves
 returns-in_err-ty-clause-resolves c =
     let p = err_from_is_err_and c.from_residual-in_err-ty.result c.from_residual-in_err-ty.ensures.1 in
-    let env = env_of c.args.names.now in
+    let lost = lost_in c.args.scope.functions in
+    let env = env_of c.args.scope.names.now in
     let new = c.resolve_type.new.types in
     let fs = c.args.fields.now in
     let i = c.loop-written.written-index in
     let f = c.written-item.result in
     let at : slice_get (field_types fs) i ≡ Some f.ty = slice_get-map (λ (x : WrittenField). x.ty) fs i ∙ ap (option_map (λ (x : WrittenField). x.ty)) (slice_get-get_or fs i f c.loop-written-test.true ∙ ap Some (sym c.written-item.is)) in
-    let none : types_fault env new (take i (field_types fs)) ≡ None = ap (types_fault env new) (take-map (λ (x : WrittenField). x.ty) i fs) ∙ types_extended env _ new (field_types (take i fs)) c.in_err-ty.ensures.extended c.loop-written.invariant.types.first in
+    let none : types_fault lost env new (take i (field_types fs)) ≡ None = ap (types_fault lost env new) (take-map (λ (x : WrittenField). x.ty) i fs) ∙ types_extended lost env _ new (field_types (take i fs)) c.in_err-ty.ensures.extended c.loop-written.invariant.types.first in
     rw (p.1, p.2) (record {
       extended = extended_then _ _ _ c.loop-written.invariant.types.extended c.in_err-ty.ensures.extended;
-      first = reports-in (written_fault env new) (field_types fs) i f.ty _ at none (reports_same (or_none (written_fault env new f.ty)) c.in_err-ty.ensures.first);
+      first = reports-in (written_fault lost env new) (field_types fs) i f.ty _ at none (reports_same (or_none (written_fault lost env new f.ty)) c.in_err-ty.ensures.first);
     })
 
 pub returns-in_err-field-clause-resolves : goal.returns-in_err-field-clause-resolves

@@ -1,10 +1,10 @@
 use Rattle.std.proofs.Common.{refl, ◌∙◌, rules}
-use Rattle.wit_syntax.proofs.Common.{Word, err_from_is_err_and}
-use Rattle.wit_arena.proofs.Common.{env_of}
+use Rattle.wit_arena.proofs.Common.{Word, env_of, err_from_is_err_and}
 use Rattle.wit_first.proofs.First.{or_none}
 use Rattle.wit_entries.proofs.Reading.{alone, plain_kind, resolved_word}
 use Rattle.wit_entries.proofs.Requiring.{requires_one}
 use Rattle.wit_entries.proofs.Resolves.{one_stopped}
+use Rattle.wit_entries.specs.EntryFaults.{lost_in}
 use Rattle.wit_definitions.proofs.bodies.resolve_plain.Goals as goal
 
 pub returns-in-Own : goal.returns-in-Own
@@ -14,7 +14,7 @@ returns-in-Own c =
     let id = c.in-Own.id in
     let it = c.in_ok-resource.ensures in
     rw c.in-Own.is (record {
-      made = record { form = refl; parts = alone given (Word id) (resolved_word es (env_of c.args.names.now) given id c.in_ok-resource.resource it.made) };
+      made = record { form = refl; parts = alone given (Word id) (resolved_word es (env_of c.args.scope.names.now) given id c.in_ok-resource.resource it.made) };
       handled = it.handled;
       extended = it.extended;
       first = or_none _ ∙ it.first;
@@ -23,11 +23,11 @@ returns-in-Own c =
 pub returns-in_err-reading : goal.returns-in_err-reading
 returns-in_err-reading c =
     let p = err_from_is_err_and c.from_residual-in_err-reading.result c.from_residual-in_err-reading.ensures.1 in
-    rw (p.1, p.2) (one_stopped (env_of c.args.names.now) c.args.ty.now c.in_err-reading.ensures)
+    rw (p.1, p.2) (one_stopped (lost_in c.args.scope.functions) (env_of c.args.scope.names.now) c.args.ty.now c.in_err-reading.ensures)
 
 pub returns : goal.returns
 returns c =
-    let env = env_of c.args.names.now in
+    let env = env_of c.args.scope.names.now in
     let new = c.read.new.types in
     let t = c.args.ty.now in
     let it = c.in_ok-reading.ensures in

@@ -1,8 +1,7 @@
 use Rattle.std.proofs.Common.{◌≡◌, List, None, subst}
-use Rattle.wit_syntax.proofs.Common.{Attribute, all_handles, body_types}
+use Rattle.wit_arena.proofs.Common.{Attribute, all_handles, body_types, env_of, missing_type_at}
 use Rattle.wit_first.specs.AttributeFaults.{metadata_fault}
 use Rattle.wit_first.proofs.First.{none_both}
-use Rattle.wit_arena.proofs.Common.{env_of}
 use Rattle.wit_entries.proofs.Faults.{body_extended}
 use Rattle.wit_entries.proofs.Noted.{defines_noted}
 use Rattle.wit_entries.proofs.Requiring.{extended_then, requires_extended}
@@ -25,5 +24,5 @@ returns c =
       );
       handled = rw added.required (requires_extended env mid new (all_handles (body_types d.body)) old.required.items c.resolve_body.new.required.items added.extended kind.handled);
       extended = extended_then c.args.types.now mid new kind.extended added.extended;
-      first = none_both (subst (λ (l : List Attribute). metadata_fault l ≡ None) c.deref.ensures.value c.in_ok-metadata.ensures.first) (body_extended env mid new d.body added.extended kind.first);
+      first = none_both (subst (λ (l : List Attribute). metadata_fault l ≡ None) c.deref.ensures.value c.in_ok-metadata.ensures.first) (body_extended missing_type_at env mid new d.body added.extended kind.first);
     }

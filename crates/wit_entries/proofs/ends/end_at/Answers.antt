@@ -1,5 +1,5 @@
 use Rattle.std.proofs.Common.{◌≡◌, Some, None, sym, ap, ◌∙◌}
-use Rattle.wit_syntax.proofs.Common.{option_copied, slice_get}
+use Rattle.wit_arena.proofs.Common.{option_copied, slice_get}
 use Rattle.wit_rules.proofs.FunctionRules.{got_at}
 use Rattle.wit_entries.proofs.EndsOfEntries.{past_other}
 use Rattle.wit_entries.proofs.ends.end_at.Goals as goal

@@ -1,6 +1,5 @@
 use Rattle.std.proofs.Common.{ℕ, ◌<◌}
-use Rattle.wit_syntax.proofs.Common.{TypeDef}
-use Rattle.wit_arena.proofs.Common.{At, IsUnnamedOf}
+use Rattle.wit_arena.proofs.Common.{At, IsUnnamedOf, TypeDef}
 use Rattle.wit_entries.proofs.entries.find_unnamed.Given as goal
 
 abbrev pub invariant-loop-place : goal.invariant-loop-place

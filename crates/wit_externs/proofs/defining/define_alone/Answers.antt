@@ -1,5 +1,5 @@
 use Rattle.std.proofs.Common.{◌≡◌, ◌∷◌, [], List, ℕ, ap, sym, ◌∙◌, subst}
-use Rattle.wit_syntax.proofs.Common.{SideFunction, WorldSide, role_side}
+use Rattle.wit_arena.proofs.Common.{SideFunction, WorldSide, role_side}
 use Rattle.wit_walk.proofs.Common.{Finds}
 use Rattle.wit_refusals.specs.NameScopes.{Name}
 use Rattle.wit_sides.specs.SideNames.{defined_on}

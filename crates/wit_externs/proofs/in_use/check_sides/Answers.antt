@@ -1,5 +1,5 @@
 use Rattle.std.proofs.Common.{◌≡◌, ℕ, List, Result, Ok, Err, map, subst, sym, ◌∙◌}
-use Rattle.wit_syntax.proofs.Common.{Exported, Id, IfErr, Imported, OnOk, ParseError, Refused, SideItem, WorldSide, err_from_is_err_and, flat_map, item_function, on_side}
+use Rattle.wit_arena.proofs.Common.{Exported, Id, IfErr, Imported, OnOk, ParseError, Refused, SideItem, WorldSide, err_from_is_err_and, flat_map, item_function, on_side}
 use Rattle.wit_walk.proofs.Common.{Finds, finds_back, none_both, reports_prefix}
 use Rattle.wit_rules.specs.declared.borrowed.BorrowedFunction.{BorrowedFunction}
 use Rattle.wit_refusals.specs.NameScopes.{Name, IsFirstLoneSetter, IsLoneSetter}

@@ -1,5 +1,5 @@
 use Rattle.std.proofs.Common.{◌≡◌, ◌∷◌, [], ◌++◌, List, length, ◌+◌, ◌<◌, Some, map, take, ap, sym, ◌∙◌, arith}
-use Rattle.wit_syntax.proofs.Common.{Id, Imported, err_from_is_err_and, length-map, map-append, read_map, slice_get, take-map, take_all, take_more, take_next}
+use Rattle.wit_arena.proofs.Common.{Id, Imported, err_from_is_err_and, length-map, map-append, read_map, slice_get, take-map, take_all, take_more, take_next}
 use Rattle.wit_walk.proofs.Common.{after-more, reports-after, reports_same}
 use Rattle.wit_sides.specs.SideNames.{defined_on}
 use Rattle.wit_refusals.specs.NameScopes.{Name}

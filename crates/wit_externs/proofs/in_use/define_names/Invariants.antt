@@ -1,5 +1,5 @@
 use Rattle.std.proofs.Common.{◌≡◌, ◌++◌, None, take, map}
-use Rattle.wit_syntax.proofs.Common.{AllDiffer, WorldSide, names_on}
+use Rattle.wit_arena.proofs.Common.{AllDiffer, WorldSide, names_on}
 use Rattle.wit_sides.specs.SideNames.{defined_on}
 use Rattle.wit_signatures.specs.ForeignName.{name_key, name_of_id}
 use Rattle.wit_externs.specs.AloneFaults.{defined_fault}

@@ -1,4 +1,4 @@
-use Rattle.wit_syntax.proofs.Common.{eq-eqb, eqb-true, is_some, is_some-lookup, keys-insert_entry, keys_of}
+use Rattle.wit_arena.proofs.Common.{eq-eqb, eqb-true, is_some, is_some-lookup, keys-insert_entry, keys_of}
 use Rattle.std.proofs.Common.{◌==◌, not, refl, ap, ◌∙◌}
 use Rattle.wit_externs.proofs.Linked.{inserted, turned}
 use Rattle.wit_externs.proofs.links.insert.Goals as goal

@@ -1,7 +1,6 @@
 use Rattle.std.proofs.Common.{◌≡◌, ◌∷◌, ◌++◌, ◌+◌, [], List, ℕ, Option, inl, inr, refl, sym, ap, ◌∙◌, map, take, arith}
-use Rattle.wit_syntax.proofs.Common.{Fault, SideFunction, SideItem, SourceFunction, WorldSide, err_from_is_err_and, items_on, length-map, option_or, role_side, slice_get_read, take-map, take_all}
+use Rattle.wit_arena.proofs.Common.{Fault, SideFunction, SideItem, SourceFunction, WorldSide, env_of, err_from_is_err_and, items_on, length-map, option_or, role_side, slice_get_read, take-map, take_all, take_next}
 use Rattle.wit_refusals.specs.NameScopes.{Name}
-use Rattle.wit_arena.proofs.Common.{env_of}
 use Rattle.wit_sides.specs.SideNames.{defined_on}
 use Rattle.wit_rules.specs.BorrowedFunctions.{function_view}
 use Rattle.wit_rules.specs.Signatures.{functions_view}
@@ -13,7 +12,6 @@ use Rattle.wit_externs.specs.Clash.{names_of_items}
 use Rattle.wit_externs.proofs.AloneFaults.{function_safe, function_same, safe_arena, safe_of}
 use Rattle.wit_externs.proofs.Clashing.{sides_more}
 use Rattle.wit_externs.proofs.DoneFunctions.{next_place, item_next, place_within, done_more, done_all, same_name}
-use Rattle.wit_externs.proofs.Steps.{used_next}
 use Rattle.wit_externs.proofs.scope_functions.resolve_functions.Goals as goal
 
 pub resolve_function-requires-clause-place : goal.resolve_function-requires-clause-place
@@ -110,7 +108,7 @@ loop-borrowed-preserved c =
     let says = c.in_ok-function.ensures in
     let made_one = c.in_ok-function.function in
     record {
-      done = done_more c.args.types.now c.loop-borrowed.types c.resolve_function.new.types c.args.scope (take i fns) (take (i + 1) fns) fn c.loop-borrowed.functions.items c.push_reserved.new.self.items made_one c.args.required.now.items c.loop-borrowed.required.items c.resolve_function.new.required.items (used_next fns i fn next.1) (rw c.reserve.ensures.items at c.push_reserved.ensures.items) (says.adds.adds fn next.2) (says.adds.named fn next.2) says.adds.mangled (says.adds.handled fn next.2) says.finds.extended was.done;
+      done = done_more c.args.types.now c.loop-borrowed.types c.resolve_function.new.types c.args.scope (take i fns) (take (i + 1) fns) fn c.loop-borrowed.functions.items c.push_reserved.new.self.items made_one c.args.required.now.items c.loop-borrowed.required.items c.resolve_function.new.required.items (take_next fns i fn next.1) (rw c.reserve.ensures.items at c.push_reserved.ensures.items) (says.adds.adds fn next.2) (says.adds.named fn next.2) says.adds.mangled (says.adds.handled fn next.2) says.finds.extended was.done;
       defined = λ s. sides_more s (defined_on s c.args.in_use.now) (defined_on s c.loop-borrowed.in_use) (defined_on s c.define_alone.new.in_use) xs i (SideFunction fn) item (was.defined s) (c.in_ok-define_alone.ensures.defined s);
       differ = λ s before. c.in_ok-define_alone.ensures.differ s (was.differ s before);
       first = λ zs scope_is handle safe. (
@@ -121,7 +119,7 @@ loop-borrowed-preserved c =
           let none = was.first zs scope_is handle (safe_arena env c.loop-borrowed.types new handle says.finds.extended safe) in
           let own = ap (λ (n : ℕ). function_fault (signed_by (words_in env) handle (take n fns ++ fn ∷ [])) zs fn) (sym next.0) ∙ function_safe env new handle zs safe fns c.len.result fn next.2 (says.finds.first zs scope_is fn next.2) in
           let named = ap (λ (l : List Name). again_fault l (name_of_function fn)) (names_before old (λ s. defined_on s c.loop-borrowed.in_use) fns i was.defined side) in
-          ap (alone_faults (words_in env) handle zs old) (used_next fns i fn next.1) ∙ after-more (alone_fault (words_in env) handle zs old) (take i fns) fn none ∙ none_both own (sym named ∙ c.in_ok-define_alone.ensures.first));
+          ap (alone_faults (words_in env) handle zs old) (take_next fns i fn next.1) ∙ after-more (alone_fault (words_in env) handle zs old) (take i fns) fn none ∙ none_both own (sym named ∙ c.in_ok-define_alone.ensures.first));
     }
 
 pub returns-clause-adds : goal.returns-clause-adds

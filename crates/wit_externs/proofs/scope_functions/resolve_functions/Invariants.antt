@@ -1,6 +1,5 @@
 use Rattle.std.proofs.Common.{◌≡◌, ◌++◌, List, Option, None, map, take}
-use Rattle.wit_syntax.proofs.Common.{AllDiffer, Fault, Id, ScopeName, SideFunction, WorldSide, items_on}
-use Rattle.wit_arena.proofs.Common.{env_of}
+use Rattle.wit_arena.proofs.Common.{AllDiffer, Fault, Id, ScopeName, SideFunction, WorldSide, env_of, items_on}
 use Rattle.wit_sides.specs.SideNames.{defined_on}
 use Rattle.wit_rules.specs.Signatures.{IsScopeOf, functions_view}
 use Rattle.wit_signatures.specs.ForeignName.{name_key}

@@ -1,5 +1,5 @@
 use Rattle.std.proofs.Common.{◌≡◌, None, Some, inl, inr, sym, ap, ◌∙◌}
-use Rattle.wit_syntax.proofs.Common.{option_copied, slice_get}
+use Rattle.wit_arena.proofs.Common.{option_copied, slice_get}
 use Rattle.wit_rules.proofs.FunctionRules.{got_at, no_param, second_param}
 use Rattle.wit_rules.proofs.function_rules.check_setter.Goals as goal
 

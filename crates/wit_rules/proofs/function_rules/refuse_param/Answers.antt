@@ -1,4 +1,4 @@
-use Rattle.wit_syntax.proofs.Common.{codes, defined_twice}
+use Rattle.wit_arena.proofs.Common.{codes, defined_twice}
 use Rattle.wit_rules.proofs.function_rules.refuse_param.Goals as goal
 
 pub returns : goal.returns

@@ -1,6 +1,5 @@
 use Rattle.std.proofs.Common.{sym, ◌∙◌}
-use Rattle.wit_syntax.proofs.Common.{codes}
-use Rattle.wit_type_tree.specs.declared.types.EnumCase.{EnumCase}
+use Rattle.wit_arena.proofs.Common.{EnumCase, codes}
 use Rattle.wit_rules.proofs.ListRules.{members_found}
 use Rattle.wit_rules.proofs.rules.check_enum.Goals as goal
 

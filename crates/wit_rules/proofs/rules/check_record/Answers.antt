@@ -1,6 +1,5 @@
 use Rattle.std.proofs.Common.{sym, ◌∙◌}
-use Rattle.wit_syntax.proofs.Common.{codes}
-use Rattle.wit_type_tree.specs.declared.types.Field.{Field}
+use Rattle.wit_arena.proofs.Common.{Field, codes}
 use Rattle.wit_rules.proofs.ListRules.{members_found}
 use Rattle.wit_rules.proofs.rules.check_record.Goals as goal
 

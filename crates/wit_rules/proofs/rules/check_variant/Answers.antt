@@ -1,5 +1,5 @@
 use Rattle.std.proofs.Common.{sym, ◌∙◌}
-use Rattle.wit_syntax.proofs.Common.{Case, codes}
+use Rattle.wit_arena.proofs.Common.{Case, codes}
 use Rattle.wit_rules.proofs.ListRules.{members_found}
 use Rattle.wit_rules.proofs.rules.check_variant.Goals as goal
 

@@ -1,10 +1,6 @@
 use Rattle.std.proofs.Common.{◌≡◌, ◌+◌, ℕ, List, [], ◌∷◌, ◌++◌, Option, Some, None, length, map, take, inl, inr, refl, sym, ap, ◌∙◌, subst, arith, rules, length-append}
-use Rattle.wit_syntax.proofs.Common.{Fault, Param as WrittenParam, SourceParam, all_handles, append-nil, cases_lt, err_from_is_err_and, map-append, option_or, slice_get, slice_get-get_or, take_all, take_more, written_param}
-use Rattle.wit_type_tree.specs.declared.types.«Type».{«Type» as Written}
-use Rattle.wit_first.specs.First.{Reports, first_after}
-use Rattle.wit_first.proofs.First.{after-at, after-next, none_both, reports-after, reports_back, reports_same}
-use Rattle.wit_walk.specs.Functions.{param_fault}
-use Rattle.wit_arena.proofs.Common.{Param, env_of}
+use Rattle.wit_arena.proofs.Common.{Fault, Param, SourceParam, all_handles, append-nil, cases_lt, env_of, err_from_is_err_and, map-append, option_or, slice_get, slice_get-get_or, take_all, take_more, written_param, «Type» as Written}
+use Rattle.wit_walk.proofs.Common.{Param as WrittenParam, Reports, after-at, after-next, first_after, none_both, param_fault, reports-after, reports_back, reports_same}
 use Rattle.wit_entries.specs.Requiring.{Requires}
 use Rattle.wit_entries.proofs.Requiring.{extended_then, requires_none, requires_types}
 use Rattle.wit_entries.proofs.Resolves.{memory_stopped}

@@ -1,8 +1,6 @@
 use Rattle.std.proofs.Common.{◌≡◌, ◌≤◌, ◌+◌, ℕ, [], ◌++◌, Some, None, length, map, take}
-use Rattle.wit_syntax.proofs.Common.{Param as Written, all_handles, written_param}
-use Rattle.wit_first.specs.First.{first_after}
-use Rattle.wit_walk.specs.Functions.{param_fault}
-use Rattle.wit_arena.proofs.Common.{env_of}
+use Rattle.wit_walk.proofs.Common.{Param as Written, first_after, param_fault}
+use Rattle.wit_arena.proofs.Common.{all_handles, env_of, written_param}
 use Rattle.wit_entries.specs.Requiring.{IsExtended, Requires}
 use Rattle.wit_rules.specs.BorrowedFunctions.{function_view}
 use Rattle.wit_rules.specs.Signatures.{AreParamsOver}

@@ -1,6 +1,5 @@
 use Rattle.std.proofs.Common.{[], sym, ◌∙◌}
-use Rattle.wit_syntax.proofs.Common.{append-nil}
-use Rattle.wit_arena.proofs.Common.{env_of}
+use Rattle.wit_arena.proofs.Common.{append-nil, env_of}
 use Rattle.wit_signatures.proofs.FunctionParts.{given_one, given_none}
 use Rattle.wit_signatures.proofs.functions.given_params.Goals.{in-Some+in_ok-self_param+in_ok-push, in_default}
 use Rattle.wit_signatures.proofs.functions.given_params.Goals as goal

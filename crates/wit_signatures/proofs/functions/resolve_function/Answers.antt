@@ -1,9 +1,6 @@
 use Rattle.std.proofs.Common.{◌+◌, map, take, sym, ap, ◌∙◌, subst, IsTrue, get_or}
-use Rattle.wit_syntax.proofs.Common.{SourceFunction, all_handles, err_from_is_err_and, is_mangled, option_to_list, written_types}
-use Rattle.wit_first.specs.AttributeFaults.{metadata_fault}
-use Rattle.wit_first.proofs.First.{reports_prefix, reports_same}
-use Rattle.wit_walk.specs.Functions.{function_fault}
-use Rattle.wit_arena.proofs.Common.{env_of}
+use Rattle.wit_arena.proofs.Common.{SourceFunction, all_handles, env_of, err_from_is_err_and, is_mangled, option_to_list, written_types}
+use Rattle.wit_walk.proofs.Common.{function_fault, metadata_fault, reports_prefix, reports_same}
 use Rattle.wit_rules.specs.BorrowedFunctions.{function_view}
 use Rattle.wit_rules.specs.Signatures.{functions_view}
 use Rattle.wit_entries.specs.Requiring.{Requires}

@@ -1,10 +1,6 @@
 use Rattle.std.proofs.Common.{Option, sym, ap, ◌∙◌, subst}
-use Rattle.wit_syntax.proofs.Common.{all_handles, err_from_is_err_and, option_to_list, result_ok}
-use Rattle.wit_type_tree.specs.declared.types.«Type».{«Type» as Written}
-use Rattle.wit_first.specs.FunctionFaults.{result_fault}
-use Rattle.wit_walk.specs.Functions.{return_fault}
-use Rattle.wit_first.proofs.First.{none_both, reports_back, reports_prefix, reports_same}
-use Rattle.wit_arena.proofs.Common.{env_of}
+use Rattle.wit_arena.proofs.Common.{all_handles, env_of, err_from_is_err_and, option_to_list, result_ok, «Type» as Written}
+use Rattle.wit_walk.proofs.Common.{none_both, reports_back, reports_prefix, reports_same, result_fault, return_fault}
 use Rattle.wit_entries.specs.Requiring.{Requires}
 use Rattle.wit_entries.proofs.Requiring.{requires_none}
 use Rattle.wit_entries.proofs.Resolves.{extended_same}
