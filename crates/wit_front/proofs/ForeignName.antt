@@ -1,13 +1,12 @@
 -- The arenas of other packages' items, with one item more, and with one name more.
 use Rattle.std.proofs.Common.{◌≡◌, ℕ, ◌+◌, Bool, true, false, if◌then◌else◌, List, [], ◌∷◌, ◌++◌, length, Option, Some, None, inl, inr, nat_eq, refl, sym, ap, ◌∙◌, subst, append_assoc, zero-add, Bor}
-use Rattle.wit_syntax.proofs.Common.{Address, Attribute, ForeignName, ForeignUse, ForeignVisit, PackageFile, Span, TypeDef, TypeOwner, UseName, append-nil, both_ways, cases_Bool, differ_at, filter, first_foreign_uses, firsts, firsts-more, firsts_at, firsts_has, flat_map, flat_map-append, foreign_interfaces, foreign_items, foreign_uses, foreign_worlds, insert_entry, length-map, local_name, lookup, lookup-place, map, map-append, map_at, map_map, metadata, no_docs, option_copied, option_map, option_or, pointwise, same_address, same_address-equal, same_address-from, same_foreign_use, slice_get, slice_get-map, slice_set, unwrap_or, use_of_foreign, visited}
+use Rattle.wit_items.proofs.Common.{Address, AllDiffer, AstItem, Attribute, Def, ForeignName, ForeignUse, ForeignVisit, HasTypes, Interface, IsForeignInterface, IsForeignWorld, Key, Names, PackageFile, Span, TypeDef, TypeOwner, UseName, World, append-nil, both_ways, cases_Bool, differ_at, filter, first_foreign_uses, firsts, firsts-more, firsts_at, firsts_has, flat_map, flat_map-append, foreign_interfaces, foreign_items, foreign_turned, foreign_use_key, foreign_use_occurrence, foreign_uses, foreign_worlds, insert_entry, keys, keys-foreign_uses, length-map, local_name, lookup, lookup-place, map, map-append, map_at, map_map, metadata, named, no_docs, option_copied, option_map, option_or, owner_at, place_at, place_at-found, pointwise, same_address, same_address-equal, same_address-from, same_foreign_use, slice_get, slice_get-map, slice_set, unwrap_or, use_of_foreign, use_of_foreign-equal, use_of_foreign-from, visited, visits_differ}
 use Rattle.std.specs.Prelude.{is_some}
 use Rattle.wit_types.specs.declared.types.TypeDefKind.TheVariants as kind
 use Rattle.wit_types.specs.declared.types.TypeOwner.TheVariants as owner
-use Rattle.wit_arena.proofs.Common.{AstItem, Def, HasTypes, Interface, IsForeignInterface, IsForeignWorld, Key, Names, World, foreign_turned, foreign_use_key, foreign_use_occurrence, keys, keys-foreign_uses, named, owner_at, place_at, place_at-found, use_of_foreign-equal, use_of_foreign-from, visits_differ}
 use Rattle.wit_model.specs.declared.ast_item.AstItem.TheVariants as entry
 use Rattle.wit_front.specs.declared.foreign.ForeignArenas.{ForeignArenas}
-use Rattle.wit_front.specs.ForeignPrefix.{interface_with, with_types, bare_world, interfaces_among, worlds_among, addresses_among, entry_after, entries_after, used_from, visited_interface, type_among, AreAdded, AreApart, IsPrefix}
+use Rattle.wit_front.specs.ForeignPrefix.{interface_with, with_types, bare_world, interfaces_among, worlds_among, addresses_among, entry_after, entries_after, used_from, visited_interface, type_among, AreAdded, IsPrefix}
 use Rattle.wit_front.proofs.Prefixes.{interfaces-more, interfaces-same, worlds-more, worlds-same, entries-more, in_use-more, names-used_from, used_from-at, used_from-has, insert_entry-last, slice_set-map, entries_after-among}
 
 module _ (vs : List ForeignVisit) (v : ForeignVisit) (a a' : ForeignArenas) (before : AreAdded vs [] [] a) (spans : a'.spans.items ≡ a.spans.items) where
@@ -105,7 +104,7 @@ module _ (vs : List ForeignVisit) (ts : List ForeignUse) (s : Address) (attribut
         spans = before.spans ∙ ap (map (λ (x : ForeignUse). x.id.span)) same;
       }
 
-  module _ (apart : AreApart vs) (none : lookup (pointwise nat_eq q) i.types ≡ None) where
+  module _ (apart : AllDiffer (addresses_among vs)) (none : lookup (pointwise nat_eq q) i.types ≡ None) where
     -- the name was not used from there
     missing : lookup (pointwise nat_eq q) (used_from 0 (visited visit.0) fs) ≡ None
     missing = sym (ap (lookup (pointwise nat_eq q)) types_after) ∙ none

@@ -1,7 +1,6 @@
 -- What comes before the arenas, with one item more, and with one name more.
 use Rattle.std.proofs.Common.{◌≡◌, ℕ, zero, suc, ◌+◌, ◌<◌, Bool, true, false, not, cond, if◌then◌else◌, List, [], ◌∷◌, ◌++◌, length, Some, None, inl, inr, nat_eq, refl, sym, ap, ◌∙◌, subst, arith, append_assoc, add-zero}
-use Rattle.wit_syntax.proofs.Common.{Address, AllDiffer, ForeignUse, ForeignVisit, after_one, append-nil, at_prefix, cases_Bool, differ_at, filter, filter-append, insert_entry, kept_at, lookup, map, name_itself, pointwise, same_address, same_address-equal, same_address-from, same_address-itself, same_item, slice_get, slice_get_within, slice_set, visited}
-use Rattle.wit_arena.proofs.Common.{AstItem, Names, foreign_place}
+use Rattle.wit_items.proofs.Common.{Address, AllDiffer, AstItem, ForeignUse, ForeignVisit, Names, after_one, append-nil, at_prefix, cases_Bool, differ_at, filter, filter-append, foreign_place, insert_entry, kept_at, lookup, map, name_itself, pointwise, same_address, same_address-equal, same_address-from, same_address-itself, same_item, slice_get, slice_get_within, slice_set, visited}
 use Rattle.wit_model.specs.declared.ast_item.AstItem.TheVariants as entry
 use Rattle.wit_front.specs.ForeignPrefix.{interfaces_among, worlds_among, entry_after, entries_after, used_from}
 

@@ -1,25 +1,8 @@
 -- What comes before the arenas, while it is made.
 use Rattle.std.specs.Prelude.{◌≡◌, ℕ, suc, List, [], ◌∷◌, ◌++◌, not, None, Vec, map, if◌then◌else◌}
-use Rattle.std.specs.declared.alloc.Global.{Global}
-use Rattle.std.specs.List.{filter, flat_map}
-use Rattle.wit_values.specs.declared.span.Span.{Span}
-use Rattle.wit_tree.specs.declared.tree.PackageFile.{PackageFile}
-use Rattle.wit_types.specs.declared.stability.Stability.TheVariants.{Unknown}
-use Rattle.wit_types.specs.declared.types.TypeDef.{TypeDef}
+use Rattle.wit_arena.specs.Common.{Address, AddsForeign, AllDiffer, AstItem, Exported, ForeignUse, ForeignVisit, Global, Imported, Interface, Names, PackageFile, ScopeName, Span, TypeDef, Unknown, Used, World, all_items, filter, first_foreign_uses, firsts, flat_map, foreign_entry, foreign_items, is_foreign, metadata, named, no_docs, owner_at, same_address, same_foreign_use, use_of_foreign, visited}
 use Rattle.wit_types.specs.declared.types.TypeDefKind.TheVariants as kind
-use Rattle.wit_model.specs.declared.ast_item.AstItem.{AstItem}
 use Rattle.wit_model.specs.declared.ast_item.AstItem.TheVariants as entry
-use Rattle.wit_model.specs.declared.interface.Interface.{Interface}
-use Rattle.wit_model.specs.declared.world.World.{World}
-use Rattle.wit_syntax.specs.Address.{Address, same_address, is_foreign}
-use Rattle.wit_syntax.specs.Source.{ScopeName, Used, ForeignUse, all_items, use_of_foreign, same_foreign_use, first_foreign_uses}
-use Rattle.wit_syntax.specs.Metadata.{metadata, no_docs}
-use Rattle.wit_syntax.specs.Repeats.{AllDiffer, firsts}
-use Rattle.wit_syntax.specs.Foreign.{ForeignVisit, visited, foreign_items}
-use Rattle.wit_arena.specs.Whole.{foreign_entry, owner_at}
-use Rattle.wit_arena.specs.Resolving.{Names, named}
-use Rattle.wit_arena.specs.ResolvedArenas.{AddsForeign}
-use Rattle.wit_tree.specs.declared.tree.WorldSide.TheVariants.{Imported, Exported}
 use Rattle.wit_items.specs.declared.items.Item.{Item as BorrowedItem}
 use Rattle.wit_scopes.specs.BorrowedNames.{Borrowed, name_view}
 use Rattle.wit_items.specs.BorrowedItems.{item_view, names_view}
@@ -80,37 +63,30 @@ pub record AreAdded (vs : List ForeignVisit) (ts : List ForeignUse) (es : List T
   pub entries : a.entries.items ≡ entries_after 0 0 vs
   pub spans : a.spans.items ≡ map (λ t. t.id.span) (firsts same_foreign_use ts)
 
--- no two of these interfaces are one
-abbrev pub AreApart : List ForeignVisit → Type 0
-AreApart vs = AllDiffer (addresses_among vs)
-
 -- the names among these that come from other packages
 abbrev pub name_foreign_uses : ScopeName → List ForeignUse
 name_foreign_uses (Used from attributes n) = filter (λ t. is_foreign t.from) (use_of_foreign from attributes n ∷ [])
 name_foreign_uses _ = []
 
-abbrev pub names_foreign_uses : List ScopeName → List ForeignUse
-names_foreign_uses xs = flat_map name_foreign_uses xs
-
 -- those among the names of an item, and then among those of what is written in it, on the imported side and on the exported one
 abbrev pub borrowed_foreign_uses : BorrowedItem → List ForeignUse
-borrowed_foreign_uses i = names_foreign_uses (names_view i) ++ (flat_map names_foreign_uses (inside_view Imported i) ++ flat_map names_foreign_uses (inside_view Exported i))
+borrowed_foreign_uses i = flat_map name_foreign_uses (names_view i) ++ (flat_map (flat_map name_foreign_uses) (inside_view Imported i) ++ flat_map (flat_map name_foreign_uses) (inside_view Exported i))
 
 -- some names were used from some items, at which what is at hand is placed
 pub record HasUsed (types : List TypeDef) (a : ForeignArenas) (Placed : List Address → Type 0) : Type 0 where
   pub vs : List ForeignVisit
   pub ts : List ForeignUse
-  pub apart : AreApart vs
+  pub apart : AllDiffer (addresses_among vs)
   pub in_use : AreAdded vs ts types a
   pub placed : Placed (addresses_among vs)
 
 -- what names of what is written in items use of other packages
 abbrev pub inside_uses : List (Vec Borrowed Global) → List ForeignUse
-inside_uses inside = flat_map names_foreign_uses (map (λ ns. map name_view ns.items) inside)
+inside_uses inside = flat_map (flat_map name_foreign_uses) (map (λ ns. map name_view ns.items) inside)
 
 -- these names are added to those that were used from some items, which are apart, where what is at hand is placed
 abbrev pub AddsUsed : (old : List TypeDef) (before : ForeignArenas) (new : List TypeDef) (after : ForeignArenas) → (List Address → Type 0) → List ForeignUse → Type 0
-AddsUsed old before new after Placed uses = (vs : List ForeignVisit) (ts : List ForeignUse) → AreApart vs → Placed (addresses_among vs) → AreAdded vs ts old before → AreAdded vs (ts ++ uses) new after
+AddsUsed old before new after Placed uses = (vs : List ForeignVisit) (ts : List ForeignUse) → AllDiffer (addresses_among vs) → Placed (addresses_among vs) → AreAdded vs ts old before → AreAdded vs (ts ++ uses) new after
 
 -- what files name of other packages comes before the arenas
 pub record IsPrefix (files : List PackageFile) (types : List TypeDef) (a : ForeignArenas) : Type 0 where

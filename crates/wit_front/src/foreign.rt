@@ -1,6 +1,7 @@
 //! What other packages' items put before the arenas.
 ghost use Rattle.std.specs.Prelude.{◌≡◌, ◌++◌, ◌∷◌, ◌<◌, All, List, Some, [], true, false, length, map, nat_eq, slice_get, IfOk, OnOk};
 ghost use Rattle.std.specs.Cmp.Lexicographic.{pointwise};
+ghost use Rattle.std.specs.List.{flat_map};
 ghost use Rattle.indexmap.specs.IndexMap.{insert_entry};
 ghost use Rattle.wit_syntax.specs.Address.{Address};
 ghost use Rattle.wit_syntax.specs.Foreign.{ForeignVisit as TheVisit};
@@ -9,7 +10,7 @@ ghost use Rattle.wit_files.specs.ForeignPaths.{foreign_view};
 ghost use Rattle.wit_scopes.specs.BorrowedNames.{name_view};
 ghost use Rattle.wit_scopes.specs.PlacedNames.{IsNamePlaced, AreNamesPlaced};
 ghost use Rattle.wit_items.specs.PlacedItems.{ArePlacedInside, IsItemPlaced};
-ghost use Rattle.wit_front.specs.ForeignPrefix.{AddsPrefix, AddsUsed, inside_uses, interface_with, with_types, bare_world, AreAdded, HasUsed, name_foreign_uses, names_foreign_uses, borrowed_foreign_uses};
+ghost use Rattle.wit_front.specs.ForeignPrefix.{AddsPrefix, AddsUsed, inside_uses, interface_with, with_types, bare_world, AreAdded, HasUsed, name_foreign_uses, borrowed_foreign_uses};
 
 use std::alloc::{AllocError, Global};
 use wit_entries::entries::Entries;
@@ -213,7 +214,7 @@ impl ForeignArenas {
         names: &[ScopeName<'_, '_>],
     ) -> Result<(), AllocError>
         requires { HasUsed types.old self.old (λ prefix. AreNamesPlaced prefix names.now) }
-        ensures { OnOk result (AddsUsed types.old self.old types.new self.new (λ p. AreNamesPlaced p names.now) (names_foreign_uses (map name_view names.now))) }
+        ensures { OnOk result (AddsUsed types.old self.old types.new self.new (λ p. AreNamesPlaced p names.now) (flat_map name_foreign_uses (map name_view names.now))) }
     {
         for name in names {
             self.add_used_by_name(alloc, types, name)?;

@@ -1,7 +1,6 @@
 -- Written names of functions that are no resource's, among those of an interface.
 use Rattle.std.proofs.Common.{◌≡◌, ◌≤◌, ◌<◌, ℕ, List, length, Some, arith, Contains}
-use Rattle.wit_syntax.proofs.Common.{at_contains, contains_at, flat_map, flat_map_at, flat_map_has, slice_get, slice_get_within}
-use Rattle.wit_arena.proofs.Common.{Function, freestanding_names}
+use Rattle.wit_items.proofs.Common.{Function, at_contains, contains_at, flat_map, flat_map_at, flat_map_has, freestanding_names, slice_get, slice_get_within}
 
 -- the written names of a function at its name: none, or one
 abbrev pub written_names : List ℕ × Function → List (List ℕ)

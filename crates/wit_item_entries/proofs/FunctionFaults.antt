@@ -1,14 +1,10 @@
 -- The names of a scope in turn: on the side of imports, and what a table of them means.
 use Rattle.std.proofs.Common.{◌≡◌, ℕ, true, List, [], ◌++◌, map, Option, Some, None, refl, sym, ap, ◌∙◌, is_none}
-use Rattle.wit_syntax.proofs.Common.{Id, ScopeName, SourceFunction, TypeDef, TypeOwner, WorldSide, bytes_eq, find_some, in_turn, in_turn_among, local_id, local_name, local_names, lookup-place, map_at, map_map, meaning, name_itself, names_on, option_map, slice_get, slice_get-map, if◌then◌else◌}
+use Rattle.wit_items.proofs.Common.{Id, Name, Names, Required, ResolvedScope, ScopeName, SourceFunction, TypeDef, TypeOwner, WorldSide, bytes_eq, env_of, find_some, if◌then◌else◌, in_turn, in_turn_among, local_id, local_name, local_names, lookup-place, lost_word, map_at, map_map, meaning, name_itself, names_in, names_on, option_map, slice_get, slice_get-map, word_fault}
 use mathlib.Core.Path.{fun_ext}
-use Rattle.wit_arena.proofs.Common.{Names, Required, ResolvedScope, env_of, names_in}
-use Rattle.wit_walk.proofs.Common.{lost_word, word_fault}
 use Rattle.wit_arena.proofs.Meant.{free_unmeant}
-use Rattle.wit_refusals.specs.NameScopes.{Name}
 use Rattle.wit_sides.specs.SideNames.{defined_on}
 use Rattle.wit_sides.specs.declared.sides.Sides.{Sides}
-use Rattle.wit_rules.specs.Signatures.{AreAllNames}
 use Rattle.wit_entries.specs.EntryFaults.{unless_found}
 use Rattle.wit_signatures.specs.ForeignName.{name_of_id}
 use Rattle.wit_externs.specs.AloneFaults.{words_in}
@@ -28,8 +24,8 @@ pub turn_named : (old new : List TypeDef) (cs : List ResolvedScope) (o : TypeOwn
 turn_named old new cs o xs types ids rs t = t.listed ∙ sym (turn_texts xs t.adds.order ids t.turn)
 
 -- where a table has just the names of a scope, what it lacks is none of them
-pub all_names : (xs : List ScopeName) (ids : List Id) (types : Names) → IsTurn xs ids → names_in types ≡ map (λ (id : Id). id.name.now) ids → AreAllNames (env_of types) xs
-all_names xs ids types t listed = record { unmeant = λ name free. free_unmeant xs t.order types name t.least (listed ∙ turn_texts xs t.order ids t.are) free }
+pub all_names : (xs : List ScopeName) (ids : List Id) (types : Names) → IsTurn xs ids → names_in types ≡ map (λ (id : Id). id.name.now) ids → (name : List ℕ) → env_of types name ≡ None → meaning xs name ≡ None
+all_names xs ids types t listed name free = free_unmeant xs t.order types name t.least (listed ∙ turn_texts xs t.order ids t.are) free
 
 -- and what it has is one of them
 has_meaning : (xs : List ScopeName) (ids : List Id) (types : Names) (name : List ℕ) (place : ℕ) → IsTurn xs ids → names_in types ≡ map (λ (id : Id). id.name.now) ids → env_of types name ≡ Some place → (x : ScopeName) × (meaning xs name ≡ Some x)
@@ -46,5 +42,5 @@ pub words_same : (xs : List ScopeName) (ids : List Id) (types : Names) → IsTur
 words_same xs ids types t listed = fun_ext (λ fns. fun_ext (λ id. by fns id (env_of types id.name.now) refl))
   where
     by : (fns : List SourceFunction) (id : Id) (o : Option ℕ) → env_of types id.name.now ≡ o → unless_found (lost_word fns id) o ≡ word_fault xs fns id
-    by fns id None free = sym (ap (λ (m : Option ScopeName). if is_none m then Some (lost_word fns id) else None) ((all_names xs ids types t listed).unmeant id.name.now free))
+    by fns id None free = sym (ap (λ (m : Option ScopeName). if is_none m then Some (lost_word fns id) else None) (all_names xs ids types t listed id.name.now free))
     by fns id (Some place) present = (let x = has_meaning xs ids types id.name.now place t listed present in sym (ap (λ (m : Option ScopeName). if is_none m then Some (lost_word fns id) else None) x.1))

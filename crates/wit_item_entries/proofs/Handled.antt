@@ -1,8 +1,7 @@
 -- What handles in the definitions of a scope require, one definition after another.
 use Rattle.std.proofs.Common.{◌≡◌, ℕ, ◌+◌, cond, List, [], ◌∷◌, ◌++◌, length, take, Option, Some, None, nat_eq, inl, inr, refl, sym, ap, ◌∙◌, subst, arith, append_assoc, zero-add, suc-add}
-use Rattle.wit_syntax.proofs.Common.{AllDiffer, Defined, ForeignName, Id, ScopeName, TypeDef, Used, all_handles, append-nil, at_back, at_prefix, at_split, at_take, body_types, defined, flat_map, flat_map-append, in_order, in_turn, local_name, local_names, lookup-insert_entry, lookup-place, map-append, map_at, name_cases, name_types, names-insert_entry, option_map, pointwise, slice_get, slice_get-map, slice_get_within, used}
+use Rattle.wit_items.proofs.Common.{AllDiffer, AreEnded, Defined, ForeignName, Id, IsStored, Names, Required, ScopeName, TypeDef, Used, all_handles, all_handles-append, append-nil, at_back, at_prefix, at_split, at_take, body_types, defined, ended_append, ended_more, env_of, flat_map, flat_map-append, in_order, in_turn, local_name, local_names, lookup-insert_entry, lookup-place, map-append, map_at, name_cases, name_types, names-insert_entry, names_in, option_map, pointwise, slice_get, slice_get-map, slice_get_within, used}
 use Rattle.wit_type_tree.specs.declared.types.TypeDef.{TypeDef as Definition}
-use Rattle.wit_arena.proofs.Common.{AreEnded, Env, IsStored, Names, Required, all_handles-append, ended_append, ended_more, env_of, names_in}
 use Rattle.wit_entries.specs.Requiring.{IsExtended, Requires}
 
 -- where texts differ, and those of a table are some of them, the next one is free
@@ -45,10 +44,6 @@ stored_kept names names' name stored free other i present =
           f)
       | inr miss ↦ now ∙ ap (λ b. cond b (Some stored.place) (env_of names other)) miss ∙ present
     ]
-
--- nothing is required
-pub requires_none : (env : Env) (es : List TypeDef) (rs : List Required) → Requires env es [] rs rs
-requires_none env es rs = record { list = []; added = sym (append-nil rs); ended = refl }
 
 types-more : (xs : List ScopeName) (d : Definition) → all_handles (flat_map name_types (xs ++ Defined d ∷ [])) ≡ all_handles (flat_map name_types xs) ++ all_handles (body_types d.body)
 types-more xs d = ap all_handles (flat_map-append name_types xs (Defined d ∷ []) ∙ ap (λ l. flat_map name_types xs ++ l) (append-nil (body_types d.body))) ∙ all_handles-append (flat_map name_types xs) (body_types d.body)

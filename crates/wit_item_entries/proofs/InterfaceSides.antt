@@ -1,7 +1,7 @@
 -- An interface has functions alone on its sides, and they are where imports do.
 use Rattle.std.proofs.Common.{◌≡◌, ◌∷◌, ◌++◌, [], List, map, false, inl, inr, refl, sym, ap, ◌∙◌}
-use Rattle.wit_syntax.proofs.Common.{Declared, Id, Imported, Item, SideFunction, SourceFunction, TheInline, TheInterface, TheWorld, about, cases_Bool, cond-false, cond-true, flat_map, functions, interface_imported, is_world, items_on, on_side, part_functions, role_side, same_side}
-use Rattle.wit_refusals.specs.NameScopes.{Name}
+use Rattle.wit_items.proofs.Common.{Declared, Id, Imported, Name, SideFunction, SourceFunction, TheInline, TheInterface, TheWorld, about, cases_Bool, cond-false, cond-true, flat_map, functions, interface_imported, is_world, items_on, on_side, part_functions, role_side, same_side}
+use Rattle.wit_arena.proofs.Common.{Item}
 use Rattle.wit_signatures.specs.ForeignName.{name_of_function, name_of_id}
 use Rattle.wit_externs.specs.Clash.{all_on, names_of_items}
 

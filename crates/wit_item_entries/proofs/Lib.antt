@@ -13,6 +13,5 @@ pub mod InterfaceSides
 mod Calling
 pub mod ResolvedScopes
 pub mod Telling
-pub mod Emitting
 pub mod NameOrder
 pub mod UseFaults

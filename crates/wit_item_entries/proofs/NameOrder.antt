@@ -1,7 +1,6 @@
 -- Names that are taken on a side, as they are called there: where their keys differ, so do those of all that is called.
 use Rattle.std.proofs.Common.{◌≡◌, ℕ, List, [], ◌∷◌, ◌++◌, map, Option, Some, None, refl, sym, ap, ◌∙◌, subst}
-use Rattle.wit_syntax.proofs.Common.{AllDiffer, Called, Exported, Id, Imported, ScopeName, SideFunction, SideInline, SideItem, SideLink, WorldSide, called_key, flat_map, in_turn, item_called, items_on, local_id, map-append, name_called, names_on, option_map_or, side_called}
-use Rattle.wit_refusals.specs.NameScopes.{Name}
+use Rattle.wit_items.proofs.Common.{AllDiffer, Called, Exported, Id, Imported, Name, ScopeName, SideFunction, SideInline, SideItem, SideLink, WorldSide, called_key, flat_map, in_turn, item_called, items_on, local_id, map-append, name_called, names_on, option_map_or, side_called}
 use Rattle.wit_signatures.specs.ForeignName.{name_of_id, name_key}
 use Rattle.wit_externs.specs.Clash.{item_names, names_of_items, all_on}
 

@@ -1,6 +1,6 @@
 -- Scopes that have no functions, and nothing else, on their sides.
 use Rattle.std.proofs.Common.{◌≡◌, List, [], ◌++◌, length, map, false, sym, ap, subst}
-use Rattle.wit_syntax.proofs.Common.{AllDiffer, Exported, Id, Imported, ScopeName, SideFunction, WorldSide, differ_none, is_ascii_uppercase, list_any, names_on, nil_from_length}
+use Rattle.wit_items.proofs.Common.{AllDiffer, Exported, Id, Imported, ScopeName, SideFunction, WorldSide, differ_none, is_ascii_uppercase, list_any, names_on, nil_from_length}
 use Rattle.wit_rules.specs.declared.borrowed.BorrowedFunction.{BorrowedFunction}
 use Rattle.wit_rules.specs.BorrowedFunctions.{function_view}
 use Rattle.wit_signatures.specs.ForeignName.{name_of_id, name_key}

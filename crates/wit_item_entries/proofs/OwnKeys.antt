@@ -1,6 +1,6 @@
 -- Names without a letter in upper case, which are their own keys.
 use Rattle.std.proofs.Common.{◌≡◌, ℕ, ◌||◌, false, List, [], ◌∷◌, ◌++◌, map, refl, sym, ap, ◌∙◌, subst}
-use Rattle.wit_syntax.proofs.Common.{AllDiffer, Id, ScopeName, append-nil, lower_case, in_turn_distinct, is_ascii_uppercase, list_any, map_map}
+use Rattle.wit_items.proofs.Common.{AllDiffer, Id, ScopeName, append-nil, in_turn_distinct, is_ascii_uppercase, list_any, lower_case, map_map}
 use denote.Ref.{Bor}
 use Rattle.wit_names.proofs.Labels.{folded_key-label}
 use Rattle.wit_refusals.proofs.Cases.{texts-lower, names-folded}

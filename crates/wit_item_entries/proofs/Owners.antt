@@ -1,10 +1,9 @@
 -- The resource of a function of an item is a name of its scope.
 use Rattle.std.proofs.Common.{◌≡◌, ℕ, zero, suc, List, map, Some, IsSome, refl, ap, ◌∙◌, subst}
-use Rattle.wit_syntax.proofs.Common.{Defined, DefinitionPart, ExternPart, FunctionPart, Id, IncludePart, Item, Part, ResourceFunc, ScopeName, SourceFunction, TypeBody, UsePart, definition_functions, extern_at, flat_map_at, flat_map_has, free_function, functions, in_turn, in_turn_has, local_name, local_names, map_at, option_map, part_functions, part_names, parts, resource_function, scope_names, slice_get, slice_get-map}
+use Rattle.wit_items.proofs.Common.{Defined, DefinitionPart, Env, ExternPart, FunctionPart, Id, IncludePart, Names, Part, ResourceFunc, ScopeName, SourceFunction, TypeBody, UsePart, definition_functions, env_of, extern_at, flat_map_at, flat_map_has, free_function, functions, in_turn, in_turn_has, local_name, local_names, lookup-listed, map_at, names_in, option_map, part_functions, part_names, parts, resource_function, scope_names, slice_get, slice_get-map}
+use Rattle.wit_arena.proofs.Common.{Item}
 use Rattle.wit_type_tree.specs.declared.types.TypeBody.TheVariants as body
 use Rattle.wit_type_tree.specs.declared.types.ResourceFunc.TheVariants as resource
-use Rattle.wit_arena.proofs.Common.{Env, Names, env_of, names_in}
-use Rattle.wit_arena.proofs.UsePart.{lookup-listed}
 use Rattle.wit_rules.specs.BorrowedFunctions.{owner_of}
 use Rattle.wit_rules.specs.Signatures.{HasOwner, HaveOwners}
 use Rattle.wit_item_entries.specs.NameOrder.{IsTurn}

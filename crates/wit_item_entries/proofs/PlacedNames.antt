@@ -1,7 +1,6 @@
 -- Functions whose names differ still do once setters are placed.
 use Rattle.std.proofs.Common.{◌≡◌, ℕ, List, [], ◌∷◌, Some, refl, sym, ap, ◌∙◌, subst}
-use Rattle.wit_syntax.proofs.Common.{AllDiffer, map}
-use Rattle.wit_arena.proofs.Common.{Function, by_name, is_getter_of, made_name, names_distinct, pairs, placed, setters_placed}
+use Rattle.wit_items.proofs.Common.{AllDiffer, Function, by_name, is_getter_of, made_name, map, names_distinct, pairs, placed, setters_placed}
 use Rattle.wit_functions.proofs.InTurn.{in_turn}
 use Rattle.wit_functions.proofs.Pairs.{in_turn-placed}
 use Rattle.wit_setters.proofs.Keys.{in_turn_differ}

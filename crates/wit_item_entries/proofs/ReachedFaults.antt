@@ -1,16 +1,11 @@
 -- The first fault of the names of a scope: tests of names in handles in an arena that grows, and one step after another.
 use Rattle.std.proofs.Common.{◌≡◌, ◌⊎◌, ℕ, List, [], ◌∷◌, ◌++◌, length, map, take, ◌+◌, Option, Some, None, inl, inr, refl, sym, ap, ◌∙◌, subst, Contains}
-use Rattle.wit_syntax.proofs.Common.{Address, Defined, Fault, Id, IsAllocationFailure, IsOrder, ParseError, Plain, Record, ScopeName, TypeBody, TypeDef, TypeOwner, Variant, all_shapes, all_words, append-nil, body_of, body_types, cyclic_at, defined, fault_of, in_order, local_id, missing_type_at, option_or, rows_of, shape_of, slice_get, type_word, used, words, written_body, AreDistinct, Err, Ok, Result}
-use Rattle.wit_type_tree.specs.declared.types.«Type».{«Type» as Written}
+use Rattle.wit_items.proofs.Common.{Address, AreDistinct, AtCycle, AtMissing, Defined, Defines, Env, Err, Fault, Finds, HasNames, Id, InOrder, IsAllocationFailure, IsOrder, IsOutcome, Ok, Outcome, ParseError, Plain, Record, Reports, ResolvedScope, Result, ScopeName, TypeBody, TypeDef, TypeOwner, Variant, all_shapes, all_words, append-nil, body_of, body_types, cyclic_at, defined, defines_more, definition_fault as scope_definition_fault, fault_of, finds_same, first_in, in_order, list_fault, local_id, local_names_fault, metadata_fault, missing_type_at, none_both, option_or, or_none_both, order_fault, order_of, outcome_one, rows_of, shape_of, slice_get, type_fault, type_kept, type_word, used, words, words-head, written_body, «Type» as Written}
 use Rattle.wit_type_tree.specs.declared.types.«Type».TheVariants as written
 use Rattle.wit_type_tree.specs.declared.types.TypeDef.{TypeDef as Definition}
-use Rattle.wit_walk.proofs.Common.{AtCycle, AtMissing, InOrder, IsOutcome, IsTypeOrderFault, Outcome, definition_fault as scope_definition_fault, first_in, local_names_fault, metadata_fault, none_both, or_none_both, order_fault, order_of, outcome_one, type_fault, Finds, Reports, finds_same}
-use Rattle.wit_first.specs.ListFaults.{list_fault}
-use Rattle.wit_first.proofs.TypeFaults.{type_kept}
+use Rattle.wit_first.specs.OrderFaults.{IsTypeOrderFault}
 use Rattle.wit_walk.proofs.SameTypes.{Agree, types_same}
-use Rattle.wit_arena.proofs.Common.{Defines, Env, HasNames, ResolvedScope, defines_more, words-head}
 use Rattle.wit_entries.specs.EntryFaults.{unless_found, name_fault, handled_fault, handle_fault, written_fault, types_fault, body_fault, definition_fault}
-use Rattle.wit_entries.specs.Requiring.{IsExtended}
 use Rattle.wit_entries.specs.declared.scope.Scope.{Scope}
 use Rattle.wit_scopes.specs.DefinitionOrder.{AreInTurn}
 use Rattle.wit_scopes.proofs.Turning.{none_unknown}
@@ -26,17 +21,17 @@ module _ (env : Env) (es : List TypeDef) (handle : Id → Option Fault) where
       by None free none = absurd (let f : ⊥ = cc in f)
       by (Some place) present none = safe id place present none
 
-  types_safe : IsSafe env es handle → (ts : List Written) → types_fault env es ts ≡ None → first_in (type_fault (λ id. None) handle) ts ≡ None
+  types_safe : IsSafe env es handle → (ts : List Written) → types_fault missing_type_at env es ts ≡ None → first_in (type_fault (λ id. None) handle) ts ≡ None
   types_safe safe [] h = refl
   types_safe safe (t ∷ ts) h =
-      let all = or_none_both (written_fault env es t) (types_fault env es ts) h in
+      let all = or_none_both (written_fault missing_type_at env es t) (types_fault missing_type_at env es ts) h in
       none_both (type_kept (name_fault missing_type_at env) (handle_fault missing_type_at env es) (λ id. None) handle (λ id none. refl) (handle_safe safe) t all.0) (types_safe safe ts all.1)
 
   -- a definition without a fault in the arena
   pub definition_safe : IsSafe env es handle → (d : Definition) → definition_fault env es d ≡ None → scope_definition_fault handle (Defined d) ≡ None
   definition_safe safe d h =
-      let all = or_none_both (metadata_fault d.attributes.items) (body_fault env es d.body) h in
-      let own = or_none_both (list_fault d.body) (types_fault env es (body_types d.body)) all.1 in
+      let all = or_none_both (metadata_fault d.attributes.items) (body_fault missing_type_at env es d.body) h in
+      let own = or_none_both (list_fault d.body) (types_fault missing_type_at env es (body_types d.body)) all.1 in
       none_both all.0 (none_both own.0 (types_safe safe (body_types d.body) own.1))
 
   -- these names mean something
@@ -121,7 +116,3 @@ failed e = Err e
 
 abbrev pub done : {T : Type 0} → T → Result T ParseError
 done x = Ok x
-
--- an arena that has not grown
-pub extended_same : (es : List TypeDef) → IsExtended es es
-extended_same es = record { more = []; is = sym (append-nil es) }

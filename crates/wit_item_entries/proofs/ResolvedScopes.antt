@@ -1,9 +1,6 @@
 -- Interfaces as scopes, those of other packages in front.
 use Rattle.std.proofs.Common.{◌≡◌, ℕ, zero, suc, List, [], ◌∷◌, length, Some, refl, sym, ap, ◌∙◌}
-use Rattle.wit_syntax.proofs.Common.{Address, InterfaceNamed, slice_get}
-use Rattle.wit_arena.proofs.Common.{Interface, IsFound, Names, env_of, resolved_scope_at, resolved_scopes}
-use Rattle.wit_items.specs.Found.{AreFound, interface_name}
-use Rattle.wit_items.proofs.Found.{found_resolved_scope}
+use Rattle.wit_items.proofs.Common.{Address, AreFound, Interface, InterfaceNamed, IsFound, Names, env_of, found_resolved_scope, interface_name, resolved_scope_at, resolved_scopes, slice_get}
 
 -- the resolved scope of an interface in front
 prefix_at : (ss : List Address) (is : List Interface) (t : ℕ) (s : Address) (i : Interface) → slice_get ss t ≡ Some s → slice_get is t ≡ Some i → slice_get (resolved_scopes ss is) t ≡ Some (resolved_scope_at s i)

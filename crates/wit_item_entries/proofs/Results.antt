@@ -1,16 +1,11 @@
 -- Definitions of a scope that are written as results, given by their names.
 use Rattle.std.proofs.Common.{◌≡◌, ℕ, zero, suc, arith, true, false, cond, List, [], ◌∷◌, ◌++◌, Option, Some, None, inl, inr, nat_eq, take, refl, sym, ap, ◌∙◌}
-use Rattle.wit_syntax.proofs.Common.{AreDistinct, Defined, ScopeName, body_ok, bytes_eq, differ_at, differ_by, find-append, insert_entry, local_name, lookup, meaning, meant_ok, name_cases, name_itself, option_or, pointwise, slice_get}
+use Rattle.wit_items.proofs.Common.{AreDistinct, Defined, ScopeName, body_ok, bytes_eq, differ_at, differ_by, find-append, insert_entry, local_name, lookup, meaning, meant_ok, name_cases, name_itself, option_or, or_none, pointwise, slice_get, «Type» as Written}
 use Rattle.std.specs.List.{find}
 use denote.Ref.{Bor}
-use Rattle.wit_type_tree.specs.declared.types.«Type».{«Type» as Written}
 use Rattle.wit_type_tree.specs.declared.types.TypeDef.{TypeDef as Definition}
 use Rattle.wit_rules.specs.Signatures.{stated_ok, AreResults}
 use Rattle.wit_setters.proofs.Results.{lookup-inserted}
-
-or_none : {X : Type 0} (o : Option X) → option_or o None ≡ o
-or_none None = refl
-or_none (Some x) = refl
 
 -- the last name of a scope is found by its name where none before it is
 meaning_last : (xs : List ScopeName) (x : ScopeName) → meaning xs (local_name x) ≡ None → meaning (xs ++ x ∷ []) (local_name x) ≡ Some x

@@ -1,19 +1,18 @@
 -- The functions of an item, added after its names.
 use Rattle.std.proofs.Common.{◌≡◌, List, [], ◌++◌, map, false, refl, sym, ap, ◌∙◌, subst}
-use Rattle.wit_syntax.proofs.Common.{Address, AllDiffer, Id, Imported, Item, ScopeName, SideFunction, SideItem, SourceFunction, TypeDef, TypeOwner, address, all_handles, flat_map, function_name, functions, in_turn, is_ascii_uppercase, is_world, list_any, map_map, name_types, on_side, scope_names, side_items, side_items_functions, written_types}
-use Rattle.wit_arena.proofs.Common.{AddsAfter, AddsFunctions, AreEnded, Env, Function, Names, Required, ResolvedScope, all_handles-append, ended_append, ended_more, env_of, made_name}
+use Rattle.wit_items.proofs.Common.{Address, AddsAfter, AddsFunctions, AllDiffer, AreEnded, Env, Function, Id, Imported, Name, Names, Required, ResolvedScope, ScopeName, SideFunction, SideItem, SourceFunction, TypeDef, TypeOwner, address, all_handles, all_handles-append, ended_append, ended_more, env_of, flat_map, function_name, functions, in_turn, is_ascii_uppercase, is_world, list_any, made_name, map_map, name_types, on_side, scope_names, side_items, side_items_functions, written_types}
+use Rattle.wit_arena.proofs.Common.{Item}
 use Rattle.wit_arena.proofs.FunctionNames.{names_differ}
-use Rattle.wit_refusals.specs.NameScopes.{Name}
 use Rattle.wit_entries.specs.Requiring.{IsExtended, Requires}
 use Rattle.wit_signatures.specs.ForeignName.{name_of_function, name_of_made, name_key}
 use Rattle.wit_externs.specs.Clash.{DifferOnSides, all_on}
 use Rattle.wit_item_entries.specs.AddedNames.{AddsTurn}
 use Rattle.wit_item_entries.specs.NameOrder.{IsTurn}
 use Rattle.wit_item_entries.specs.Body.{AddsBody}
-use Rattle.wit_item_entries.proofs.Handled.{requires_none}
 use Rattle.wit_item_entries.proofs.NameOrder.{differ_called}
 use Rattle.wit_item_entries.proofs.NoFunctions.{alone}
-use Rattle.wit_item_entries.proofs.ReachedFaults.{extended_same}
+use Rattle.wit_entries.proofs.Requiring.{requires_none}
+use Rattle.wit_entries.proofs.Resolves.{extended_same}
 
 -- the names of a scope that was added, in turn
 pub turn_added : (old mid : List TypeDef) (cs : List ResolvedScope) (o : TypeOwner) (xs : List ScopeName) (types : Names) (ids : List Id) (rs : List Required) → AddsTurn old mid cs o xs types ids rs → IsTurn xs ids

@@ -1,7 +1,6 @@
 -- Setters that are placed after their getters, whichever way these are seen.
 use Rattle.std.proofs.Common.{◌≡◌, ◌||◌, Bool, true, false, List, [], ◌∷◌, ◌++◌, inl, inr, refl, sym, ap, ◌∙◌}
-use Rattle.wit_syntax.proofs.Common.{cases_Bool, filter, flat_map, list_any, map, map-append}
-use Rattle.wit_arena.proofs.Common.{early, others, setters_placed, with_setters}
+use Rattle.wit_items.proofs.Common.{cases_Bool, early, filter, flat_map, list_any, map, map-append, others, setters_placed, with_setters}
 
 module _ {X Y : Type 0} (g : X → Y) (goes : X → X → Bool) (goes_seen : Y → Y → Bool) (same : (a b : X) → goes_seen (g a) (g b) ≡ goes a b) where
   list_any-map : (e : X) (es : List X) → list_any (goes_seen (g e)) (map g es) ≡ list_any (goes e) es

@@ -1,7 +1,6 @@
 -- A world is what is stated of it.
 use Rattle.std.proofs.Common.{ℕ, List, ◌∙◌}
-use Rattle.wit_syntax.proofs.Common.{Metadata, Span}
-use Rattle.wit_arena.proofs.Common.{IsWorld, World}
+use Rattle.wit_items.proofs.Common.{IsWorld, Metadata, Span, World}
 use Rattle.wit_items.specs.declared.metadata.ItemMetadata.{ItemMetadata}
 use Rattle.wit_items.specs.SourceItems.{metadata_view, AreOf}
 

@@ -1,17 +1,9 @@
 -- The first fault of used names: one name more.
 use Rattle.std.proofs.Common.{◌≡◌, ℕ, Bool, true, false, ◌||◌, List, [], ◌∷◌, map, Option, Some, None, nat_eq, inl, inr, refl, sym, ap, ◌∙◌, Contains}
-use Rattle.wit_syntax.proofs.Common.{Fault, Id, at_contains, bytes_eq, contains_at, false_from_ne_true, function_used, if◌then◌else◌, list_any, local_id, local_name, local_names, missing_at, name_cases, name_equal, name_itself, name_twice, name_word, option_and_then, option_map_or, option_or, pointwise, slice_get}
-use Rattle.std.specs.Prelude.{is_some}
-use Rattle.wit_arena.proofs.Common.{Interface, IsFound, Names, env_of, names_in, resolved_scope_at}
-use Rattle.wit_walk.proofs.Common.{any_found, any_some}
-use Rattle.wit_scopes.specs.BorrowedNames.{source_view, use_view, IsPlaced}
-use Rattle.wit_scopes.specs.declared.scope_name.UsedName.{UsedName}
-use Rattle.wit_scopes.specs.declared.scope_name.Source.{Source as BorrowedSource}
-use Rattle.wit_scopes.specs.declared.scope_name.Source.TheVariants as borrowed_source
-use Rattle.wit_items.specs.ForeignAddresses.{prefix_of}
-use Rattle.wit_items.specs.ItemPaths.{source_target}
-use Rattle.wit_items.specs.ResolvedInterfaces.{resolved_scopes_of, unresolved_fault}
+use Rattle.wit_items.proofs.Common.{Fault, Id, Interface, IsFound, IsPlaced, Names, Source as BorrowedSource, UsedName, any_found, any_some, at_contains, bytes_eq, contains_at, env_of, false_from_ne_true, function_used, if◌then◌else◌, list_any, local_id, local_name, local_names, missing_at, name_cases, name_equal, name_itself, name_twice, name_word, names_in, option_and_then, option_map_or, option_or, pointwise, prefix_of, resolved_scope_at, resolved_scopes_of, slice_get, source_target, source_view, unresolved_fault, use_view}
 use Rattle.wit_items.specs.declared.interfaces.Interfaces.{Interfaces}
+use Rattle.std.specs.Prelude.{is_some}
+use Rattle.wit_scopes.specs.declared.scope_name.Source.TheVariants as borrowed_source
 use Rattle.wit_item_entries.specs.UseFaults.{interface_of, lost_name, asked_fault, used_fault, spelled_fault, local_fault}
 use Rattle.wit_item_entries.proofs.ResolvedScopes.{named_found, prefix_found}
 

@@ -1,21 +1,10 @@
 -- What the names and the functions of an item add: the same of an interface and of a world.
-use Rattle.std.specs.Prelude.{◌≡◌, ◌<◌, false, List, length, map}
-use Rattle.std.specs.List.{flat_map}
-use Rattle.wit_type_tree.specs.declared.leaves.Id.{Id}
-use Rattle.wit_types.specs.declared.types.TypeDef.{TypeDef}
-use Rattle.wit_types.specs.declared.types.TypeOwner.{TypeOwner}
-use Rattle.wit_functions.specs.declared.function.Function.{Function}
-use Rattle.wit_syntax.specs.Source.{Declared, Item, local_id, scope_names, about, is_world}
-use Rattle.wit_syntax.specs.ScopeTables.{in_turn}
-use Rattle.wit_syntax.specs.Function.{functions, part_functions}
-use Rattle.wit_syntax.specs.Sides.{SideFunction, side_items}
-use Rattle.wit_arena.specs.Resolving.{Names, ResolvedScope, Required, names_in}
-use Rattle.wit_arena.specs.ResolvedArenas.{AddsScope, AddsAfter}
-use Rattle.wit_sides.specs.declared.sides.Sides.{Sides}
+use Rattle.std.specs.Prelude.{◌≡◌, false, List, map}
+use Rattle.wit_arena.specs.Common.{AddsAfter, AddsScope, Declared, Function, Id, Item, Names, Required, ResolvedScope, TypeDef, TypeOwner, about, flat_map, functions, in_turn, is_world, local_id, names_in, part_functions, scope_names, side_items}
 use Rattle.wit_rules.specs.declared.borrowed.BorrowedFunction.{BorrowedFunction}
 use Rattle.wit_rules.specs.BorrowedFunctions.{function_view}
 use Rattle.wit_signatures.specs.ForeignName.{name_of_function, name_of_made}
-use Rattle.wit_externs.specs.Clash.{AreNamesOf, DifferOnSides}
+use Rattle.wit_externs.specs.Clash.{DifferOnSides}
 use Rattle.wit_items.specs.BorrowedItems.{scope_item}
 use Rattle.wit_items.specs.declared.items.ItemScope.{ItemScope}
 use Rattle.wit_scopes.specs.BorrowedNames.{name_view}
@@ -42,10 +31,6 @@ pub record AddsBody (old new : List TypeDef) (cs : List ResolvedScope) (o : Type
 -- these are the functions of what is declared, where that is an interface
 abbrev pub AreFunctionsIn : Declared → List BorrowedFunction → Type 0
 AreFunctionsIn d hs = (about d).is_world ≡ false → map function_view hs ≡ flat_map part_functions (about d).parts
-
--- where there are functions, the names on the sides are those of types, and then theirs
-abbrev pub AreNamesInUse : Sides → List Id → List BorrowedFunction → Type 0
-AreNamesInUse in_use ids hs = 0 < length hs → AreNamesOf in_use ids (map SideFunction (map function_view hs))
 
 -- the names of an item were added, which are these, and then these types
 abbrev pub HasTurn : ResolvedNames → List TypeDef → Item → List TypeDef → List ResolvedScope → TypeOwner → Type 0

@@ -4,5 +4,4 @@ pub mod Body
 pub mod ReachedFaults
 pub mod NewRequirements
 pub mod NameOrder
-pub mod Uses
 pub mod UseFaults

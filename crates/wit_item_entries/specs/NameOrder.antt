@@ -1,9 +1,6 @@
 -- The names of a scope in the order in which they are resolved.
 use Rattle.std.specs.Prelude.{◌≡◌, ℕ, List, map}
-use Rattle.wit_type_tree.specs.declared.leaves.Id.{Id}
-use Rattle.wit_graph.specs.Table.{IsOrder}
-use Rattle.wit_syntax.specs.Source.{ScopeName, local_id}
-use Rattle.wit_syntax.specs.ScopeTables.{rows_of, in_turn, AreDistinct}
+use Rattle.wit_arena.specs.Common.{AreDistinct, Id, IsOrder, ScopeName, in_turn, local_id, rows_of}
 
 -- these are the names of a scope as they are resolved
 pub record IsTurn (xs : List ScopeName) (ids : List Id) : Type 0 where

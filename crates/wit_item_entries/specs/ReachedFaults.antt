@@ -1,21 +1,11 @@
 -- The first fault of the names of a scope and of its definitions, E12 to E16, E19 to E27 and E30 to E35, by where names end in the arena as far as it came.
 use Rattle.std.specs.Prelude.{◌≡◌, ◌++◌, ℕ, List, [], Option, Result, map, take}
-use Rattle.std.specs.List.{flat_map}
-use Rattle.std.specs.Option.{option_or}
-use Rattle.wit_type_tree.specs.declared.error.ParseError.{ParseError}
-use Rattle.wit_type_tree.specs.declared.leaves.Id.{Id}
-use Rattle.wit_types.specs.declared.types.TypeDef.{TypeDef}
-use Rattle.wit_types.specs.declared.types.TypeOwner.{TypeOwner}
-use Rattle.wit_syntax.specs.Address.{Address}
-use Rattle.wit_syntax.specs.Fault.{Fault, missing_type_at, cyclic_at, type_word}
-use Rattle.wit_syntax.specs.ScopeTables.{AreDistinct, defined, in_order, in_turn, rows_of, used}
-use Rattle.wit_syntax.specs.Source.{Item, ScopeName, about, local_id}
+use Rattle.wit_arena.specs.Common.{Address, AreDistinct, Defines, Fault, Id, Item, Names, ParseError, ResolvedScope, ScopeName, TypeDef, TypeOwner, about, cyclic_at, defined, env_of, flat_map, in_order, in_turn, local_id, missing_type_at, option_or, rows_of, type_word, used}
 use Rattle.wit_first.specs.AttributeFaults.{stability_fault}
 use Rattle.wit_first.specs.First.{Finds, first_in}
 use Rattle.wit_first.specs.NameFaults.{local_names_fault}
 use Rattle.wit_walk.specs.Definitions.{definition_fault}
 use Rattle.wit_walk.specs.Orders.{InOrder, Outcome, IsOutcome, order_fault, order_of}
-use Rattle.wit_arena.specs.Resolving.{Defines, Names, ResolvedScope, env_of}
 use Rattle.wit_entries.specs.declared.scope.Scope.{Scope}
 use Rattle.wit_externs.specs.AloneFaults.{EndsIn}
 use Rattle.wit_scopes.specs.BorrowedNames.{Borrowed, name_view, own_use}

@@ -1,14 +1,8 @@
 -- The first fault of the names that a scope uses, by the interfaces that are resolved: E7, E12, E13 and E14.
 use Rattle.std.specs.Prelude.{ℕ, if◌then◌else◌, List, [], Option, None, Some, is_some, slice_get}
-use Rattle.std.specs.List.{list_any}
-use Rattle.std.specs.Option.{option_and_then, option_map_or, option_or}
+use Rattle.wit_arena.specs.Common.{Fault, Id, Interface, Names, env_of, free_functions, function_used, list_any, local_id, local_name, missing_at, name_twice, name_word, option_and_then, option_map_or, option_or}
 use Rattle.std.specs.Str.{bytes_eq}
-use Rattle.wit_type_tree.specs.declared.leaves.Id.{Id}
-use Rattle.wit_model.specs.declared.interface.Interface.{Interface}
-use Rattle.wit_syntax.specs.Fault.{Fault, missing_at, name_word, function_used, name_twice}
-use Rattle.wit_syntax.specs.Source.{local_id, local_name}
 use Rattle.wit_first.specs.First.{first_after, repeat_of}
-use Rattle.wit_arena.specs.Resolving.{Names, env_of, free_functions}
 use Rattle.wit_entries.specs.EntryFaults.{unless_found}
 use Rattle.wit_scopes.specs.BorrowedNames.{use_view}
 use Rattle.wit_scopes.specs.declared.scope_name.UsedName.{UsedName}

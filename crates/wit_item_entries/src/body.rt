@@ -1,18 +1,22 @@
 //! What is stated of an item and its names, the same of an interface and of a world, and the functions of an
 //! interface.
-ghost use Rattle.std.specs.Prelude.{◌≡◌, IfOk, OnOk, map};
+ghost use Rattle.std.specs.Prelude.{◌≡◌, ◌<◌, IfOk, OnOk, length, map};
 ghost use Rattle.wit_syntax.specs.Function.{functions};
 ghost use Rattle.wit_syntax.specs.Source.{scope_names as the_names, declared_metadata};
+ghost use Rattle.wit_syntax.specs.Sides.{SideFunction};
+ghost use Rattle.wit_arena.specs.Resolving.{env_of};
 ghost use Rattle.wit_entries.specs.Requiring.{IsExtended};
 ghost use Rattle.wit_rules.specs.BorrowedFunctions.{function_view};
+ghost use Rattle.wit_externs.specs.Clash.{AreNamesOf};
+ghost use Rattle.wit_externs.specs.AloneFaults.{FindsIn};
 ghost use Rattle.wit_scopes.specs.BorrowedNames.{name_view};
 ghost use Rattle.wit_scopes.specs.PlacedNames.{AreNamesPlaced};
 ghost use Rattle.wit_items.specs.BorrowedItems.{scope_item};
 ghost use Rattle.wit_items.specs.SourceItems.{AreOf};
 ghost use Rattle.wit_items.specs.ForeignAddresses.{prefix_of};
 ghost use Rattle.wit_items.specs.ResolvedInterfaces.{resolved_scopes_of};
-ghost use Rattle.wit_item_entries.specs.Body.{AddsMade, AreNamesInUse, HasTurn, IsTurned};
-ghost use Rattle.wit_item_entries.specs.ScopeFunctionFaults.{FindsSigned};
+ghost use Rattle.wit_item_entries.specs.Body.{AddsMade, HasTurn, IsTurned};
+ghost use Rattle.wit_item_entries.specs.ScopeFunctionFaults.{functions_fault};
 ghost use Rattle.wit_item_entries.specs.ReachedFaults.{FindsNames, item_stability};
 
 use crate::functions::{interface_functions, written_results};
@@ -85,9 +89,9 @@ pub fn resolve_item_functions<'t, 'a>(
     requires { IsTurned item.now names.now turn.now }
     ensures written { IfOk result (λ own. map function_view own.written.items ≡ functions (scope_item item.now)) }
     ensures adds { IfOk result (λ own. AddsMade names.now turn.now types.old types.new (scope_item item.now) own.functions.items required.old.items required.new.items) }
-    ensures in_use { IfOk result (λ own. AreNamesInUse own.in_use turn.now own.written.items) }
+    ensures in_use { IfOk result (λ own. 0 < length own.written.items → AreNamesOf own.in_use turn.now (map SideFunction (map function_view own.written.items))) }
     ensures extended { IsExtended types.old types.new }
-    ensures first { FindsSigned names.now types.new (map name_view item.now.names.now) turn.now (functions (scope_item item.now)) result }
+    ensures first { FindsIn (env_of names.now) types.new (λ handle. functions_fault handle (map name_view item.now.names.now) turn.now (functions (scope_item item.now))) result }
 {
     let alloc = *names.allocator();
     let written = interface_functions(alloc, &item.declared)?;

@@ -1,6 +1,6 @@
 -- Headers that have docs, one header more, and the first of them.
 use Rattle.std.proofs.Common.{◌≡◌, Bool, true, false, not, ℕ, zero, suc, ◌+◌, List, [], ◌∷◌, ◌++◌, length, Option, Some, None, Bor, inl, inr, refl, sym, ap, ◌∙◌, arith}
-use Rattle.wit_syntax.proofs.Common.{Fault, IsDocumented, IsSecondDocs, PackageFile, at_contains, cases_Bool, cons_option, contains_at, fault, headers, if◌then◌else◌, ne_eqb, option_to_list, slice_get, ◌&&◌, ◌==◌, ◌||◌}
+use Rattle.wit_arena.proofs.Common.{Fault, IsDocumented, IsSecondDocs, PackageFile, at_contains, cases_Bool, cons_option, contains_at, fault, headers, if◌then◌else◌, ne_eqb, option_to_list, slice_get, ◌&&◌, ◌==◌, ◌||◌}
 use Rattle.wit_tree.specs.declared.tree.PackageName.{PackageName as Header}
 use Rattle.wit_first.specs.HeaderFaults.{is_documented, have_docs, second_docs_fault}
 use Rattle.wit_first.specs.Laws.{Agrees}

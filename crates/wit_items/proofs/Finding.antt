@@ -1,6 +1,6 @@
 -- Where a path leads, by the table of items.
 use Rattle.std.proofs.Common.{◌≡◌, ℕ, ◌<◌, Bool, List, [], ◌∷◌, length, Option, Some, None, inl, inr, refl, sym, ap, ◌∙◌, arith, Bor}
-use Rattle.wit_syntax.proofs.Common.{Id, Item, Local, PackageFile, Row, Target, all_items, bytes_eq, cases_Bool, find, is_world, is_world_at, item_name, item_named, item_row, item_rows, item_word, length-map, ltb-false, ltb-true, map, map_at, missing_at, name_cases, nat_lt, option_copied, option_map, place_of, position, position-Some, position_or_len, slice_get, slice_get_past, slice_get_read, target}
+use Rattle.wit_arena.proofs.Common.{Id, Item, Local, PackageFile, Row, Target, all_items, bytes_eq, cases_Bool, find, is_world, is_world_at, item_name, item_named, item_row, item_rows, item_word, length-map, ltb-false, ltb-true, map, map_at, missing_at, name_cases, nat_lt, option_copied, option_map, place_of, position, position-Some, position_or_len, slice_get, slice_get_past, slice_get_read, target}
 use Rattle.std.specs.Slice.{IsItemAt}
 use Rattle.std.proofs.lemmas.List.Folds.{find_at}
 use Rattle.wit_first.specs.FileFaults.{lost_fault}

@@ -1,6 +1,6 @@
 -- Declared items that are borrowed with all their names, one more.
 use Rattle.std.proofs.Common.{◌≡◌, List, [], ◌∷◌, ◌++◌, inl, inr, sym, subst}
-use Rattle.wit_syntax.proofs.Common.{PackageFile, at_either}
+use Rattle.wit_arena.proofs.Common.{PackageFile, at_either}
 use Rattle.wit_items.specs.declared.items.Item.{Item}
 use Rattle.wit_items.specs.Gathered.{AreItemsOf, IsItemOf}
 

@@ -9,3 +9,4 @@ pub mod Others
 mod PlacedNames
 pub mod UsableNames
 pub mod WrittenNames
+pub mod Common

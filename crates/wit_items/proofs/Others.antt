@@ -1,7 +1,7 @@
 -- Paths to items of other packages, and the entries of those items.
 use Rattle.std.proofs.Common.{◌≡◌, ℕ, zero, suc, ◌+◌, ◌≤◌, Bool, true, false, not, cond, List, [], ◌∷◌, length, Option, Some, None, inl, inr, refl, sym, ap, ◌∙◌, arith}
-use Rattle.wit_syntax.proofs.Common.{Address, Attribute, Contains, DefinitionPart, Extern, ExternPart, Foreign, ForeignNamed, ForeignVisit, FunctionPart, Id, IncludePart, Item, Local, PackageFile, PackageName, Part, Target, Use as WrittenUse, UsePart, UsePath, WorldNamed, all_items, at_back, at_contains, at_side, at_split, cases_Bool, extern_paths, extern_visits, find, find_at, find_passes, find_some, flat_map, flat_map_at, flat_map_has, foreign_at, foreign_interfaces, foreign_items, foreign_worlds, inline_uses, is_world_at, kept_has, leads, map, map_at, option_map, part_visits, parts, path_visits, same_address, same_address-equal, same_address-from, same_item, side_itself, slice_get, slice_get-map, target_scope, use_path, visited, walk}
-use Rattle.wit_arena.proofs.Common.{AstItem, IsVisited, Names, World, env_of, foreign_entry, foreign_place, leads_visited, part_use_at, path_among, path_visited, side_has, visit_listed, worlds_at}
+use Rattle.wit_arena.proofs.Common.{Address, AstItem, Attribute, Contains, DefinitionPart, Extern, ExternPart, Foreign, ForeignNamed, ForeignVisit, FunctionPart, Id, IncludePart, IsVisited, Item, Local, Names, PackageFile, PackageName, Part, Target, UsePart, UsePath, World, WorldNamed, all_items, at_back, at_contains, at_side, at_split, cases_Bool, env_of, extern_paths, extern_visits, find, find_at, find_passes, find_some, flat_map, flat_map_at, flat_map_has, foreign_at, foreign_entry, foreign_interfaces, foreign_items, foreign_place, foreign_worlds, inline_uses, is_world_at, kept_has, leads, leads_visited, map, map_at, option_map, part_use_at, part_visits, parts, path_among, path_visited, path_visits, same_address, same_address-equal, same_address-from, same_item, side_has, side_itself, slice_get, slice_get-map, target_scope, use_path, visit_listed, visited, walk, worlds_at}
+use Rattle.wit_syntax.proofs.Common.{Use as WrittenUse}
 use Rattle.wit_model.specs.declared.ast_item.AstItem.TheVariants as entry
 use Rattle.wit_files.specs.FileNames.{found_at, top_at}
 use Rattle.wit_files.specs.declared.file_names.Found.{Found}

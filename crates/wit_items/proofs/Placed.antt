@@ -1,6 +1,6 @@
 -- Names of what is written in an item, and the interfaces of other packages at their places.
 use Rattle.std.proofs.Common.{◌≡◌, List, []}
-use Rattle.wit_syntax.proofs.Common.{Address, All, All-nil, Exported, Imported, WorldSide}
+use Rattle.wit_arena.proofs.Common.{Address, All, All-nil, Exported, Imported, WorldSide}
 use Rattle.wit_items.specs.declared.items.Item.{Item}
 use Rattle.wit_items.specs.InlineNames.{inside_of}
 use Rattle.wit_items.specs.PlacedItems.{ArePlacedInside}

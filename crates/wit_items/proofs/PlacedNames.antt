@@ -1,6 +1,6 @@
 -- Names of scopes, and the interfaces of other packages at their places.
 use Rattle.std.proofs.Common.{◌≡◌, ℕ, List, [], ◌∷◌, ◌++◌, refl, sym, ap, ◌∙◌}
-use Rattle.wit_syntax.proofs.Common.{All, All-push, InterfaceNamed, PackageFile, Part, map, part_names, target_scope}
+use Rattle.wit_arena.proofs.Common.{All, All-push, InterfaceNamed, PackageFile, Part, map, part_names, target_scope}
 use Rattle.wit_top_names.proofs.Lost.{flat_more}
 use Rattle.wit_files.specs.FileNames.{top_at}
 use Rattle.wit_scopes.specs.declared.scope_name.Source.{Source}

@@ -1,13 +1,12 @@
 -- Items of files, and the first fault of their uses.
 use Rattle.std.proofs.Common.{◌≡◌, ℕ, Bool, true, false, List, [], ◌∷◌, Option, Some, None, refl, sym, ap, ◌∙◌, subst, Contains}
-use Rattle.wit_syntax.proofs.Common.{AstItem, Declared, Foreign, ForeignNamed, ForeignVisit, Id, Item, Local, PackageFile, PackageName, Target, UsePath, all_items, at_contains, contains_at, declared_items, file_items, flat_map, foreign_at, is_world, is_world_at, item_named, item_word, leads, missing_at, option_map, parts, path_id, slice_get, slice_get_within, top_names}
-use Rattle.wit_arena.proofs.Common.{AreUsableUses}
+use Rattle.wit_syntax.proofs.Common.{AstItem}
+use Rattle.wit_arena.proofs.Common.{AreUsableUses, Declared, Foreign, ForeignNamed, ForeignVisit, Id, Item, Local, PackageFile, PackageName, Target, UsePath, all_items, at_contains, contains_at, declared_items, file_items, flat_map, flat_map_has, foreign_at, is_world, is_world_at, item_named, item_word, leads, missing_at, option_map, parts, path_id, slice_get, slice_get_within, top_names}
 use Rattle.wit_first.specs.AttributeFaults.{metadata_fault}
 use Rattle.wit_first.specs.FileFaults.{lost_fault}
 use Rattle.wit_first.specs.UseFaults.{all_uses_fault, item_uses_fault, path_fault, reached_fault}
 use Rattle.wit_first.proofs.Bridge.{in_only, or_none_both}
 use Rattle.wit_first.proofs.FileFaults.{lost_at}
-use Rattle.wit_top_names.proofs.Lost.{at_flat}
 use Rattle.wit_files.specs.FileNames.{names_at_top, top_at}
 use Rattle.wit_items.specs.declared.items.Item.{Item as Borrowed}
 use Rattle.wit_items.specs.ItemPaths.{HasItem, HasPath}
@@ -26,14 +25,14 @@ filed_item files i filed = record {
 -- what one of a list alone brings is among what the list brings
 pub declared_among : {X A : Type 0} (of : X → List A) (xs : List X) (i : ℕ) (x : X) (a : A) → slice_get xs i ≡ Some x → of x ≡ a ∷ [] → Contains (flat_map of xs) a
 declared_among of xs i x a at only =
-    let it = at_flat of xs i 0 x a at (ap (λ l. slice_get l 0) only) in
+    let it = flat_map_has of xs i 0 x a at (ap (λ l. slice_get l 0) only) in
     contains_at (flat_map of xs) it.0 a it.1
 
 -- an item of a file is one of all files
 pub item_among : (files : List PackageFile) (k : ℕ) (file : PackageFile) (i : Item) → slice_get files k ≡ Some file → Contains (file_items file) i → Contains (all_items files) i
 item_among files k file i at among =
     let j = at_contains (file_items file) i among in
-    let it = at_flat file_items files k j.0 file i at j.1 in
+    let it = flat_map_has file_items files k j.0 file i at j.1 in
     contains_at (all_items files) it.0 i it.1
 
 pub item_here : (files : List PackageFile) (place : ℕ) (file : PackageFile) (d : Declared) → slice_get files place ≡ Some file → Contains (file_items file) (record { top = top_names file; declared = d }) → HasItem files place d

@@ -1,7 +1,8 @@
 -- The paths of uses, part by part.
 use Rattle.std.proofs.Common.{◌≡◌, ℕ, zero, suc, List, [], ◌∷◌, ◌++◌, Some, sym, ap, ◌∙◌, arith, Contains}
-use Rattle.wit_syntax.proofs.Common.{Declared, DefinitionPart, ExternPart, FunctionPart, IncludePart, PackageFile, Part, Use as WrittenUse, UsePart, UsePath, about, at_contains, at_prefix, contains_at, extern_paths, flat_map, flat_map_at, flat_map_has, inline_uses, map, map-append, option_map, part_uses, parts, slice_get, slice_get-map, use_path}
-use Rattle.wit_top_names.proofs.Lost.{at_flat, flat_more}
+use Rattle.wit_arena.proofs.Common.{Declared, DefinitionPart, ExternPart, FunctionPart, IncludePart, PackageFile, Part, UsePart, UsePath, about, at_contains, at_prefix, contains_at, extern_paths, flat_map, flat_map_at, flat_map_has, inline_uses, map, map-append, option_map, part_uses, parts, slice_get, slice_get-map, use_path}
+use Rattle.wit_syntax.proofs.Common.{Use as WrittenUse}
+use Rattle.wit_top_names.proofs.Lost.{flat_more}
 use Rattle.wit_items.specs.ItemPaths.{HasItem, HasPath}
 
 -- what is in a list of one is that one
@@ -13,7 +14,7 @@ contains_one x y (suc k, lt, is) = absurd (let f : ⊥ = omega arith in f)
 pub among_flat : {X A : Type 0} (of : X → List A) (xs : List X) (i : ℕ) (x : X) (a : A) → slice_get xs i ≡ Some x → Contains (of x) a → Contains (flat_map of xs) a
 among_flat of xs i x a at among =
     let k = at_contains (of x) a among in
-    let it = at_flat of xs i k.0 x a at k.1 in
+    let it = flat_map_has of xs i k.0 x a at k.1 in
     contains_at (flat_map of xs) it.0 a it.1
 
 -- what parts bring, one more

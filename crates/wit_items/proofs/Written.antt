@@ -1,23 +1,17 @@
 -- The uses and the names of interfaces that are written in a world: those of its parts on each side.
 use Rattle.std.proofs.Common.{◌≡◌, ℕ, List, [], ◌∷◌, ◌++◌, Some, None, refl, sym, ap, ◌∙◌, Contains}
-use Rattle.wit_syntax.proofs.Common.{DefinitionPart, Exported, Extern, ExternPart, FunctionPart, Imported, IncludePart, Interface, InterfaceItem, Item, PackageFile, Part, TheInterface, TopName, Use as WrittenUse, UsePart, WorldSide, append-nil, at_contains, contains_at, flat_map, flat_map_at, inline_uses, interface_part, item_uses, map, option_or, part_uses, side_itself, slice_get, walk, own_uses}
+use Rattle.wit_arena.proofs.Common.{DefinitionPart, Exported, Extern, ExternPart, FunctionPart, Imported, IncludePart, InterfaceItem, Item, PackageFile, Part, TheInterface, TopName, UsePart, WorldSide, append-nil, at_contains, contains_at, flat_map, flat_map_at, inline_uses, interface_part, item_uses, map, option_or, own_uses, part_uses, side_itself, slice_get, walk}
+use Rattle.wit_syntax.proofs.Common.{Interface, Use as WrittenUse}
 use Rattle.wit_tree.specs.declared.tree.InterfaceItem.TheVariants as interface_item
 use Rattle.wit_first.specs.UseFaults.{item_uses_fault, use_fault}
 use Rattle.wit_first.proofs.Bridge.{in_only, or_none_both}
 use Rattle.wit_first.proofs.First.{in-append}
 use Rattle.wit_scopes.specs.BorrowedNames.{name_view}
 use Rattle.wit_items.specs.declared.items.Item.{Item as Borrowed}
-use Rattle.wit_items.specs.NamesInside.{written_items, side_uses}
-use Rattle.wit_items.specs.InlineNames.{names_written, inside_view}
+use Rattle.wit_items.specs.InlineNames.{names_written, inside_view, written_items, side_uses}
 use Rattle.wit_items.proofs.UsableNames.{among_flat}
 use Rattle.wit_items.proofs.WrittenNames.{items_names, names_written_in}
 use Rattle.wit_first.specs.First.{first_in}
-
-pub items_uses : (xs : List InterfaceItem) → flat_map part_uses (map interface_part xs) ≡ flat_map item_uses xs
-items_uses [] = refl
-items_uses (interface_item.TypeDef d ∷ xs) = items_uses xs
-items_uses (interface_item.Use u ∷ xs) = ap (λ l. u ∷ l) (items_uses xs)
-items_uses (interface_item.Func f ∷ xs) = items_uses xs
 
 -- of an interface, whose parts bring nothing on a side, those of an item are those of its parts
 own_items : (xs : List InterfaceItem) → flat_map own_uses (map interface_part xs) ≡ flat_map item_uses xs

@@ -1,9 +1,10 @@
 -- The uses and the names of interfaces that are written in a world: those of its parts on each side.
 use Rattle.std.proofs.Common.{◌≡◌, Bool, cond, List, [], ◌∷◌, ◌++◌, inl, inr, refl, sym, ap, ◌∙◌, Contains}
-use Rattle.wit_syntax.proofs.Common.{DefinitionPart, ExternKind, ExternPart, FunctionPart, IncludePart, InterfaceItem, Part, ScopeName, SideFunction, SideItem, SourceFunction, TopName, Use as WrittenUse, UsePart, WorldSide, append-nil, at_contains, cases_Bool, definition_functions, extern_items, filter-append, flat_map, flat_map-append, free_function, inline_uses, interface_part, item_side, item_uses, items_on, map, map-append, part_items, part_names, part_uses, same_side, own_uses}
+use Rattle.wit_arena.proofs.Common.{DefinitionPart, ExternKind, ExternPart, FunctionPart, IncludePart, InterfaceItem, Part, ScopeName, SideFunction, SideItem, SourceFunction, TopName, UsePart, WorldSide, append-nil, at_contains, cases_Bool, definition_functions, extern_items, filter-append, flat_map, flat_map-append, free_function, inline_uses, interface_part, item_side, item_uses, items_on, map, map-append, own_uses, part_items, part_names, part_uses, same_side}
+use Rattle.wit_syntax.proofs.Common.{Use as WrittenUse}
 use Rattle.wit_tree.specs.declared.tree.ExternKind.TheVariants as extern
 use Rattle.wit_tree.specs.declared.tree.InterfaceItem.TheVariants as interface_item
-use Rattle.wit_items.specs.NamesInside.{inline_names, kind_items, written_items, side_uses}
+use Rattle.wit_items.specs.InlineNames.{inline_names, kind_items, written_items, side_uses}
 
 -- the uses of a part of an interface are its own
 pub item_own : (x : InterfaceItem) → own_uses (interface_part x) ≡ item_uses x

@@ -1,9 +1,6 @@
 -- Declared items that are borrowed.
 use Rattle.std.specs.Prelude.{◌≡◌, List, Some, Contains, map, slice_get}
-use Rattle.wit_tree.specs.declared.tree.PackageFile.{PackageFile}
-use Rattle.wit_syntax.specs.Address.{Address}
-use Rattle.wit_syntax.specs.Source.{top_names, Declared, TheInterface, TheWorld, TheInline, Item, all_items, ScopeName}
-use Rattle.wit_syntax.specs.Foreign.{visited, foreign_worlds}
+use Rattle.wit_arena.specs.Common.{Address, Declared, Item, PackageFile, ScopeName, TheInline, TheInterface, TheWorld, all_items, foreign_worlds, top_names, visited}
 use Rattle.wit_items.specs.declared.items.Declared.{Declared as BorrowedDeclared}
 use Rattle.wit_items.specs.declared.items.Declared.TheVariants as borrowed_item
 use Rattle.wit_items.specs.declared.items.Item.{Item as Borrowed}

@@ -1,8 +1,7 @@
 -- The header of the file at a place.
 use Rattle.std.specs.Prelude.{ℕ, List, Option, slice_get}
-use Rattle.std.specs.Option.{option_and_then}
+use Rattle.wit_arena.specs.Common.{PackageFile, option_and_then}
 use Rattle.wit_tree.specs.declared.tree.PackageName.{PackageName as Header}
-use Rattle.wit_tree.specs.declared.tree.PackageFile.{PackageFile}
 
 -- none, where there is no such place or the file has none
 abbrev pub header_at : List PackageFile → ℕ → Option Header

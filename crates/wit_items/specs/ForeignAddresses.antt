@@ -1,8 +1,6 @@
 -- The addresses of other packages' interfaces, which come first.
 use Rattle.std.specs.Prelude.{List, map}
-use Rattle.wit_tree.specs.declared.tree.PackageFile.{PackageFile}
-use Rattle.wit_syntax.specs.Foreign.{visited, foreign_interfaces}
-use Rattle.wit_syntax.specs.Address.{Address}
+use Rattle.wit_arena.specs.Common.{Address, PackageFile, foreign_interfaces, visited}
 
 -- those of other packages whose interfaces files name
 abbrev pub prefix_of : List PackageFile → List Address

@@ -1,9 +1,6 @@
 -- Items of an arena that are found by their names.
 use Rattle.std.specs.Prelude.{◌≡◌, ◌≤◌, ℕ, List, Option, Some, slice_get}
-use Rattle.std.specs.Option.{option_and_then}
-use Rattle.wit_model.specs.declared.interface.Interface.{Interface}
-use Rattle.wit_model.specs.declared.world.World.{World}
-use Rattle.wit_arena.specs.Resolving.{Names, env_of}
+use Rattle.wit_arena.specs.Common.{Interface, Names, World, env_of, option_and_then}
 
 -- the name of an interface, if it has one, and that of a world
 abbrev pub interface_name : Interface → Option (List ℕ)

@@ -1,17 +1,7 @@
 -- Parts of items that are borrowed, and where their paths to interfaces lead.
 use Rattle.std.specs.Prelude.{◌≡◌, ℕ, ◌<◌, length, List, Option, Some, None, Contains, map}
-use Rattle.std.specs.List.{flat_map}
-use Rattle.std.specs.Option.{option_map}
-use Rattle.wit_tree.specs.declared.tree.UsePath.{UsePath}
-use Rattle.wit_tree.specs.declared.tree.PackageFile.{PackageFile}
-use Rattle.wit_model.specs.declared.ast_item.AstItem.{AstItem}
+use Rattle.wit_arena.specs.Common.{AstItem, Declared, DefinitionPart, ExternPart, Foreign, ForeignNamed, FunctionPart, IncludePart, Item, Local, Names, PackageFile, Part, Target, UsePart, UsePath, about, all_items, env_of, flat_map, foreign_at, foreign_entry, foreign_items, option_map, package_of, use_path}
 use Rattle.wit_model.specs.declared.ast_item.AstItem.TheVariants as entry
-use Rattle.wit_syntax.specs.Address.{ForeignNamed, package_of}
-use Rattle.wit_syntax.specs.Source.{Target, Local, Foreign, Declared, Item, Part, DefinitionPart, UsePart, IncludePart, FunctionPart, ExternPart, all_items, about}
-use Rattle.wit_syntax.specs.ScopeTables.{use_path}
-use Rattle.wit_syntax.specs.Foreign.{foreign_at, foreign_items}
-use Rattle.wit_arena.specs.Whole.{foreign_entry}
-use Rattle.wit_arena.specs.Resolving.{Names, env_of}
 use Rattle.wit_files.specs.FileNames.{top_at}
 use Rattle.wit_items.specs.ForeignAddresses.{prefix_of}
 use Rattle.wit_items.specs.declared.part_names.Part.{Part as BorrowedPart}

@@ -7,5 +7,4 @@ pub mod ResolvedInterfaces
 pub mod Found
 pub mod Gathered
 pub mod ItemPaths
-pub mod NamesInside
 pub mod ForeignAddresses

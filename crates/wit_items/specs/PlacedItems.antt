@@ -1,11 +1,6 @@
 -- Items whose names, and those of what is written in them, are placed.
 use Rattle.std.specs.Prelude.{◌≡◌, ℕ, All, List, Vec, map}
-use Rattle.std.specs.declared.alloc.Global.{Global}
-use Rattle.std.specs.List.{flat_map}
-use Rattle.wit_tree.specs.declared.tree.PackageFile.{PackageFile}
-use Rattle.wit_tree.specs.declared.tree.WorldSide.{WorldSide}
-use Rattle.wit_syntax.specs.Address.{Address}
-use Rattle.wit_syntax.specs.Source.{Part, part_names}
+use Rattle.wit_arena.specs.Common.{Address, Global, PackageFile, Part, WorldSide, flat_map, part_names}
 use Rattle.wit_files.specs.FileNames.{top_at}
 use Rattle.wit_items.specs.ForeignAddresses.{prefix_of}
 use Rattle.wit_items.specs.InlineNames.{inside_of}

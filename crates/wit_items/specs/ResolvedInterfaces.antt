@@ -1,9 +1,7 @@
 -- The interfaces that are resolved, as scopes that names are used from.
 use Rattle.std.specs.Prelude.{ℕ, if◌then◌else◌, is_none, List, None, Option, Some}
-use Rattle.wit_syntax.specs.Fault.{Fault, item_word, missing_at}
-use Rattle.wit_syntax.specs.Source.{Foreign, Local, Target}
+use Rattle.wit_arena.specs.Common.{Fault, Foreign, Local, Names, ResolvedScope, Target, env_of, item_word, missing_at, resolved_scopes}
 use Rattle.wit_items.specs.declared.interfaces.Interfaces.{Interfaces}
-use Rattle.wit_arena.specs.Resolving.{Names, ResolvedScope, env_of, resolved_scopes}
 use Rattle.wit_scopes.specs.declared.scope_name.Source.{Source}
 use Rattle.wit_scopes.specs.declared.scope_name.Source.TheVariants as source
 use Rattle.wit_items.specs.ForeignAddresses.{prefix_of}

@@ -1,6 +1,6 @@
 -- What is stated of an item, as it is borrowed.
 use Rattle.std.specs.Prelude.{◌≡◌, None}
-use Rattle.wit_syntax.specs.Metadata.{Metadata}
+use Rattle.wit_arena.specs.Common.{Metadata}
 use Rattle.wit_items.specs.declared.metadata.ItemMetadata.{ItemMetadata}
 
 -- an item has no name elsewhere

@@ -14,7 +14,7 @@ use wit_tree::tree::UsePath;
 /// The files of a package, by their names, with the entries of other packages' items.
 ///
 /// Contracts see the list of the files.
-pub struct Files<'n, 'e, 'f, 'a> {
+pub struct Files<'f, 'a, 'n, 'e> {
     names: &'n FileNames<'f, 'a>,
     entries: &'e [Entry],
 }
@@ -28,7 +28,7 @@ impl Drop for Files<'_, '_, '_, '_> {
     }
 }
 
-impl<'n, 'e, 'f, 'a> Model for Files<'n, 'e, 'f, 'a> {
+impl<'f, 'a, 'n, 'e> Model for Files<'f, 'a, 'n, 'e> {
     ghost use Rattle.std.specs.Prelude.{List, []};
     ghost use Rattle.wit_tree.specs.declared.tree.PackageFile.{PackageFile};
     ghost use Rattle.wit_items.specs.ItemPaths.{AreEntriesOf};
@@ -45,7 +45,7 @@ impl<'n, 'e, 'f, 'a> Model for Files<'n, 'e, 'f, 'a> {
     ghost invariant = { λ f. AreEntriesOf f.names.now f.entries.now };
 }
 
-impl<'n, 'e, 'f, 'a> Files<'n, 'e, 'f, 'a> {
+impl<'f, 'a, 'n, 'e> Files<'f, 'a, 'n, 'e> {
     /// The files with these names, where these are the entries of other packages' items.
     pub fn of(names: &'n FileNames<'f, 'a>, entries: &'e [Entry]) -> Self
         requires { AreEntriesOf names.now entries.now }

@@ -7,9 +7,8 @@ ghost use Rattle.wit_first.specs.First.{Finds, first_in};
 ghost use Rattle.wit_first.specs.UseFaults.{use_fault};
 ghost use Rattle.wit_files.specs.FileNames.{top_at};
 ghost use Rattle.wit_items.specs.ForeignAddresses.{prefix_of};
-ghost use Rattle.wit_items.specs.InlineNames.{names_written};
+ghost use Rattle.wit_items.specs.InlineNames.{names_written, kind_items, side_uses, written_items};
 ghost use Rattle.wit_items.specs.ItemPaths.{HasItem, item_in};
-ghost use Rattle.wit_items.specs.NamesInside.{kind_items, side_uses, world_parts, written_items};
 ghost use Rattle.wit_items.specs.PlacedItems.{ArePlacedInside};
 ghost use Rattle.wit_scopes.specs.BorrowedNames.{name_view};
 
@@ -52,20 +51,20 @@ fn written_on<'f, 'a>(part: &'f WorldItem<'a>, side: WorldSide) -> Option<&'f [I
 /// order.
 pub fn names_inside<'f, 'a>(
     alloc: Global,
-    files: &Files<'_, '_, 'f, 'a>,
     world: &'f World<'a>,
+    files: &Files<'f, 'a, '_, '_>,
     side: WorldSide,
     place: usize,
 ) -> ParseResult<Vec<Vec<ScopeName<'f, 'a>>>>
     requires item { HasItem files.now place (TheWorld world.now) }
     ensures names { IfOk result (λ inside. map (λ ns. map name_view ns.items) inside.items ≡ names_written side (item_in files.now place (TheWorld world.now))) }
     ensures placed { IfOk result (λ inside. ArePlacedInside (prefix_of files.now) inside.items) }
-    ensures first { Finds (first_in (use_fault files.now (top_at files.now place)) (flat_map (side_uses side) (world_parts world.now))) result }
+    ensures first { Finds (first_in (use_fault files.now (top_at files.now place)) (flat_map (side_uses side) (map the_world_part world.now.items.items))) result }
 {
     let mut inside = Vec::new(alloc);
     for part in world_items(world) {
         if let Some(items) = written_on(part, side) {
-            inside.push(interface_names(alloc, files, items, place)?)?;
+            inside.push(interface_names(alloc, items, files, place)?)?;
         }
     }
     Ok(inside)

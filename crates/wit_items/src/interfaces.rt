@@ -12,7 +12,7 @@ use wit_types::{Arena, InterfaceId, InterfacePlace};
 /// is found by a name has that name, and is after those of other packages.
 #[derive(Drop)]
 pub struct Interfaces<'n, 'e, 'f, 'a> {
-    pub files: Files<'n, 'e, 'f, 'a>,
+    pub files: Files<'f, 'a, 'n, 'e>,
     /// The interfaces of other packages come first in it.
     pub arena: Arena<Interface, InterfacePlace>,
     pub by_name: TextTable<InterfaceId>,

@@ -1,10 +1,11 @@
 //! The declared items of all files, each with the names of its scope.
 ghost use Rattle.std.specs.Prelude.{◌≡◌, ◌++◌, Some, map, slice_get, IfOk, OnOk};
-ghost use Rattle.wit_syntax.specs.Source.{file_items, all_items};
+ghost use Rattle.wit_syntax.specs.Source.{TheWorld, file_items, all_items};
 ghost use Rattle.wit_first.specs.First.{Finds, first_in};
 ghost use Rattle.wit_first.specs.UseFaults.{all_uses_fault, item_uses_fault};
 ghost use Rattle.wit_items.specs.BorrowedItems.{item_view, scope_item};
-ghost use Rattle.wit_items.specs.Gathered.{AreItemsOf};
+ghost use Rattle.wit_items.specs.Gathered.{AreItemsOf, AreWorldNames};
+ghost use Rattle.wit_items.specs.ItemPaths.{HasItem, item_in};
 
 use crate::files::Files;
 use crate::inline_names::names_inside;
@@ -94,11 +95,37 @@ impl<'f, 'a> Item<'f, 'a> {
     }
 }
 
+/// The names of the scope of a world, and those of each interface that is written in it, by its side.
+#[derive(Drop)]
+struct WorldNames<'f, 'a> {
+    own: Vec<ScopeName<'f, 'a>>,
+    imported: Vec<Vec<ScopeName<'f, 'a>>>,
+    exported: Vec<Vec<ScopeName<'f, 'a>>>,
+}
+
+/// Those of a world that the file at a place declares.
+fn names_of_world<'f, 'a>(
+    alloc: Global,
+    world: &'f World<'a>,
+    files: &Files<'f, 'a, '_, '_>,
+    place: usize,
+) -> ParseResult<WorldNames<'f, 'a>>
+    requires { HasItem files.now place (TheWorld world.now) }
+    ensures names { IfOk result (AreWorldNames files.now place world.now) }
+    ensures first { Finds (item_uses_fault files.now (item_in files.now place (TheWorld world.now))) result }
+{
+    Ok(WorldNames {
+        own: world_names(alloc, world, files, place)?,
+        imported: names_inside(alloc, world, files, WorldSide::Imported, place)?,
+        exported: names_inside(alloc, world, files, WorldSide::Exported, place)?,
+    })
+}
+
 /// Adds the items of the file at a place.
 fn add_items<'f, 'a>(
     alloc: Global,
-    files: &Files<'_, '_, 'f, 'a>,
     file: &'f PackageFile<'a>,
+    files: &Files<'f, 'a, '_, '_>,
     items: &mut Vec<Item<'f, 'a>>,
     place: usize,
 ) -> ParseResult<()>
@@ -116,22 +143,25 @@ fn add_items<'f, 'a>(
                     place,
                     file,
                     declared: Declared::Interface(interface),
-                    names: interface_names(alloc, files, &interface.items, place)?,
+                    names: interface_names(alloc, &interface.items, files, place)?,
                     imported: Vec::new(alloc),
                     exported: Vec::new(alloc),
                 },
             )?,
-            AstItem::World(world) => push(
-                items,
-                Item {
-                    place,
-                    file,
-                    declared: Declared::World(world),
-                    names: world_names(alloc, files, world, place)?,
-                    imported: names_inside(alloc, files, world, WorldSide::Imported, place)?,
-                    exported: names_inside(alloc, files, world, WorldSide::Exported, place)?,
-                },
-            )?,
+            AstItem::World(world) => {
+                let names = names_of_world(alloc, world, files, place)?;
+                push(
+                    items,
+                    Item {
+                        place,
+                        file,
+                        declared: Declared::World(world),
+                        names: names.own,
+                        imported: names.imported,
+                        exported: names.exported,
+                    },
+                )?
+            }
             AstItem::Use(_) => {}
         }
     }
@@ -144,8 +174,8 @@ fn add_items<'f, 'a>(
 /// or to a world (10).
 pub fn declared_items<'f, 'a>(
     alloc: Global,
-    names: &Files<'_, '_, 'f, 'a>,
     files: &'f [PackageFile<'a>],
+    names: &Files<'f, 'a, '_, '_>,
     room: usize,
 ) -> ParseResult<Vec<Item<'f, 'a>>>
     requires files { names.now ≡ files.now }
@@ -155,7 +185,7 @@ pub fn declared_items<'f, 'a>(
 {
     let mut items = Vec::with_capacity(alloc, room)?;
     for (place, file) in files.iter().enumerate() {
-        add_items(alloc, names, file, &mut items, place)?;
+        add_items(alloc, file, names, &mut items, place)?;
     }
     Ok(items)
 }

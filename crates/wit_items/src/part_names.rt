@@ -1,14 +1,16 @@
 //! The names that the parts of an item bring.
-ghost use Rattle.std.specs.Prelude.{◌≡◌, ◌++◌, ◌∷◌, [], Contains, List, map, IfOk, OnOk};
+ghost use Rattle.std.specs.Prelude.{◌≡◌, ◌++◌, Contains, map, IfOk, OnOk};
 ghost use Rattle.std.specs.List.{flat_map};
 ghost use Rattle.wit_tree.specs.declared.tree.Use.{Use as TheUse};
 ghost use Rattle.wit_syntax.specs.ExternPart.{item_uses};
-ghost use Rattle.wit_syntax.specs.Source.{Part as ThePart, TheWorld, leads, interface_part as the_interface_part, world_part as the_world_part};
+ghost use Rattle.wit_syntax.specs.Source.{TheWorld, leads, part_names, interface_part as the_interface_part, world_part as the_world_part};
 ghost use Rattle.wit_first.specs.First.{Finds, first_in};
 ghost use Rattle.wit_first.specs.UseFaults.{use_fault};
 ghost use Rattle.wit_syntax.specs.ScopeTables.{own_uses};
 ghost use Rattle.wit_files.specs.FileNames.{top_at};
-ghost use Rattle.wit_items.specs.NamesInside.{world_parts};
+ghost use Rattle.wit_scopes.specs.BorrowedNames.{name_view};
+ghost use Rattle.wit_scopes.specs.PlacedNames.{AreNamesPlaced};
+ghost use Rattle.wit_items.specs.ForeignAddresses.{prefix_of};
 ghost use Rattle.wit_items.specs.ItemPaths.{part_view, HasItem, HasPath, IsSourceOf};
 ghost use Rattle.wit_items.specs.PlacedItems.{AreNamesOf};
 
@@ -58,7 +60,7 @@ fn world_part<'f, 'a>(part: &'f WorldItem<'a>) -> Part<'f, 'a>
 /// then a path that leads to no item, or to a world.
 fn sound_source<'f, 'a>(
     alloc: Global,
-    files: &Files<'_, '_, 'f, 'a>,
+    files: &Files<'f, 'a, '_, '_>,
     place: usize,
     used: &'f Use<'a>,
 ) -> ParseResult<Source<'f, 'a>>
@@ -73,13 +75,14 @@ fn sound_source<'f, 'a>(
 /// Adds the names that a part of an item of the file at a place brings.
 fn add_part<'f, 'a>(
     alloc: Global,
-    files: &Files<'_, '_, 'f, 'a>,
+    part: Part<'f, 'a>,
+    files: &Files<'f, 'a, '_, '_>,
     place: usize,
     names: &mut Vec<ScopeName<'f, 'a>>,
-    part: Part<'f, 'a>,
 ) -> ParseResult<()>
     requires paths { (u : TheUse) → Contains (own_uses (part_view part)) u → HasPath files.now place u.from }
-    ensures names { OnOk result ((ps : List ThePart) → AreNamesOf files.now place ps names.old.items → AreNamesOf files.now place (ps ++ part_view part.entry ∷ []) names.new.items) }
+    ensures view { OnOk result (map name_view names.new.items ≡ map name_view names.old.items ++ part_names (top_at files.now place) (part_view part.entry)) }
+    ensures placed { OnOk result (AreNamesPlaced (prefix_of files.now) names.old.items → AreNamesPlaced (prefix_of files.now) names.new.items) }
     ensures first { Finds (first_in (use_fault files.now (top_at files.now place)) (own_uses (part_view part.entry))) result }
 {
     match part {
@@ -129,8 +132,8 @@ fn world_room(items: &[WorldItem<'_>]) -> usize {
 /// The names of an interface of the file at a place, which has these items.
 pub fn interface_names<'f, 'a>(
     alloc: Global,
-    files: &Files<'_, '_, 'f, 'a>,
     items: &'f [InterfaceItem<'a>],
+    files: &Files<'f, 'a, '_, '_>,
     place: usize,
 ) -> ParseResult<Vec<ScopeName<'f, 'a>>>
     requires paths { (u : TheUse) → Contains (flat_map item_uses items.now) u → HasPath files.now place u.from }
@@ -139,7 +142,7 @@ pub fn interface_names<'f, 'a>(
 {
     let mut names = Vec::with_capacity(alloc, interface_room(items))?;
     for part in items {
-        add_part(alloc, files, place, &mut names, interface_part(part))?;
+        add_part(alloc, interface_part(part), files, place, &mut names)?;
     }
     Ok(names)
 }
@@ -147,18 +150,18 @@ pub fn interface_names<'f, 'a>(
 /// The names of a world of the file at a place.
 pub fn world_names<'f, 'a>(
     alloc: Global,
-    files: &Files<'_, '_, 'f, 'a>,
     world: &'f World<'a>,
+    files: &Files<'f, 'a, '_, '_>,
     place: usize,
 ) -> ParseResult<Vec<ScopeName<'f, 'a>>>
     requires item { HasItem files.now place (TheWorld world.now) }
-    ensures names { IfOk result (λ names. AreNamesOf files.now place (world_parts world.now) names.items) }
-    ensures first { Finds (first_in (use_fault files.now (top_at files.now place)) (flat_map own_uses (world_parts world.now))) result }
+    ensures names { IfOk result (λ names. AreNamesOf files.now place (map the_world_part world.now.items.items) names.items) }
+    ensures first { Finds (first_in (use_fault files.now (top_at files.now place)) (flat_map own_uses (map the_world_part world.now.items.items))) result }
 {
     let written = world_items(world);
     let mut names = Vec::with_capacity(alloc, world_room(written))?;
     for part in written {
-        add_part(alloc, files, place, &mut names, world_part(part))?;
+        add_part(alloc, world_part(part), files, place, &mut names)?;
     }
     Ok(names)
 }

@@ -28,7 +28,7 @@ use wit_types::InterfaceId;
 
 /// The entry of the item of another package that a path leads to; none where it leads to none.
 fn entry_there<'e, 'f, 'a>(
-    files: &'e Files<'_, '_, 'f, 'a>,
+    files: &'e Files<'f, 'a, '_, '_>,
     target: Target<'f, 'a>,
 ) -> Option<&'e Entry>
     ensures { option_copied result ≡ entry_at files.now (target_view target.entry) }
@@ -43,7 +43,7 @@ fn entry_there<'e, 'f, 'a>(
 /// The entry of the item of another package that a path in the file at a place leads to; none where
 /// it leads to none.
 pub fn entry_of<'e, 'f, 'a>(
-    files: &'e Files<'_, '_, 'f, 'a>,
+    files: &'e Files<'f, 'a, '_, '_>,
     place: usize,
     path: &'f UsePath<'a>,
 ) -> Option<&'e Entry>
@@ -56,7 +56,7 @@ pub fn entry_of<'e, 'f, 'a>(
 /// The declared interface of a name that a path leads to; refuses the name of no item (7), or of a world (10).
 fn named_source<'f, 'a>(
     alloc: Global,
-    files: &Files<'_, '_, 'f, 'a>,
+    files: &Files<'f, 'a, '_, '_>,
     path: &UsePath<'a>,
     name: Id<'a>,
 ) -> ParseResult<Source<'f, 'a>>
@@ -79,7 +79,7 @@ fn named_source<'f, 'a>(
 /// no item (7), or to a world (10).
 pub fn path_source<'f, 'a>(
     alloc: Global,
-    files: &Files<'_, '_, 'f, 'a>,
+    files: &Files<'f, 'a, '_, '_>,
     place: usize,
     path: &'f UsePath<'a>,
 ) -> ParseResult<Source<'f, 'a>>

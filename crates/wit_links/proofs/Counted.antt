@@ -1,6 +1,6 @@
 -- What occurred on the sides of a world, and one more of it.
 use Rattle.std.proofs.Common.{◌≡◌, ℕ, ◌+◌, Bool, true, false, if◌then◌else◌, List, [], ◌∷◌, ◌++◌, length, inl, inr, refl, sym, ap, ◌∙◌, subst, add-zero}
-use Rattle.wit_syntax.proofs.Common.{Exported, Imported, SideFunction, SideInline, SideItem, SideLink, SourceFunction, WorldSide, append-nil, cases_Bool, cond-false, cond-true, filter, filter-append, flat_map, flat_map-append, interfaces_on, interfaces_on-append, is_interface, item_function, item_inline, item_side, items_on, length-append, role_side, same_side, same_side-equal, side_itself}
+use Rattle.wit_items.proofs.Common.{Exported, Imported, SideFunction, SideInline, SideItem, SideLink, SourceFunction, WorldSide, append-nil, cases_Bool, cond-false, cond-true, filter, filter-append, flat_map, flat_map-append, interfaces_on, interfaces_on-append, is_interface, item_function, item_inline, item_side, items_on, length-append, role_side, same_side, same_side-equal, side_itself}
 use Rattle.wit_links.specs.declared.inside.Counts.{Counts}
 use Rattle.wit_links.specs.declared.inside.Seen.{Seen}
 use Rattle.wit_links.specs.SideCounts.{IsInterfaceOn, IsSeen, seen_on}

@@ -1,10 +1,7 @@
 -- The first fault of includes, by the parts of a world.
 use Rattle.std.proofs.Common.{◌≡◌, ℕ, List, Option, sym}
-use Rattle.wit_syntax.proofs.Common.{Fault, TheWorld, TopName, World as Written, WorldItem, part_includes, world_part}
-use Rattle.wit_first.specs.First.{first_in}
-use Rattle.wit_first.proofs.First.{in-parts}
-use Rattle.wit_files.specs.FileNames.{top_at}
-use Rattle.wit_items.specs.ItemPaths.{item_in}
+use Rattle.wit_items.proofs.Common.{Fault, TheWorld, TopName, first_in, in-parts, item_in, part_includes, top_at, world_part}
+use Rattle.wit_syntax.proofs.Common.{World as Written, WorldItem}
 use Rattle.wit_links.specs.Includes.{included_fault, includes_fault}
 use Rattle.wit_links.specs.declared.worlds.Worlds.{Worlds}
 

@@ -1,8 +1,8 @@
 -- Includes of a world, one more.
 use Rattle.std.proofs.Common.{◌≡◌, ℕ, ◌+◌, List, [], ◌∷◌, ◌++◌, length, take, Some, map, inl, inr, refl, sym, ap, ◌∙◌, subst, arith}
-use Rattle.wit_syntax.proofs.Common.{Address, Include, TheWorld, TopName, World as Written, WorldItem, append-nil, at_either, flat_map, flat_map-append, length-append, map-append, part_includes, slice_get, slice_get_within, take_next, world_part}
+use Rattle.wit_items.proofs.Common.{Address, AreIncludes, Include, IsInclude, TheWorld, TopName, WorldInclude, append-nil, at_either, flat_map, flat_map-append, length-append, map-append, part_includes, slice_get, slice_get_within, take_next, world_part}
+use Rattle.wit_syntax.proofs.Common.{World as Written, WorldItem}
 use Rattle.wit_tree.specs.declared.tree.WorldItem.TheVariants as world_item
-use Rattle.wit_arena.proofs.Common.{AreIncludes, IsInclude, WorldInclude}
 
 -- the includes among parts of a world
 abbrev pub included : List WorldItem → List Include

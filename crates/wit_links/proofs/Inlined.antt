@@ -1,11 +1,7 @@
 -- The names that are borrowed of the interfaces that are written in a world.
 use Rattle.std.proofs.Common.{◌≡◌, ℕ, zero, suc, ◌+◌, ◌<◌, Bool, cond, List, [], ◌∷◌, ◌++◌, length, Some, Vec, Global, map, refl, ap, ◌∙◌, subst, arith}
-use Rattle.wit_syntax.proofs.Common.{Address, Extern, Id, InterfaceItem, Item, ScopeName, SideFunction, SideInline, SideItem, SideLink, TopName, at_back, filter-append, flat_map, flat_map-append, get_or_from_slice_get, inline_item, interface_part, item_inline, item_side, items_on, option_map, part_names, same_side, scope_names, side_items, side_itself, slice_get, slice_get-map, slice_get_within}
-use Rattle.wit_items.specs.NamesInside.{inline_names}
-use Rattle.wit_items.specs.InlineNames.{names_written}
-use Rattle.wit_items.specs.PlacedItems.{ArePlacedInside}
-use Rattle.wit_scopes.specs.BorrowedNames.{Borrowed, name_view}
-use Rattle.wit_scopes.specs.PlacedNames.{AreNamesPlaced}
+use Rattle.wit_items.proofs.Common.{Address, AreNamesPlaced, ArePlacedInside, Borrowed, Extern, Id, InterfaceItem, ScopeName, SideFunction, SideInline, SideItem, SideLink, TopName, at_back, filter-append, flat_map, flat_map-append, get_or_from_slice_get, inline_item, inline_names, interface_part, item_inline, item_side, items_on, name_view, names_written, option_map, part_names, same_side, scope_names, side_items, side_itself, slice_get, slice_get-map, slice_get_within}
+use Rattle.wit_arena.proofs.Common.{Item}
 
 -- there are as many lists of names as interfaces
 names_count : (top : List TopName) (xs : List SideItem) → length (flat_map (inline_names top) xs) ≡ length (flat_map item_inline xs)

@@ -1,15 +1,7 @@
 -- Where the paths lead by which a world imports and exports interfaces: to places in the arena.
 use Rattle.std.proofs.Common.{◌≡◌, ◌≤◌, ℕ, zero, suc, List, [], ◌∷◌, length, Some, refl, ap, ◌∙◌, arith}
-use Rattle.wit_syntax.proofs.Common.{Address, ForeignNamed, InlineAt, InterfaceNamed, PackageFile, WorldNamed, length-map, option_map, package_of, position-Some, same_address, same_address-equal, slice_get, slice_get-get_or, slice_get-map, target_scope}
-use Rattle.wit_arena.proofs.Common.{Interface, Names, ResolvedScope, interfaces_at, interfaces_differ, place_at-found, resolved_scopes}
-use Rattle.wit_items.specs.ForeignAddresses.{prefix_of}
-use Rattle.wit_items.specs.Found.{AreFound, interface_name}
-use Rattle.wit_items.proofs.Found.{found_resolved_scope}
-use Rattle.wit_scopes.specs.BorrowedNames.{IsPlaced}
-use Rattle.wit_scopes.specs.declared.scope_name.Source.{Source as BorrowedSource}
+use Rattle.wit_items.proofs.Common.{Address, AreFound, ForeignNamed, InlineAt, Interface, InterfaceNamed, IsPlaced, Names, PackageFile, ResolvedScope, Source as BorrowedSource, WorldNamed, found_resolved_scope, interface_name, interfaces_at, interfaces_differ, length-map, option_map, package_of, place_at-found, position-Some, prefix_of, resolved_scopes, same_address, same_address-equal, slice_get, slice_get-get_or, slice_get-map, source_place, source_target, target_scope}
 use Rattle.wit_scopes.specs.declared.scope_name.Source.TheVariants as borrowed_source
-use Rattle.wit_items.specs.ItemPaths.{source_target}
-use Rattle.wit_items.specs.ResolvedInterfaces.{source_place}
 use Rattle.wit_links.specs.Links.{interface_place}
 
 -- the place of an interface that is borrowed is that of its address

@@ -1,14 +1,8 @@
 -- The first fault of includes: E30 to E34 and E11.
 use Rattle.std.specs.Prelude.{if◌then◌else◌, List, Option, None, Some, is_none}
-use Rattle.std.specs.Option.{option_or}
-use Rattle.wit_tree.specs.declared.tree.Include.{Include}
-use Rattle.wit_syntax.specs.Address.{Address}
-use Rattle.wit_syntax.specs.Source.{Item, TopName, leads, path_id}
-use Rattle.wit_syntax.specs.Fault.{Fault, interface_there}
-use Rattle.wit_syntax.specs.ScopeTables.{includes}
+use Rattle.wit_arena.specs.Common.{Address, Fault, Include, Item, TopName, includes, interface_there, leads, option_or, path_id, worlds_at}
 use Rattle.wit_first.specs.AttributeFaults.{stability_fault}
 use Rattle.wit_first.specs.First.{first_in}
-use Rattle.wit_arena.specs.ResolvedArenas.{worlds_at}
 use Rattle.wit_items.specs.ItemPaths.{world_at}
 use Rattle.wit_items.specs.BorrowedItems.{others_of}
 use Rattle.wit_links.specs.declared.worlds.Worlds.{Worlds}

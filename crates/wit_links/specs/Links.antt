@@ -1,15 +1,7 @@
 -- Where the paths lead by which a world imports and exports interfaces, once all interfaces are resolved.
 use Rattle.std.specs.Prelude.{◌≡◌, ℕ, false, List, Option, Some, None}
-use Rattle.std.specs.Option.{option_or}
-use Rattle.wit_tree.specs.declared.tree.UsePath.{UsePath}
-use Rattle.wit_tree.specs.declared.tree.PackageFile.{PackageFile}
-use Rattle.wit_syntax.specs.Address.{Address, InterfaceNamed, ForeignNamed}
-use Rattle.wit_syntax.specs.Broken.{is_world_at}
-use Rattle.wit_syntax.specs.Fault.{Fault}
-use Rattle.wit_syntax.specs.Source.{leads, path_scope, TopName}
+use Rattle.wit_arena.specs.Common.{Address, Fault, ForeignNamed, InterfaceNamed, Names, PackageFile, TopName, UsePath, env_of, is_world_at, leads, option_or, path_scope, place_at}
 use Rattle.wit_first.specs.UseFaults.{path_fault}
-use Rattle.wit_arena.specs.Whole.{place_at}
-use Rattle.wit_arena.specs.Resolving.{Names, env_of}
 use Rattle.wit_items.specs.ForeignAddresses.{prefix_of}
 use Rattle.wit_items.specs.ResolvedInterfaces.{unresolved_fault}
 

@@ -1,10 +1,6 @@
 -- How many are on the sides of a world, as they occur, and an interface that is written there.
 use Rattle.std.specs.Prelude.{◌≡◌, ℕ, true, List, length}
-use Rattle.std.specs.List.{filter, flat_map}
-use Rattle.wit_tree.specs.declared.tree.WorldSide.{WorldSide}
-use Rattle.wit_tree.specs.declared.tree.WorldSide.TheVariants.{Imported, Exported}
-use Rattle.wit_syntax.specs.Sides.{SideItem, SideInline, is_interface, item_function, item_inline, item_side, items_on}
-use Rattle.wit_syntax.specs.Source.{Item, TheInline}
+use Rattle.wit_arena.specs.Common.{Exported, Imported, Item, SideInline, SideItem, TheInline, WorldSide, filter, flat_map, is_interface, item_function, item_inline, item_side, items_on}
 use Rattle.wit_items.specs.declared.items.InlineInterface.{InlineInterface}
 use Rattle.wit_links.specs.declared.inside.Counts.{Counts}
 use Rattle.wit_links.specs.declared.inside.Seen.{Seen}

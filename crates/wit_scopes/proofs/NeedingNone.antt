@@ -1,6 +1,6 @@
 -- Scopes whose names need none: their order is that in which they are written.
 use Rattle.std.proofs.Common.{◌≡◌, ℕ, zero, suc, ◌+◌, ◌<◌, ◌≤◌, List, [], ◌∷◌, ◌++◌, length, take, map, Some, inl, inr, refl, sym, ap, subst, ◌∙◌, arith, length-append}
-use Rattle.wit_syntax.proofs.Common.{Id, IsEdge, IsOrder, Leads, Row, ScopeName, at_prefix, at_seam, at_take, at_within, cases_lt, cons_option, defined, get_or_from_slice_get, greedy_least, greedy_sorted, in_order, in_order-append, length-map, local_id, map_at, needed_ids, own_greedy, row_of, rows_of, same_Some, slice_get, slice_get-take, take_all, take_next, used}
+use Rattle.wit_arena.proofs.Common.{Id, IsEdge, IsOrder, Leads, Row, ScopeName, at_prefix, at_seam, at_take, at_within, cases_lt, cons_option, defined, get_or_from_slice_get, greedy_least, greedy_sorted, in_order, in_order-append, length-map, local_id, map_at, needed_ids, own_greedy, row_of, rows_of, same_Some, slice_get, slice_get-take, take_all, take_next, used}
 use Rattle.wit_scopes.specs.DefinitionOrder.{AreOrdered, IsTurnOf, IsWritten, NeedNone}
 
 -- the first n places in their own order

@@ -1,6 +1,6 @@
 -- Names whose texts differ.
 use Rattle.std.proofs.Common.{List, length, map, ◌<◌, arith}
-use Rattle.wit_syntax.proofs.Common.{AllDiffer, length-map, slice_get_within}
+use Rattle.wit_arena.proofs.Common.{AllDiffer, length-map, slice_get_within}
 
 -- one name is not twice
 pub few_differ : {X Y : Type 0} (f : X → Y) (xs : List X) → length xs < 2 → AllDiffer (map f xs)

@@ -1,9 +1,7 @@
 -- Definitions of a scope in their order: what each needs comes before it.
 use Rattle.std.proofs.Common.{◌≡◌, ◌<◌, ℕ, zero, suc, Bool, true, List, [], ◌∷◌, ◌++◌, length, take, Option, Some, None, IsSome, inl, inr, refl, sym, ap, ◌∙◌, subst, Contains}
-use Rattle.wit_syntax.proofs.Common.{AllDiffer, AreDistinct, AreOwn, Defined, Fault, ForeignName, Id, ScopeName, Used, all_words, at_take, at_within, body_of, cases_Bool, cond-false, cond-true, cons_option, defined, either_at, filter, in_order, in_order_among, in_order_at, in_turn_distinct, is_defined, local_id, local_name, local_names, map, map-append, map_at, map_map, names_within, option_map, slice_get, slice_get-map, used, used_has, used_is, missing_type_at}
+use Rattle.wit_arena.proofs.Common.{AllDiffer, AreDistinct, AreOwn, Defined, Env, Fault, ForeignName, HasNames, Id, ScopeName, Used, all_words, at_take, at_within, body_of, cases_Bool, cond-false, cond-true, cons_option, defined, either_at, filter, in_order, in_order_among, in_order_at, in_turn_distinct, is_defined, local_id, local_name, local_names, map, map-append, map_at, map_map, missing_type_at, names_within, needed_earlier, slice_get, used, used_has, used_is}
 use Rattle.wit_type_tree.specs.declared.types.TypeDef.{TypeDef as Definition}
-use Rattle.wit_arena.proofs.Common.{Env, HasNames}
-use Rattle.wit_arena.proofs.Scoping.{needed_earlier}
 use Rattle.wit_scopes.specs.BorrowedNames.{Borrowed, name_view}
 use Rattle.wit_scopes.specs.declared.scope_name.Named.TheVariants as borrowed
 use Rattle.wit_scopes.specs.DefinitionOrder.{AreOrdered, AreInTurn}
@@ -22,15 +20,6 @@ in_order-take xs [] (suc n) within = refl
 in_order-take xs (k ∷ ks) (suc n) within =
     let y = at_within xs k (within 0 k refl) in
     ap (λ o. cons_option o (in_order xs (take n ks))) y.1 ∙ ap (λ l. y.0 ∷ l) (in_order-take xs ks n (λ j p h. within (suc j) p h)) ∙ ap (λ o. take (suc n) (cons_option o (in_order xs ks))) (sym y.1)
-
--- what is after a list in an order
-pub map-in_order : {X Y : Type 0} (f : X → Y) (xs : List X) (places : List ℕ) → map f (in_order xs places) ≡ in_order (map f xs) places
-map-in_order f xs [] = refl
-map-in_order f xs (k ∷ ks) = map-cons f (slice_get xs k) (in_order xs ks) ∙ ap (λ o. cons_option o (map f (in_order xs ks))) (sym (slice_get-map f xs k)) ∙ ap (cons_option (slice_get (map f xs) k)) (map-in_order f xs ks)
-  where
-    map-cons : {X Y : Type 0} (f : X → Y) (o : Option X) (xs : List X) → map f (cons_option o xs) ≡ cons_option (option_map f o) (map f xs)
-    map-cons f None xs = refl
-    map-cons f (Some x) xs = refl
 
 abbrev IsKeptAt : (ScopeName → Bool) → List ScopeName → ℕ → ScopeName → Type 0
 IsKeptAt test xs k x = (p : ℕ) × (slice_get xs p ≡ Some x) × (filter test (take p xs) ≡ take k (filter test xs))

@@ -1,8 +1,6 @@
 -- Names written in types, by their parts.
 use Rattle.std.proofs.Common.{◌≡◌, List, [], ◌∷◌, ◌++◌, Some, None, Vec, sym, ap, ◌∙◌, append_assoc}
-use Rattle.wit_syntax.proofs.Common.{Case, Global, Id, Span, Tuple, all_shapes, all_words, append-nil, case_types, filter_map_more, option_to_list, shape_of, words}
-use Rattle.wit_type_tree.specs.declared.types.«Type».{«Type» as Written}
-use Rattle.wit_arena.proofs.Common.{all_words-append, tuple_inner}
+use Rattle.wit_arena.proofs.Common.{Case, Global, Id, Span, Tuple, all_shapes, all_words, all_words-append, append-nil, case_types, filter_map_more, option_to_list, shape_of, tuple_inner, words, «Type» as Written}
 
 -- of types in turn
 abbrev pub type_words : List Written → List Id

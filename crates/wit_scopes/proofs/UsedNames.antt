@@ -1,6 +1,6 @@
 -- Used names that are among those of a scope.
 use Rattle.std.proofs.Common.{◌≡◌, ◌++◌, ◌+◌, ◌∷◌, [], ℕ, List, take, Some, refl, ap, ◌∙◌}
-use Rattle.wit_syntax.proofs.Common.{append-nil, defined, filter-append, flat_map, flat_map-append, is_defined, map, map-append, slice_get, take_next, used}
+use Rattle.wit_arena.proofs.Common.{append-nil, defined, filter-append, flat_map, flat_map-append, is_defined, map, map-append, slice_get, take_next, used}
 use Rattle.wit_scopes.specs.BorrowedNames.{Borrowed, name_view, own_use, use_view}
 use Rattle.wit_scopes.specs.declared.scope_name.Named.TheVariants as borrowed
 

@@ -1,5 +1,5 @@
 -- What the resolver holds by reference: names of a scope, used names and definitions, and interfaces of other packages.
-use Rattle.std.specs.Prelude.{◌≡◌, ◌∷◌, [], ℕ, List, Some, ⊤, slice_get}
+use Rattle.std.specs.Prelude.{◌≡◌, ◌∷◌, [], List, Some, ⊤, slice_get}
 use Rattle.wit_scopes.specs.declared.scope_name.UsedName.{UsedName}
 use denote.Ref.{Bor}
 use Rattle.wit_type_tree.specs.declared.types.TypeDef.{TypeDef}
@@ -8,8 +8,7 @@ use Rattle.wit_scopes.specs.declared.scope_name.Named.{Named}
 use Rattle.wit_scopes.specs.declared.scope_name.Named.TheVariants as borrowed
 use Rattle.wit_scopes.specs.declared.scope_name.Source.{Source as BorrowedSource}
 use Rattle.wit_scopes.specs.declared.scope_name.Source.TheVariants as borrowed_source
-use Rattle.wit_syntax.specs.Address.{Address, InterfaceNamed, ForeignNamed, package_of}
-use Rattle.wit_syntax.specs.Source.{ScopeName, Used, Defined}
+use Rattle.wit_arena.specs.Common.{Address, Defined, ForeignNamed, InterfaceNamed, ScopeName, Used, package_of}
 
 -- the scope that a used name comes from
 abbrev pub source_view : BorrowedSource → Address
@@ -46,7 +45,3 @@ own_use (borrowed.Defined d) = []
 abbrev pub IsPlaced : List Address → BorrowedSource → Type 0
 IsPlaced prefix (borrowed_source.Declared id) = ⊤
 IsPlaced prefix (borrowed_source.Foreign id of name) = slice_get prefix id ≡ Some (ForeignNamed (package_of of.now) name.name.now)
-
--- so do all used names of a scope
-pub record ArePlaced (prefix : List Address) (uses : List UsedName) : Type 0 where
-  pub each : (k : ℕ) (u : UsedName) → slice_get uses k ≡ Some u → IsPlaced prefix u.from

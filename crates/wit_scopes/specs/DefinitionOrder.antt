@@ -1,11 +1,7 @@
 -- The definitions of a scope in their order, and its names.
 use Rattle.std.specs.Prelude.{◌≡◌, ◌++◌, ℕ, List, [], take, map, Some, Contains, slice_get}
-use Rattle.wit_type_tree.specs.declared.leaves.Id.{Id}
+use Rattle.wit_arena.specs.Common.{Defined, Env, HasNames, Id, IsOrder, ScopeName, defined, in_order, local_id, local_name, needed_ids, rows_of, used}
 use Rattle.wit_type_tree.specs.declared.types.TypeDef.{TypeDef as Definition}
-use Rattle.wit_graph.specs.Table.{IsOrder}
-use Rattle.wit_syntax.specs.Source.{ScopeName, Defined, local_id, local_name}
-use Rattle.wit_syntax.specs.ScopeTables.{needed_ids, rows_of, in_order, used, defined}
-use Rattle.wit_arena.specs.Resolving.{Env, HasNames}
 
 -- no name of a scope needs one
 abbrev pub NeedNone : List ScopeName → Type 0

@@ -1,11 +1,12 @@
 //! The names of a scope: those that it uses, and its definitions.
-ghost use Rattle.std.specs.Prelude.{◌≡◌, ◌++◌, map, IfOk, OnOk};
+ghost use Rattle.std.specs.Prelude.{◌≡◌, ◌++◌, map, IfOk, OnOk, List};
 ghost use Rattle.std.specs.List.{flat_map};
 ghost use Rattle.std.specs.Option.{unwrap_or};
 ghost use Rattle.wit_syntax.specs.Source.{Used, local_id as the_local_id};
 ghost use Rattle.wit_syntax.specs.ScopeTables.{defined};
-ghost use Rattle.wit_scopes.specs.BorrowedNames.{source_view, name_view, definition_view, own_use};
-ghost use Rattle.wit_scopes.specs.PlacedNames.{StayPlaced};
+ghost use Rattle.wit_syntax.specs.Address.{Address};
+ghost use Rattle.wit_scopes.specs.BorrowedNames.{source_view, name_view, definition_view, own_use, IsPlaced};
+ghost use Rattle.wit_scopes.specs.PlacedNames.{AreNamesPlaced};
 
 use std::alloc::{AllocError, Global};
 use wit_tree::tree::{Attribute, Id, PackageName, TypeDef, UseName};
@@ -63,7 +64,7 @@ pub fn add_used_names<'t, 'a>(
     used: &'t [UseName<'a>],
 ) -> Result<(), AllocError>
     ensures names { OnOk result (map name_view names.new.items ≡ map name_view names.old.items ++ map (Used (source_view from.now) attributes.now) used.now) }
-    ensures placed { OnOk result (StayPlaced from.now names.old.items names.new.items) }
+    ensures placed { OnOk result ((prefix : List Address) → IsPlaced prefix from.now → AreNamesPlaced prefix names.old.items → AreNamesPlaced prefix names.new.items) }
 {
     for name in used {
         let from = *from;

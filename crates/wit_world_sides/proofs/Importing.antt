@@ -1,9 +1,7 @@
 -- Names of a scope as imports of a world, one more.
 use Rattle.std.proofs.Common.{◌≡◌, ℕ, zero, suc, ◌+◌, ◌<◌, false, List, [], ◌∷◌, ◌++◌, take, Some, None, nat_eq, inl, inr, refl, sym, ap, ◌∙◌, subst, arith}
-use Rattle.wit_syntax.proofs.Common.{AllDiffer, Id, ScopeName, at_take, insert_entry, key_at, local_id, local_name, map, map_map, name_cases, pointwise, slice_get}
+use Rattle.wit_arena.proofs.Common.{AllDiffer, Id, Names, ScopeName, Type_, WorldItem, at_take, eq-value as key_test, insert_entry, key_at, local_id, local_name, map, map_map, name_cases, pointwise, slice_get, type_imports}
 use Rattle.wit_model.specs.declared.world.WorldKey.TheVariants as key
-use Rattle.wit_arena.proofs.Common.{Names, Type_, WorldItem, type_imports}
-use Rattle.wit_model.specs.contracts.world.WorldKeyPartialEq.TheImpl.{eq-value as key_test}
 
 -- one name more, where it means something
 imports_next : (xs : List ScopeName) (types : Names) (k : ℕ) (x : ScopeName) (t : List ℕ × ℕ) → slice_get xs k ≡ Some x → slice_get types k ≡ Some t → type_imports (take (suc k) xs) types ≡ type_imports (take k xs) types ++ (key.Name (local_name x), Type_ t.1 (local_id x).span) ∷ []

@@ -1,9 +1,7 @@
 -- What is put on a side of a world, one entry more: where keys differ it comes last.
 use Rattle.std.proofs.Common.{◌≡◌, ◌⊎◌, ℕ, ◌<◌, ◌+◌, Bool, true, false, List, [], ◌∷◌, ◌++◌, length, Some, map, nat_eq, if◌then◌else◌, inl, inr, refl, sym, ap, ◌∙◌, arith, append_assoc}
-use Rattle.wit_syntax.proofs.Common.{AllDiffer, WorldSide, append-nil, at_back, at_prefix, cases_Bool, differ_at, insert_entry, insert_entry-new, name_cases, same_side, slice_get, slice_get_within}
-use Rattle.wit_arena.proofs.Common.{WorldKey, put_on}
+use Rattle.wit_arena.proofs.Common.{AllDiffer, WorldKey, WorldSide, append-nil, at_back, at_prefix, cases_Bool, differ_at, eq-value as key_test, insert_entry, insert_entry-new, name_cases, put_on, same_side, slice_get, slice_get_within}
 use Rattle.wit_model.specs.declared.world.WorldKey.TheVariants as key
-use Rattle.wit_model.specs.contracts.world.WorldKeyPartialEq.TheImpl.{eq-value as key_test}
 use Rattle.wit_world_sides.specs.Members.{Entry}
 use Rattle.wit_world_sides.specs.FilledSides.{inserted_on}
 

@@ -1,7 +1,7 @@
 -- What is found of a name, a link and setters that come onto a side of a world.
 use Rattle.std.proofs.Common.{◌≡◌, ◌⊎◌, ◌&&◌, ℕ, Bool, true, false, List, [], ◌∷◌, Option, Some, None, Contains, nat_eq, is_none, inl, inr, refl, sym, ap, ◌∙◌, eq-eqb, eqb-true}
-use Rattle.wit_syntax.proofs.Common.{Constructor, Fault, Freestanding, Id, IsAllocationFailure, Link, Method, OnSide, ParseError, Refused, Role, SideItem, SideLink, Span, Static, WorldSide, at_contains, bytes_eq, contains_at, false_from_ne_true, fault_of, if◌then◌else◌, item_side, linked_twice, list_any, name_equal, name_itself, option_or, path_id}
-use Rattle.wit_walk.proofs.Common.{Reports, any_found, any_some, first_in, is_extern, is_on_side, none_both, or_none, reports_back}
+use Rattle.wit_arena.proofs.Common.{Constructor, Fault, Freestanding, Id, IsAllocationFailure, Link, Method, OnSide, ParseError, Refused, Role, SideItem, SideLink, Span, Static, WorldSide, any_found, at_contains, bytes_eq, contains_at, false_from_ne_true, fault_of, if◌then◌else◌, item_side, linked_twice, list_any, name_equal, name_itself, option_or, path_id}
+use Rattle.wit_walk.proofs.Common.{Reports, any_some, first_in, is_extern, is_on_side, none_both, or_none, reports_back}
 use Rattle.wit_refusals.specs.KeyedNames.{HasName}
 use Rattle.wit_refusals.specs.NameScopes.{Name, AreUsed, IsDefinedAgain}
 use Rattle.wit_rules.specs.BorrowedFunctions.{across_of}

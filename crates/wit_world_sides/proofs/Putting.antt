@@ -1,7 +1,6 @@
 -- One more on a side of a world: where its name, or the place that it is, was not in use there, it comes last.
 use Rattle.std.proofs.Common.{◌≡◌, ◌++◌, ℕ, List, [], ◌∷◌, Option, Some, None, map, if◌then◌else◌, sym, ap, ◌∙◌, subst}
-use Rattle.wit_syntax.proofs.Common.{AllDiffer, Called, Exported, Id, Imported, Link, ScopeName, SideItem, SideLink, WorldSide, codes, differ_none, item_side, items_on, local_id, local_names, map-append, map_map, names_on, option_map_or, same_side}
-use Rattle.wit_arena.proofs.Common.{Names, WorldItem, link_item, link_key, names_in, put_on, type_imports}
+use Rattle.wit_arena.proofs.Common.{AllDiffer, Called, Exported, Id, Imported, Link, Names, ScopeName, SideItem, SideLink, WorldItem, WorldSide, codes, differ_none, item_side, items_on, link_item, link_key, local_id, local_names, map-append, map_map, names_in, names_on, option_map_or, put_on, same_side, type_imports}
 use Rattle.wit_model.specs.declared.world.WorldKey.TheVariants as key
 use Rattle.wit_walk.proofs.Common.{item_sorted}
 use Rattle.wit_sides.specs.SideNames.{defined_on}
@@ -10,8 +9,7 @@ use Rattle.wit_externs.specs.Clash.{item_names, names_of_items}
 use Rattle.wit_externs.specs.Next.{linked_on}
 use Rattle.wit_world_sides.specs.declared.members.Members.{Members}
 use Rattle.wit_world_sides.specs.Members.{AreKeyed, Entry, Puts, bare_id, entry_sorted, key_names, key_places, text}
-use Rattle.wit_world_sides.specs.Settled.{AreCalled}
-use Rattle.wit_world_sides.specs.FilledSides.{entries_of, inserted_on}
+use Rattle.wit_world_sides.specs.FilledSides.{entries_of, inserted_on, AreCalled}
 use Rattle.wit_world_sides.proofs.Keyed.{key_of, put_one}
 use Rattle.wit_world_sides.proofs.SideCalled.{IsCalled, called_both, called_put, none_called, types_called}
 use Rattle.wit_world_sides.proofs.SideKeys.{entry_names, entry_places, keys_apart, names_among, names_both, names_of, places_among, places_both, texts_differ, type_names, type_places}

@@ -1,11 +1,10 @@
 -- The functions that a world has on a side are at their names.
 use Rattle.std.proofs.Common.{◌≡◌, List, [], ◌∷◌, ◌++◌, length, refl, Some, None, inl, inr, sym, ap, ◌∙◌, subst}
-use Rattle.wit_syntax.proofs.Common.{ScopeName, WorldSide, after_one, at_split, cases_Bool, codes, cond-false, cond-true, same_side}
-use Rattle.wit_arena.proofs.Common.{Function, Names, WorldItem, function_item, function_of, put_on, type_imports, types_stated}
+use Rattle.wit_arena.proofs.Common.{Function, Names, ScopeName, WorldItem, WorldSide, after_one, at_split, cases_Bool, codes, cond-false, cond-true, function_item, function_of, put_on, same_side, type_imports, types_stated}
 use Rattle.wit_model.specs.declared.world.WorldItem.TheVariants as item
 use Rattle.wit_model.specs.declared.world.WorldKey.TheVariants as key
-use Rattle.wit_world_sides.specs.Settled.{AreCalled}
 use Rattle.wit_world_sides.specs.Members.{Entry, item_word}
+use Rattle.wit_world_sides.specs.FilledSides.{AreCalled}
 
 -- an entry is at its name, if it is a function
 abbrev pub IsCalled : Entry → Type 0

@@ -1,7 +1,6 @@
 -- The keys of what a world has on a side differ, where its names do, and the places of interfaces without one.
 use Rattle.std.proofs.Common.{◌≡◌, ℕ, ◌+◌, zero, suc, Bool, true, false, List, [], ◌∷◌, ◌++◌, Some, map, if◌then◌else◌, refl, sym, ap, ◌∙◌}
-use Rattle.wit_syntax.proofs.Common.{AllDiffer, ForeignName, Id, ScopeName, SideItem, append-nil, differ_at, differ_by, differ_none, flat_map, flat_map-append, flat_map_has, folded_key, local_id, local_name, local_names, map-append, slice_get}
-use Rattle.wit_arena.proofs.Common.{Names, WorldKey, names_in, type_imports}
+use Rattle.wit_arena.proofs.Common.{AllDiffer, ForeignName, Id, Names, ScopeName, SideItem, WorldKey, append-nil, differ_at, differ_by, differ_none, flat_map, flat_map-append, flat_map_has, folded_key, local_id, local_name, local_names, map-append, names_in, slice_get, type_imports}
 use Rattle.wit_model.specs.declared.world.WorldKey.TheVariants as key
 use Rattle.wit_refusals.specs.NameScopes.{Name}
 use Rattle.wit_signatures.specs.ForeignName.{name_of_id, name_key}

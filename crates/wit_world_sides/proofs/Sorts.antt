@@ -1,7 +1,6 @@
 -- The word for what has a name on a side of a world.
 use Rattle.std.proofs.Common.{◌≡◌, ℕ, true, false, List, [], ◌∷◌, nat_eq, inl, inr, refl, sym, ap, ◌∙◌}
-use Rattle.wit_syntax.proofs.Common.{codes, flat_map, lookup, name_cases, name_itself, option_map_or, pointwise}
-use Rattle.wit_arena.proofs.Common.{is_name}
+use Rattle.wit_arena.proofs.Common.{codes, flat_map, is_name, lookup, name_cases, name_itself, option_map_or, pointwise}
 use Rattle.wit_model.specs.declared.world.WorldKey.TheVariants as key
 use Rattle.wit_walk.proofs.Common.{sort_among}
 use Rattle.wit_world_sides.specs.Members.{Entry, entry_sorted, item_word}

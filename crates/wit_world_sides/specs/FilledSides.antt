@@ -1,16 +1,18 @@
--- What a world has on its sides, while that is put there.
-use Rattle.std.specs.Prelude.{◌≡◌, Bool, List, if◌then◌else◌}
-use Rattle.indexmap.specs.IndexMap.{insert_entry}
-use Rattle.wit_tree.specs.declared.tree.Include.{Include}
-use Rattle.wit_tree.specs.declared.tree.WorldSide.{WorldSide}
-use Rattle.wit_tree.specs.declared.tree.WorldSide.TheVariants.{Imported, Exported}
-use Rattle.wit_model.specs.declared.world.WorldKey.{WorldKey}
-use Rattle.wit_model.specs.declared.world.WorldItem.{WorldItem}
+-- What a world has on its sides, while that is put there, and entries whose functions are at their names.
+use Rattle.std.specs.Prelude.{◌≡◌, Bool, List, if◌then◌else◌, ℕ, true, false, [], ◌∷◌, Some, slice_get}
+use Rattle.wit_arena.specs.Common.{Exported, Function, Imported, Include, WorldItem, WorldKey, WorldSide, function_of, insert_entry, same_side, settled}
 use Rattle.wit_model.specs.contracts.world.WorldKeyPartialEq.TheImpl.{eq-value as key_test}
-use Rattle.wit_syntax.specs.ExternPart.{same_side}
-use Rattle.wit_arena.specs.SideItems.{settled}
-use Rattle.wit_world_sides.specs.Settled.{none_of}
+use Rattle.wit_model.specs.declared.world.WorldKey.TheVariants as key
 use Rattle.wit_world_sides.specs.declared.sides.WorldSides.{WorldSides}
+
+-- whether there is no include
+abbrev pub none_of : List Include → Bool
+none_of [] = true
+none_of (i ∷ is) = false
+
+-- each function among these entries is at its name
+abbrev pub AreCalled : List (WorldKey × WorldItem) → Type 0
+AreCalled xs = (k : ℕ) (e : WorldKey × WorldItem) (f : Function) → slice_get xs k ≡ Some e → function_of e.1 ≡ Some f → e.0 ≡ key.Name f.name
 
 -- what is on a side
 abbrev pub entries_of : WorldSide → WorldSides → List (WorldKey × WorldItem)

@@ -1,4 +1,3 @@
 pub mod Members
-pub mod Settled
 pub mod FilledSides
 pub mod PutFaults

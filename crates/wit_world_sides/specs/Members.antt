@@ -1,27 +1,15 @@
 -- What is on the sides of a world so far, with the names and the interfaces there, and one more of it.
 use Rattle.std.specs.Prelude.{◌≡◌, ◌++◌, ℕ, List, [], ◌∷◌, Option, codes, map, if◌then◌else◌}
-use Rattle.std.specs.List.{flat_map}
-use Rattle.std.specs.Option.{option_map_or}
-use Rattle.wit_type_tree.specs.declared.leaves.Id.{Id}
-use Rattle.wit_tree.specs.declared.tree.Extern.{Extern}
-use Rattle.wit_tree.specs.declared.tree.InterfaceItem.{InterfaceItem}
-use Rattle.wit_tree.specs.declared.tree.WorldSide.{WorldSide}
-use Rattle.wit_model.specs.declared.world.WorldKey.{WorldKey}
+use Rattle.wit_arena.specs.Common.{AllDiffer, Id, Link, SideItem, SideLink, WorldItem, WorldKey, WorldSide, extern_link, flat_map, item_side, items_on, link_item, option_map_or, put_on, same_side}
 use Rattle.wit_model.specs.declared.world.WorldKey.TheVariants as key
-use Rattle.wit_model.specs.declared.world.WorldItem.{WorldItem}
 use Rattle.wit_model.specs.declared.world.WorldItem.TheVariants as item
-use Rattle.wit_syntax.specs.ExternPart.{same_side}
-use Rattle.wit_syntax.specs.Repeats.{AllDiffer}
-use Rattle.wit_syntax.specs.Sides.{Link, SideInline, SideItem, SideLink, extern_link, item_side, items_on}
 use Rattle.wit_walk.specs.Members.{Sorted, item_sorted}
-use Rattle.wit_arena.specs.SideItems.{inline_entry, link_item, put_on}
 use Rattle.wit_refusals.specs.NameScopes.{Name}
 use Rattle.wit_sides.specs.SideNames.{defined_on}
 use Rattle.wit_signatures.specs.ForeignName.{name_key, name_of_id}
 use Rattle.wit_externs.specs.Clash.{item_names, names_of_items}
 use Rattle.wit_externs.specs.Next.{linked_on}
-use Rattle.wit_world_sides.specs.Settled.{AreCalled}
-use Rattle.wit_world_sides.specs.FilledSides.{entries_of}
+use Rattle.wit_world_sides.specs.FilledSides.{entries_of, AreCalled}
 use Rattle.wit_world_sides.specs.declared.members.Members.{Members}
 use Rattle.wit_world_sides.specs.declared.members.PathExtern.{PathExtern}
 use Rattle.wit_world_sides.specs.declared.sides.WorldSides.{WorldSides}
@@ -89,9 +77,6 @@ path_link p = extern_link p.written.now p.name p.path.now
 abbrev pub bare_id : Option Id → ℕ → List ℕ
 bare_id name id = option_map_or (λ own. []) name (id ∷ [])
 
--- an interface was put on its side by its path, or an inline one under its name
+-- an interface was put on its side by its path
 abbrev pub PutsLink : Members → Members → PathExtern → ℕ → Type 0
 PutsLink m m' p id = PutsOn m m' (SideLink (path_link p)) (bare_id p.name id) (link_item (path_link p) id)
-
-abbrev pub PutsInline : Members → Members → Extern → Id → ℕ → Type 0
-PutsInline m m' x name id = (items : List InterfaceItem) → PutsOn m m' (SideInline x name items) [] (inline_entry x name id)

@@ -1,12 +1,6 @@
 -- The first fault of a name and of a link that are put on a side of a world: E43, E44 and E17.
 use Rattle.std.specs.Prelude.{◌&&◌, ℕ, if◌then◌else◌, nat_eq, Bool, List, None, Option, Some, is_none}
-use Rattle.std.specs.List.{list_any}
-use Rattle.std.specs.Option.{option_or}
-use Rattle.wit_values.specs.declared.span.Span.{Span}
-use Rattle.wit_tree.specs.declared.tree.WorldSide.{WorldSide}
-use Rattle.wit_syntax.specs.Fault.{Fault, linked_twice}
-use Rattle.wit_syntax.specs.Sides.{Link, SideItem, SideLink, item_side}
-use Rattle.wit_syntax.specs.Source.{path_id}
+use Rattle.wit_arena.specs.Common.{Fault, Link, SideItem, SideLink, Span, WorldSide, item_side, linked_twice, list_any, option_or, path_id}
 use Rattle.wit_first.specs.First.{first_in, repeat_of}
 use Rattle.wit_walk.specs.Members.{crossed, is_extern}
 use Rattle.wit_refusals.specs.NameScopes.{Name}

@@ -1,18 +1,17 @@
 //! What is on the sides of a world, one after another: its name is defined, or the interface that it is,
 //! and then it is put there.
-ghost use Rattle.std.specs.Prelude.{◌≡◌, ◌++◌, ◌∷◌, [], true, List, None, IfOk, IsTrue, OnOk, codes, map, string_bytes};
+ghost use Rattle.std.specs.Prelude.{◌≡◌, ◌++◌, ◌∷◌, [], true, List, None, IfOk, IsTrue, OnOk, codes, map};
 ghost use Rattle.std.specs.List.{flat_map};
 ghost use Rattle.wit_names.specs.Mangled.{is_mangled};
-ghost use Rattle.wit_tree.specs.declared.tree.InterfaceItem.{InterfaceItem as TheItem};
 ghost use Rattle.wit_tree.specs.declared.tree.WorldSide.{WorldSide as TheSide};
 ghost use Rattle.wit_model.specs.declared.world.WorldKey.TheVariants.{Name};
 ghost use Rattle.wit_syntax.specs.Repeats.{AllDiffer};
-ghost use Rattle.wit_syntax.specs.Sides.{SideFunction, SideInline, SideItem, names_on};
+ghost use Rattle.wit_syntax.specs.Sides.{SideFunction, SideInline, names_on};
 ghost use Rattle.wit_syntax.specs.Source.{ScopeName, local_id};
 ghost use Rattle.wit_first.specs.First.{Finds};
 ghost use Rattle.wit_arena.specs.SourceFunctions.{function_item};
 ghost use Rattle.wit_arena.specs.Resolving.{names_in};
-ghost use Rattle.wit_arena.specs.SideItems.{link_item};
+ghost use Rattle.wit_arena.specs.SideItems.{link_item, inline_entry};
 ghost use Rattle.wit_arena.specs.Whole.{type_imports as the_imports};
 ghost use Rattle.wit_refusals.specs.NameScopes.{AreUsed};
 ghost use Rattle.wit_rules.specs.BorrowedFunctions.{function_view};
@@ -22,12 +21,12 @@ ghost use Rattle.wit_externs.specs.AloneFaults.{defined_fault};
 ghost use Rattle.wit_externs.specs.Clash.{DefinesNames, StayApart};
 ghost use Rattle.wit_externs.specs.Next.{linked_on};
 ghost use Rattle.wit_walk.specs.Members.{sort_among};
-ghost use Rattle.wit_world_sides.specs.Members.{AreKeyed, IsNamedOn, PutsInline, entry_sorted, item_word, path_link, sorted_on, PutsLink, PutsOn};
+ghost use Rattle.wit_world_sides.specs.Members.{AreKeyed, IsNamedOn, entry_sorted, item_word, path_link, sorted_on, PutsLink, PutsOn};
 ghost use Rattle.wit_world_sides.specs.PutFaults.{clash_fault, put_fault, put_link_fault, side_fault};
 ghost use Rattle.wit_syntax.specs.Words.{side_word};
 
 use crate::sides::{WorldSides, add_item, inline_item, named_sides, path_item};
-use std::alloc::{AllocError, Global};
+use std::alloc::Global;
 use wit_externs::in_use::define_names;
 use wit_externs::links::Links;
 use wit_maps::{Table, TextTable};
@@ -102,14 +101,6 @@ fn side_word(side: WorldSide) -> &'static str
     }
 }
 
-/// The words for an import or an export that has the name of something on its side.
-fn conflict(alloc: Global, side: WorldSide, name: &str, what: &str) -> Result<String, AllocError>
-    ensures { IfOk result (λ words. string_bytes words ≡ side_word side ++ (codes " `" ++ (name.now ++ (codes "` conflicts with prior " ++ (what.now ++ codes " of same name"))))) }
-{
-    let word = side_word(side);
-    format!(in alloc; "{word} `{name}` conflicts with prior {what} of same name")
-}
-
 /// Defines the name of an import or an export on its side, after the others.
 ///
 /// Refused under E44, at the span, where an earlier name of the side is spelled like it, under E17
@@ -133,8 +124,12 @@ fn define_extern_part(
                 return Err(refusal);
             }
             let alloc = *sides.imports.allocator();
+            let word = side_word(side);
             let what = sort_on(sides, side, name);
-            Err(refuse_in(44, span, conflict(alloc, side, name, what)))
+            let words = format!(in alloc;
+                "{word} `{name}` conflicts with prior {what} of same name"
+            );
+            Err(refuse_in(44, span, words))
         }
     }
 }
@@ -195,7 +190,7 @@ fn put_named(
     item: WorldItem,
 ) -> ParseResult<()>
     requires { item_word item ≡ codes "interface" }
-    ensures puts { OnOk result ((x : SideItem) → IsNamedOn side name.entry x → PutsOn members.old members.new x [] (Name name.entry.name.now, item)) }
+    ensures puts { OnOk result ((x : _) → IsNamedOn side name.entry x → PutsOn members.old members.new x [] (Name name.entry.name.now, item)) }
     ensures first { Finds (side_fault members.old.in_use members.old.sides side true (name_of_id name.entry)) result }
 {
     define_extern_part(
@@ -263,8 +258,8 @@ pub fn put_inline(
     name: Id<'_>,
     id: InterfaceId,
 ) -> ParseResult<()>
-    ensures puts { OnOk result (PutsInline members.old members.new written.now name.entry id) }
-    ensures first { (items : List TheItem) → Finds (put_fault members.old (SideInline written.now name.entry items)) result }
+    ensures puts { OnOk result ((xs : _) → PutsOn members.old members.new (SideInline written.now name.entry xs) [] (inline_entry written.now name.entry id)) }
+    ensures first { (xs : _) → Finds (put_fault members.old (SideInline written.now name.entry xs)) result }
 {
     let item = inline_item(alloc, written, name, id)?;
     put_named(alloc, members, written.side, name, item)

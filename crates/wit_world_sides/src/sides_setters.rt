@@ -5,8 +5,7 @@ ghost use Rattle.wit_first.specs.First.{Finds};
 ghost use Rattle.wit_rules.specs.BorrowedFunctions.{function_view};
 ghost use Rattle.wit_externs.specs.AloneFaults.{sides_setters};
 ghost use Rattle.wit_externs.specs.Clash.{AreNamesWith};
-ghost use Rattle.wit_world_sides.specs.Settled.{none_of};
-ghost use Rattle.wit_world_sides.specs.FilledSides.{AreSettled};
+ghost use Rattle.wit_world_sides.specs.FilledSides.{AreSettled, none_of};
 ghost use Rattle.wit_world_sides.specs.Members.{AreKeyed};
 
 use crate::members::Members;

@@ -1,5 +1,4 @@
-use Rattle.wit_syntax.proofs.Common.{err_from_is_err_and}
-use Rattle.wit_walk.proofs.Common.{none_both, reports_back, reports_prefix}
+use Rattle.wit_items.proofs.Common.{err_from_is_err_and, none_both, reports_back, reports_prefix}
 use Rattle.wit_item_entries.proofs.body.resolve_head.Goals as goal
 
 pub returns-clause-adds : goal.returns-clause-adds

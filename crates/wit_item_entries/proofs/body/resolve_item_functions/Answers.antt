@@ -1,24 +1,19 @@
 use Rattle.std.proofs.Common.{◌≡◌, ◌++◌, Bool, List, [], Option, None, map, false, inl, inr, refl, sym, ap, ◌∙◌, subst, arith}
 use mathlib.Core.Path.{fun_ext}
-use Rattle.wit_syntax.proofs.Common.{AllDiffer, Fault, Id, Imported, ScopeName, SideFunction, SourceFunction, WorldSide, append-nil, differ_none, err_from_is_err_and, functions, is_ascii_uppercase, items_on, list_any, names_on, option_or, scope_names, side_items, side_items_functions}
-use Rattle.wit_walk.proofs.Common.{no_clashes, none_both, word_fault}
+use Rattle.wit_items.proofs.Common.{AllDiffer, Fault, Id, Imported, Name, Names, ScopeName, SideFunction, SourceFunction, WorldSide, append-nil, differ_none, env_of, err_from_is_err_and, functions, is_ascii_uppercase, items_on, list_any, name_view, names_in, names_on, no_clashes, none_both, option_or, scope_item, scope_names, side_items, side_items_functions, word_fault}
 use Rattle.wit_sides.specs.SideNames.{defined_on}
-use Rattle.wit_arena.proofs.Common.{Names, env_of, names_in}
-use Rattle.wit_refusals.specs.NameScopes.{Name}
 use Rattle.wit_rules.specs.BorrowedFunctions.{function_view}
 use Rattle.wit_rules.specs.Signatures.{HaveOwners}
+use Rattle.wit_entries.proofs.Resolves.{extended_same}
 use Rattle.wit_signatures.specs.ForeignName.{name_key, name_of_function, name_of_id}
 use Rattle.wit_externs.specs.AloneFaults.{again, alone_faults, defined_fault, words_in}
 use Rattle.wit_externs.specs.Clash.{DifferOnSides, all_on, names_of_items}
-use Rattle.wit_scopes.specs.BorrowedNames.{name_view}
-use Rattle.wit_items.specs.BorrowedItems.{scope_item}
 use Rattle.wit_item_entries.specs.NameOrder.{IsTurn}
 use Rattle.wit_item_entries.specs.ScopeFunctionFaults.{functions_fault}
 use Rattle.wit_item_entries.proofs.FunctionFaults.{all_names, used_before, words_same}
 use Rattle.wit_item_entries.proofs.NoFunctions.{no_functions}
 use Rattle.wit_item_entries.proofs.OwnKeys.{turn_keys}
 use Rattle.wit_item_entries.proofs.Owners.{owners, turn_has}
-use Rattle.wit_item_entries.proofs.ReachedFaults.{extended_same}
 use Rattle.wit_item_entries.proofs.ScopeFunctions.{body_added, none_added}
 use Rattle.wit_item_entries.proofs.body.resolve_item_functions.Goals as goal
 

@@ -1,5 +1,5 @@
 use Rattle.std.proofs.Common.{◌≡◌, ◌++◌, map, take}
-use Rattle.wit_syntax.proofs.Common.{resource_function}
+use Rattle.wit_items.proofs.Common.{resource_function}
 use Rattle.wit_rules.specs.BorrowedFunctions.{function_view}
 use Rattle.wit_item_entries.proofs.functions.add_definition.Given as goal
 

@@ -1,6 +1,5 @@
 use Rattle.std.proofs.Common.{rules, ◌≡◌, ◌++◌, ◌∷◌, [], ap, ◌∙◌, sym, append_assoc}
-use Rattle.wit_syntax.proofs.Common.{AllDiffer, append-nil, into_iter_items, map, nil_from_length}
-use Rattle.wit_arena.proofs.Common.{by_name, is_getter_of, made_name, setters_placed}
+use Rattle.wit_items.proofs.Common.{AllDiffer, append-nil, by_name, into_iter_items, is_getter_of, made_name, map, nil_from_length, setters_placed}
 use Rattle.wit_item_entries.proofs.FunctionTables.{function_next}
 use Rattle.wit_item_entries.proofs.PlacedNames.{placed_differ, table_placed}
 use Rattle.wit_item_entries.proofs.functions.function_table.Goals as goal

@@ -1,6 +1,5 @@
 use Rattle.std.proofs.Common.{◌≡◌, ◌++◌, map}
-use Rattle.wit_syntax.proofs.Common.{into_iter_items}
-use Rattle.wit_arena.proofs.Common.{by_name, is_getter_of, setters_placed}
+use Rattle.wit_items.proofs.Common.{by_name, into_iter_items, is_getter_of, setters_placed}
 use Rattle.wit_item_entries.proofs.functions.function_table.Given as goal
 
 abbrev pub invariant-loop-function : goal.invariant-loop-function

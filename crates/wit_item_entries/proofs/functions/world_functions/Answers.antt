@@ -1,6 +1,6 @@
 use Rattle.std.proofs.Common.{◌≡◌, ◌+◌, ◌++◌, ◌∷◌, [], List, map, take, refl, sym, ap, ◌∙◌}
-use Rattle.wit_syntax.proofs.Common.{SourceFunction, WorldItem, append-nil, definition_functions, extern_functions, flat_map, part_functions, take_all, take_more, world_part}
-use Rattle.wit_items.proofs.UsableNames.{parts_more}
+use Rattle.wit_items.proofs.Common.{SourceFunction, append-nil, definition_functions, extern_functions, flat_map, part_functions, parts_more, take_all, take_more, world_part}
+use Rattle.wit_walk.proofs.Common.{WorldItem}
 use Rattle.wit_item_entries.proofs.functions.world_functions.Goals.{in-TypeDef+in_ok-add_definition-in-TypeDef, in-Use, in-Include, in-Extern+in_ok-add_extern_part-in-Extern}
 use Rattle.wit_item_entries.proofs.functions.world_functions.Goals as goal
 

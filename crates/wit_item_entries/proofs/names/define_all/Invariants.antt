@@ -1,9 +1,7 @@
 use Rattle.std.proofs.Common.{◌≡◌, ◌++◌, List, Option, None, map, take}
-use Rattle.wit_syntax.proofs.Common.{Address, Fault, Id, ScopeName, all_handles, flat_map, local_names, name_types}
-use Rattle.wit_arena.proofs.Common.{Defines, HasNames, ResolvedScope, env_of, names_in}
+use Rattle.wit_items.proofs.Common.{Address, Defines, Fault, HasNames, Id, ResolvedScope, ScopeName, all_handles, definition_view, env_of, flat_map, local_names, name_types, names_in}
 use Rattle.wit_entries.specs.Requiring.{IsExtended, Requires}
 use Rattle.wit_externs.specs.AloneFaults.{IsSafe}
-use Rattle.wit_scopes.specs.BorrowedNames.{definition_view}
 use Rattle.wit_item_entries.specs.ReachedFaults.{definitions_fault}
 use Rattle.wit_item_entries.proofs.names.define_all.Given as goal
 

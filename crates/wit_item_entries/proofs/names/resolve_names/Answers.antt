@@ -1,13 +1,7 @@
 use Rattle.std.proofs.Common.{◌≡◌, [], None, map, subst, sym, ap, ◌∙◌}
-use Rattle.wit_syntax.proofs.Common.{Address, TypeOwner, err_from_is_err_and, flat_map, local_names, used}
-use Rattle.wit_arena.proofs.Common.{Defines}
-use Rattle.wit_walk.proofs.Common.{none_both, reports_back, reports_prefix, reports_same}
+use Rattle.wit_items.proofs.Common.{Address, Defines, TypeOwner, err_from_is_err_and, flat_map, local_names, name_view, none_both, own_use, prefix_of, reports_back, reports_prefix, reports_same, resolved_scopes_of, use_view, used, uses_viewed}
 use Rattle.wit_entries.proofs.Requiring.{extended_then}
-use Rattle.wit_scopes.specs.BorrowedNames.{name_view, own_use, use_view}
 use Rattle.wit_scopes.proofs.Placed.{uses_placed}
-use Rattle.wit_scopes.proofs.UsedNames.{uses_viewed}
-use Rattle.wit_items.specs.ForeignAddresses.{prefix_of}
-use Rattle.wit_items.specs.ResolvedInterfaces.{resolved_scopes_of}
 use Rattle.wit_item_entries.specs.UseFaults.{local_faults}
 use Rattle.wit_item_entries.proofs.ReachedFaults.{after_uses}
 use Rattle.wit_item_entries.specs.AddedNames.{AddsTurn}

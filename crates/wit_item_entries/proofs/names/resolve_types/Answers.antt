@@ -1,14 +1,9 @@
 use Rattle.std.proofs.Common.{◌≡◌, ◌++◌, List, map, ap, sym, ◌∙◌, subst, []}
-use Rattle.wit_syntax.proofs.Common.{AreDistinct, Id, defined, distinct_names, err_from_is_err_and, local_id, used, Address, all_handles, flat_map, in_order, local_name, local_names, map-append, name_types}
-use Rattle.wit_arena.proofs.Common.{env_of, names_in, Defines, Required, ResolvedScope, defines_more}
-use Rattle.wit_arena.proofs.UsePart.{listed_has}
-use Rattle.wit_walk.proofs.Common.{local_names_differ, local_names_fault, reports_back, reports_prefix, reports_same}
-use Rattle.wit_scopes.specs.BorrowedNames.{name_view, definition_view}
+use Rattle.wit_items.proofs.Common.{Address, AreDistinct, Defines, Id, Required, ResolvedScope, all_handles, defined, defines_more, definition_view, distinct_names, env_of, err_from_is_err_and, flat_map, in_order, listed_has, local_id, local_name, local_names, local_names_differ, local_names_fault, map-append, name_types, name_view, names_in, reports_back, reports_prefix, reports_same, used, «Type» as Written}
 use Rattle.wit_scopes.specs.DefinitionOrder.{AreOrdered}
 use Rattle.wit_item_entries.proofs.ReachedFaults.{definitions_found, done, failed, outcome_reported}
 use Rattle.wit_scopes.proofs.Turning.{in_their_turn, own_borrowed, differ_names, turn_differs}
 use Rattle.wit_item_entries.proofs.names.resolve_types.Goals as goal
-use Rattle.wit_type_tree.specs.declared.types.«Type».{«Type» as Written}
 use Rattle.wit_entries.specs.Requiring.{Requires}
 use Rattle.wit_item_entries.proofs.Handled.{types-in_turn}
 

@@ -1,6 +1,5 @@
 use Rattle.std.proofs.Common.{◌≡◌, ◌+◌, ◌++◌, ◌∷◌, [], List, take, sym, ap, ◌∙◌, append_assoc}
-use Rattle.wit_syntax.proofs.Common.{append-nil, take_all, take_more}
-use Rattle.wit_arena.proofs.Common.{Required}
+use Rattle.wit_items.proofs.Common.{Required, append-nil, take_all, take_more}
 use Rattle.wit_item_entries.proofs.required.add_required.Goals as goal
 
 pub loop-one-init : goal.loop-one-init

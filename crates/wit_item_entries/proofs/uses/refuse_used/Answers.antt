@@ -1,6 +1,5 @@
 use Rattle.std.proofs.Common.{Some, inl, inr, sym, ap, ◌∙◌, ◌++◌}
-use Rattle.wit_syntax.proofs.Common.{false≢true, codes}
-use Rattle.wit_arena.proofs.Common.{free_functions}
+use Rattle.wit_items.proofs.Common.{codes, false≢true, free_functions}
 use Rattle.wit_item_entries.proofs.UseFaults.{of_function, of_nothing}
 use Rattle.wit_item_entries.proofs.uses.refuse_used.Goals as goal
 

@@ -1,11 +1,7 @@
 use Rattle.std.proofs.Common.{◌≡◌, true, None, Some, inl, inr, refl, sym, ap, ◌∙◌, rules}
-use Rattle.wit_syntax.proofs.Common.{codes, defined_twice, err_from_is_err_and, local_id, name_twice, option_and_then, option_map_or, slice_get}
+use Rattle.wit_items.proofs.Common.{codes, defined_twice, env_of, err_from_is_err_and, free_functions, local_id, name_twice, option_and_then, option_map_or, reports_back, reports_prefix, reports_same, resolved_scope_at, slice_get, source_view, source_within, use_view}
 use Rattle.std.specs.Prelude.{is_some}
-use Rattle.wit_walk.proofs.Common.{reports_back, reports_prefix, reports_same}
-use Rattle.wit_arena.proofs.Common.{env_of, free_functions, resolved_scope_at}
 use Rattle.wit_entries.specs.EntryFaults.{unless_found}
-use Rattle.wit_scopes.specs.BorrowedNames.{source_view, use_view}
-use Rattle.wit_items.proofs.Found.{source_within}
 use Rattle.wit_item_entries.specs.UseFaults.{interface_of, asked_fault, lost_name, used_fault, spelled_fault}
 use Rattle.wit_item_entries.proofs.UseFaults.{found_of, used_from}
 use Rattle.wit_item_entries.proofs.uses.resolve_use.Goals as goal

@@ -1,11 +1,6 @@
 use Rattle.std.proofs.Common.{◌≡◌, ◌+◌, ◌++◌, ◌∷◌, [], take, Some, refl, ap, sym, ◌∙◌, subst, arith}
-use Rattle.wit_syntax.proofs.Common.{TypeOwner, Used, err_from_is_err_and, length-map, local_names, map, read_map, slice_get, slice_get_read, take-map, take_all, take_next}
-use Rattle.wit_arena.proofs.Common.{Defines, defines_more, defines_used}
-use Rattle.wit_walk.proofs.Common.{after-next, first_after, reports-after, reports_same}
-use Rattle.wit_arena.proofs.UsePart.{listed_more}
+use Rattle.wit_items.proofs.Common.{Defines, TypeOwner, Used, after-next, defines_more, defines_used, err_from_is_err_and, first_after, length-map, listed_more, local_names, map, read_map, reports-after, reports_same, resolved_scopes_of, slice_get, slice_get_read, source_view, take-map, take_all, take_next, use_view}
 use Rattle.wit_entries.proofs.Requiring.{extended_then}
-use Rattle.wit_scopes.specs.BorrowedNames.{source_view, use_view}
-use Rattle.wit_items.specs.ResolvedInterfaces.{resolved_scopes_of}
 use Rattle.wit_item_entries.specs.UseFaults.{local_fault}
 use Rattle.wit_item_entries.proofs.UseFaults.{local_next}
 use Rattle.wit_item_entries.proofs.uses.resolve_uses.Goals as goal
@@ -15,7 +10,7 @@ resolve_use-requires c =
     let uses = c.args.uses.now in
     let i = c.loop-name.name-index in
     let u = c.name-item.result in
-    record { placed = c.requires.placed.each i u (slice_get_read uses _ i u refl c.loop-name-test.true c.name-item.is) }
+    record { placed = c.requires.placed i u (slice_get_read uses _ i u refl c.loop-name-test.true c.name-item.is) }
 
 pub returns-in_err-resolve_use-clause-first : goal.returns-in_err-resolve_use-clause-first
 returns-in_err-resolve_use-clause-first c =

@@ -1,10 +1,6 @@
 use Rattle.std.proofs.Common.{◌≡◌, [], None, map, take}
-use Rattle.wit_syntax.proofs.Common.{Address, local_names}
-use Rattle.wit_walk.proofs.Common.{first_after}
-use Rattle.wit_arena.proofs.Common.{Defines}
+use Rattle.wit_items.proofs.Common.{Address, Defines, first_after, local_names, resolved_scopes_of, use_view}
 use Rattle.wit_entries.specs.Requiring.{IsExtended}
-use Rattle.wit_scopes.specs.BorrowedNames.{use_view}
-use Rattle.wit_items.specs.ResolvedInterfaces.{resolved_scopes_of}
 use Rattle.wit_item_entries.specs.UseFaults.{local_fault}
 use Rattle.wit_item_entries.proofs.uses.resolve_uses.Given as goal
 

@@ -1,5 +1,5 @@
 use Rattle.std.proofs.Common.{◌∙◌}
-use Rattle.wit_syntax.proofs.Common.{option_to_list}
+use Rattle.wit_arena.proofs.Common.{option_to_list}
 use Rattle.wit_items.proofs.Documented.{docs_kept, docs_own, docs_none}
 use Rattle.wit_items.proofs.header.have_docs.Goals as goal
 

@@ -1,6 +1,5 @@
 use Rattle.std.proofs.Common.{◌≡◌, drop}
-use Rattle.wit_syntax.proofs.Common.{headers}
-use Rattle.wit_arena.proofs.Common.{first_docs}
+use Rattle.wit_arena.proofs.Common.{first_docs, headers}
 use Rattle.wit_items.proofs.header.package_docs.Given as goal
 
 abbrev pub invariant-loop-file : goal.invariant-loop-file

@@ -1,18 +1,19 @@
 use Rattle.std.proofs.Common.{◌≡◌, ◌+◌, ◌++◌, List, [], ◌∷◌, Option, Some, Bor, map, take, refl, sym, ap, ◌∙◌}
-use Rattle.wit_syntax.proofs.Common.{Fault, InterfaceItem, PackageFile, TheWorld, TopName, WorldItem, WorldSide, append-nil, err_from_is_err_and, flat_map, foreign_interfaces, map-append, option_copied, option_map, option_to_list, part_uses, slice_get, slice_get-map, slice_get_read, take_all, take_more, visited, world_part}
+use Rattle.wit_arena.proofs.Common.{Fault, InterfaceItem, PackageFile, TheWorld, TopName, WorldSide, append-nil, err_from_is_err_and, flat_map, foreign_interfaces, map-append, option_copied, option_map, option_to_list, part_uses, slice_get, slice_get-map, slice_get_read, take_all, take_more, visited, world_part}
+use Rattle.wit_syntax.proofs.Common.{WorldItem}
 use Rattle.wit_first.specs.UseFaults.{use_fault}
 use Rattle.wit_first.proofs.First.{in-all, in-following, in-parts, reports-in, reports_same}
 use Rattle.wit_scopes.specs.BorrowedNames.{name_view}
 use Rattle.wit_scopes.specs.PlacedNames.{AreNamesPlaced}
 use Rattle.wit_scopes.proofs.Declaring.{one_more}
-use Rattle.wit_items.specs.NamesInside.{written_items, side_uses}
 use Rattle.wit_items.proofs.PlacedNames.{all_more}
 use Rattle.wit_items.proofs.UsableNames.{among_flat, parts_more, use_has_path}
 use Rattle.wit_items.proofs.WrittenNames.{items_names, side_among, written_uses, unwritten_uses, names_written_in}
 use Rattle.wit_items.proofs.inline_names.names_inside.Goals.{in-Some+in_ok-interface_names+in_ok-push, in_default}
 use Rattle.wit_files.specs.FileNames.{top_at}
-use Rattle.wit_items.proofs.inline_names.names_inside.Goals as goal
 use Rattle.wit_first.specs.First.{first_in}
+use Rattle.wit_items.specs.InlineNames.{written_items, side_uses}
+use Rattle.wit_items.proofs.inline_names.names_inside.Goals as goal
 
 -- of the uses of the interface that is written in a part
 abbrev wrong : List PackageFile → List TopName → WorldSide → WorldItem → Option Fault

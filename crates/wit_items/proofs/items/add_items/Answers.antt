@@ -1,9 +1,10 @@
 use Rattle.std.proofs.Common.{◌≡◌, ◌+◌, ◌++◌, ℕ, None, List, ◌∷◌, [], Option, Some, Contains, map, take, refl, sym, ap, ◌∙◌}
-use Rattle.wit_syntax.proofs.Common.{AstItem, Exported, Fault, Imported, Item, PackageFile, ParseError, TheInterface, TheWorld, TopName, append-nil, declared_items, err_from_is_err_and, file_items, flat_map, foreign_interfaces, parts, slice_get, slice_get_read, take_more, top_names, visited}
+use Rattle.wit_syntax.proofs.Common.{AstItem}
+use Rattle.wit_arena.proofs.Common.{Exported, Fault, Imported, Item, PackageFile, ParseError, TheInterface, TheWorld, TopName, append-nil, declared_items, err_from_is_err_and, file_items, flat_map, foreign_interfaces, inline_part_uses, slice_get, slice_get_read, take_more, top_names, visited}
 use Rattle.wit_tree.specs.declared.tree.AstItem.TheVariants as ast
 use Rattle.wit_first.specs.First.{Reports, first_in}
 use Rattle.wit_first.specs.UseFaults.{item_uses_fault}
-use Rattle.wit_first.proofs.First.{in-all, in-flat, in-following, none_both, or_none, reports_back, reports_prefix, reports-in, reports_same}
+use Rattle.wit_first.proofs.First.{in-all, in-flat, in-following, or_none, reports-in, reports_same}
 use Rattle.wit_files.specs.FileNames.{names_at_top}
 use Rattle.wit_top_names.proofs.Lost.{flat_more}
 use Rattle.wit_scopes.specs.PlacedNames.{AreNamesPlaced}
@@ -13,8 +14,8 @@ use Rattle.wit_items.proofs.Gathered.{items_more}
 use Rattle.wit_items.proofs.Placed.{none_all, placed_inside}
 use Rattle.wit_items.proofs.UsableNames.{use_has_path}
 use Rattle.wit_items.proofs.Usable.{declared_among, item_among, item_declared}
-use Rattle.wit_items.proofs.Written.{items_uses, interface_uses, world_uses, interface_inside, inside_is}
-use Rattle.wit_items.proofs.items.add_items.Goals.{in-Interface+in_ok-interface_names-in-Interface+in_ok-push-in-Interface, in-World+in_ok-world_names-in-World+in_ok-names_inside-in-World+in_ok-names_inside-in-World-2+in_ok-push-in-World, in-Use}
+use Rattle.wit_items.proofs.Written.{interface_uses, interface_inside, inside_is}
+use Rattle.wit_items.proofs.items.add_items.Goals.{in-Interface+in_ok-interface_names-in-Interface+in_ok-push-in-Interface, in-World+in_ok-names-in-World+in_ok-push-in-World, in-Use}
 use Rattle.wit_items.proofs.items.add_items.Goals as goal
 
 -- of the uses of the item that a declaration makes
@@ -39,32 +40,12 @@ returns-in_err-interface_names-in-Interface-clause-first c =
     let at = slice_get_read c.declarations-declared.result.now _ c.loop-item.item-index c.item-item.result refl c.loop-item-test.true c.item-item.is ∙ ap Some c.in-Interface.is in
     rw (p.1, p.2) (made_reported files c.args.file.now c.declarations-declared.result.now c.loop-item.item-index (ast.Interface c.in-Interface.interface) (record { top = top; declared = TheInterface c.in-Interface.interface }) _ _ c.declarations-declared.ensures at refl (interface_uses files top c.in-Interface.interface) c.loop-item.invariant.none (rw (c.deref.ensures.value, ap names_at_top c.requires.file) at c.in_err-interface_names-in-Interface.ensures.first))
 
-pub returns-in_err-world_names-in-World-clause-first : goal.returns-in_err-world_names-in-World-clause-first
-returns-in_err-world_names-in-World-clause-first c =
-    let p = err_from_is_err_and c.from_residual-in_err-world_names-in-World.result c.from_residual-in_err-world_names-in-World.ensures.1 in
-    let files = c.args.files.now in
-    let top_is = ap names_at_top c.requires.file in
+pub returns-in_err-names-in-World-clause-first : goal.returns-in_err-names-in-World-clause-first
+returns-in_err-names-in-World-clause-first c =
+    let p = err_from_is_err_and c.from_residual-in_err-names-in-World.result c.from_residual-in_err-names-in-World.ensures.1 in
     let w : Item = record { top = top_names c.args.file.now; declared = TheWorld c.in-World.world } in
     let at = slice_get_read c.declarations-declared.result.now _ c.loop-item.item-index c.item-item.result refl c.loop-item-test.true c.item-item.is ∙ ap Some c.in-World.is in
-    rw (p.1, p.2) (made_reported files c.args.file.now c.declarations-declared.result.now c.loop-item.item-index (ast.World c.in-World.world) w _ _ c.declarations-declared.ensures at refl (world_uses files w.top (parts w)) c.loop-item.invariant.none (reports_prefix _ (rw top_is at c.in_err-world_names-in-World.ensures.first)))
-
-pub returns-in_err-names_inside-in-World-clause-first : goal.returns-in_err-names_inside-in-World-clause-first
-returns-in_err-names_inside-in-World-clause-first c =
-    let p = err_from_is_err_and c.from_residual-in_err-names_inside-in-World.result c.from_residual-in_err-names_inside-in-World.ensures.1 in
-    let files = c.args.files.now in
-    let top_is = ap names_at_top c.requires.file in
-    let w : Item = record { top = top_names c.args.file.now; declared = TheWorld c.in-World.world } in
-    let at = slice_get_read c.declarations-declared.result.now _ c.loop-item.item-index c.item-item.result refl c.loop-item-test.true c.item-item.is ∙ ap Some c.in-World.is in
-    rw (p.1, p.2) (made_reported files c.args.file.now c.declarations-declared.result.now c.loop-item.item-index (ast.World c.in-World.world) w _ _ c.declarations-declared.ensures at refl (world_uses files w.top (parts w)) c.loop-item.invariant.none (reports_back (rw top_is at c.in_ok-world_names-in-World.ensures.first) (reports_prefix _ (rw top_is at c.in_err-names_inside-in-World.ensures.first))))
-
-pub returns-in_err-names_inside-in-World-2-clause-first : goal.returns-in_err-names_inside-in-World-2-clause-first
-returns-in_err-names_inside-in-World-2-clause-first c =
-    let p = err_from_is_err_and c.from_residual-in_err-names_inside-in-World-2.result c.from_residual-in_err-names_inside-in-World-2.ensures.1 in
-    let files = c.args.files.now in
-    let top_is = ap names_at_top c.requires.file in
-    let w : Item = record { top = top_names c.args.file.now; declared = TheWorld c.in-World.world } in
-    let at = slice_get_read c.declarations-declared.result.now _ c.loop-item.item-index c.item-item.result refl c.loop-item-test.true c.item-item.is ∙ ap Some c.in-World.is in
-    rw (p.1, p.2) (made_reported files c.args.file.now c.declarations-declared.result.now c.loop-item.item-index (ast.World c.in-World.world) w _ _ c.declarations-declared.ensures at refl (world_uses files w.top (parts w)) c.loop-item.invariant.none (reports_back (rw top_is at c.in_ok-world_names-in-World.ensures.first) (reports_back (rw top_is at c.in_ok-names_inside-in-World.ensures.first) (rw top_is at c.in_err-names_inside-in-World-2.ensures.first))))
+    rw (p.1, p.2) (made_reported c.args.files.now c.args.file.now c.declarations-declared.result.now c.loop-item.item-index (ast.World c.in-World.world) w _ _ c.declarations-declared.ensures at refl refl c.loop-item.invariant.none (rw (ap names_at_top c.requires.file) at c.in_err-names-in-World.ensures.first))
 
 pub interface_names-requires : goal.interface_names-requires
 interface_names-requires c = record {
@@ -74,29 +55,15 @@ interface_names-requires c = record {
       let d = TheInterface c.in-Interface.interface in
       let at : slice_get xs c.loop-item.item-index ≡ Some (ast.Interface c.in-Interface.interface) = slice_get_read xs _ c.loop-item.item-index c.item-item.result refl c.loop-item-test.true c.item-item.is ∙ ap Some c.in-Interface.is in
       let here = item_declared c.args.files.now c.args.place file xs c.loop-item.item-index _ d c.requires.file c.declarations-declared.ensures at refl in
-      use_has_path c.args.files.now c.args.place d u here (rw (items_uses c.in-Interface.interface.items.items) (rw c.deref.ensures.value at has)));
+      use_has_path c.args.files.now c.args.place d u here (rw (inline_part_uses c.in-Interface.interface.items.items) (rw c.deref.ensures.value at has)));
 }
 
-pub world_names-requires : goal.world_names-requires
-world_names-requires c =
+pub names_of_world-requires : goal.names_of_world-requires
+names_of_world-requires c =
     let file = c.args.file.now in
     let xs = c.declarations-declared.result.now in
     let at : slice_get xs c.loop-item.item-index ≡ Some (ast.World c.in-World.world) = slice_get_read xs _ c.loop-item.item-index c.item-item.result refl c.loop-item-test.true c.item-item.is ∙ ap Some c.in-World.is in
-    record { item = item_declared c.args.files.now c.args.place file xs c.loop-item.item-index _ (TheWorld c.in-World.world) c.requires.file c.declarations-declared.ensures at refl }
-
-pub names_inside-requires : goal.names_inside-requires
-names_inside-requires c =
-    let file = c.args.file.now in
-    let xs = c.declarations-declared.result.now in
-    let at : slice_get xs c.loop-item.item-index ≡ Some (ast.World c.in-World.world) = slice_get_read xs _ c.loop-item.item-index c.item-item.result refl c.loop-item-test.true c.item-item.is ∙ ap Some c.in-World.is in
-    record { item = item_declared c.args.files.now c.args.place file xs c.loop-item.item-index _ (TheWorld c.in-World.world) c.requires.file c.declarations-declared.ensures at refl }
-
-pub names_inside-requires-in-World : goal.names_inside-requires-in-World
-names_inside-requires-in-World c =
-    let file = c.args.file.now in
-    let xs = c.declarations-declared.result.now in
-    let at : slice_get xs c.loop-item.item-index ≡ Some (ast.World c.in-World.world) = slice_get_read xs _ c.loop-item.item-index c.item-item.result refl c.loop-item-test.true c.item-item.is ∙ ap Some c.in-World.is in
-    record { item = item_declared c.args.files.now c.args.place file xs c.loop-item.item-index _ (TheWorld c.in-World.world) c.requires.file c.declarations-declared.ensures at refl }
+    item_declared c.args.files.now c.args.place file xs c.loop-item.item-index _ (TheWorld c.in-World.world) c.requires.file c.declarations-declared.ensures at refl
 
 pub loop-item-preserved : goal.loop-item-preserved
 loop-item-preserved c =
@@ -134,24 +101,22 @@ loop-item-preserved c =
             });
             none = in-following (wrong files top) xs i x here was.none (ap (wrong files top) b.in-Interface.is ∙ or_none (item_uses_fault files w) ∙ interface_uses files top b.in-Interface.interface ∙ e.first);
           }))
-      | in-World+in_ok-world_names-in-World+in_ok-names_inside-in-World+in_ok-names_inside-in-World-2+in_ok-push-in-World b ↦ (
+      | in-World+in_ok-names-in-World+in_ok-push-in-World b ↦ (
           let w : Item = record { top = top; declared = TheWorld b.in-World.world } in
           let one : all ≡ before ++ w ∷ [] = extended ∙ ap (λ (d : AstItem). before ++ declared_items top d) b.in-World.is in
           let at : slice_get xs i ≡ Some (ast.World b.in-World.world) = here ∙ ap Some b.in-World.is in
           let among : Contains (file_items file) w = rw c.declarations-declared.ensures at (declared_among (declared_items top) xs i _ w at refl) in
           let new = b.in_ok-push-in-World.ensures in
-          let e = rw top_is at b.in_ok-world_names-in-World.ensures in
-          let imported = rw top_is at b.in_ok-names_inside-in-World.ensures in
-          let exported = rw top_is at b.in_ok-names_inside-in-World-2.ensures in
+          let e = b.in_ok-names-in-World.ensures.names in
           rw b.items-is (record {
             items = one_more item_view (map item_view old) out _ _ before all w new was.items refl one;
             each = λ before. items_more files out _ _ new (was.each before) (record {
               filed = record { file = c.requires.file; among = item_among files c.args.place file w c.requires.file among };
-              named = rw top_is at e.names.view;
-              written = inside_is _ w imported.names exported.names;
-              placed = record { own = e.names.placed; inside = placed_inside prefix _ imported.placed exported.placed };
+              named = rw top_is at e.own.view;
+              written = inside_is _ w (rw top_is at e.imported) (rw top_is at e.exported);
+              placed = record { own = e.own.placed; inside = placed_inside prefix _ e.imported_placed e.exported_placed };
             });
-            none = in-following (wrong files top) xs i x here was.none (ap (wrong files top) b.in-World.is ∙ or_none (item_uses_fault files w) ∙ world_uses files top (parts w) ∙ none_both e.first (none_both imported.first exported.first));
+            none = in-following (wrong files top) xs i x here was.none (ap (wrong files top) b.in-World.is ∙ or_none (item_uses_fault files w) ∙ (rw top_is at b.in_ok-names-in-World.ensures.first));
           }))
       | in-Use b ↦ (
           let skipped : all ≡ before = extended ∙ ap (λ (d : AstItem). before ++ declared_items top d) b.in-Use.is ∙ append-nil before in

@@ -1,5 +1,6 @@
 use Rattle.std.proofs.Common.{◌≡◌, ◌++◌, None, map, take}
-use Rattle.wit_syntax.proofs.Common.{AstItem, declared_items, flat_map, top_names}
+use Rattle.wit_syntax.proofs.Common.{AstItem}
+use Rattle.wit_arena.proofs.Common.{declared_items, flat_map, top_names}
 use Rattle.wit_first.specs.First.{first_in}
 use Rattle.wit_first.specs.UseFaults.{item_uses_fault}
 use Rattle.wit_items.specs.BorrowedItems.{item_view}

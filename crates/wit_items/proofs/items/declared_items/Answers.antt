@@ -1,5 +1,5 @@
 use Rattle.std.proofs.Common.{◌≡◌, ℕ, ◌+◌, ◌≤◌, List, length, ◌++◌, ◌∷◌, [], Option, Some, take, refl, sym, ap, ◌∙◌, subst}
-use Rattle.wit_syntax.proofs.Common.{Fault, PackageFile, all_items, err_from_is_err_and, file_items, slice_get, slice_get_read, take_all, take_next}
+use Rattle.wit_arena.proofs.Common.{Fault, PackageFile, all_items, err_from_is_err_and, file_items, slice_get, slice_get_read, take_all, take_next}
 use Rattle.wit_first.specs.First.{first_in}
 use Rattle.wit_first.specs.UseFaults.{item_uses_fault}
 use Rattle.wit_first.proofs.First.{in-flat, in-following, reports-in, reports_same}

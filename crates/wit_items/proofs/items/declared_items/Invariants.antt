@@ -1,5 +1,5 @@
 use Rattle.std.proofs.Common.{◌≡◌, None, map, take}
-use Rattle.wit_syntax.proofs.Common.{PackageFile, all_items, file_items}
+use Rattle.wit_arena.proofs.Common.{PackageFile, all_items, file_items}
 use Rattle.wit_first.specs.First.{first_in}
 use Rattle.wit_first.specs.UseFaults.{item_uses_fault}
 use Rattle.wit_items.specs.BorrowedItems.{item_view}

@@ -1,11 +1,11 @@
 use Rattle.std.proofs.Common.{◌≡◌, ◌+◌, ◌++◌, List, ◌∷◌, [], Option, Some, map, take, refl, sym, ap, ◌∙◌, subst}
-use Rattle.wit_syntax.proofs.Common.{Fault, InterfaceItem, PackageFile, TopName, err_from_is_err_and, interface_part, item_uses, slice_get, slice_get_read, take_all, take_more, own_uses, map-append}
+use Rattle.wit_arena.proofs.Common.{Fault, InterfaceItem, PackageFile, TopName, err_from_is_err_and, interface_part, item_uses, map-append, own_uses, slice_get, slice_get_read, take_all, take_more}
 use Rattle.wit_first.specs.UseFaults.{use_fault}
 use Rattle.wit_first.proofs.First.{in-all, in-flat, in-following, reports-in, reports_same}
 use Rattle.wit_items.specs.ItemPaths.{part_view}
 use Rattle.wit_items.specs.PlacedItems.{AreNamesOf}
 use Rattle.wit_items.proofs.WrittenNames.{item_own}
-use Rattle.wit_items.proofs.PlacedNames.{names_none}
+use Rattle.wit_items.proofs.PlacedNames.{names_next, names_none}
 use Rattle.wit_items.proofs.UsableNames.{among_flat}
 use Rattle.wit_files.specs.FileNames.{top_at}
 use Rattle.wit_items.proofs.part_names.interface_names.Goals as goal
@@ -56,7 +56,7 @@ loop-part-preserved c =
     let more : take (i + 1) xs ≡ take i xs ++ x ∷ [] = take_more xs i x c.loop-part-test.true ∙ ap (λ y. take i xs ++ y ∷ []) (sym c.part-item.is) in
     let next : map interface_part (take i xs) ++ part_view c.interface_part.result ∷ [] ≡ map interface_part (take (i + 1) xs) = ap (λ p. map interface_part (take i xs) ++ p ∷ []) c.interface_part.ensures ∙ sym (ap (map interface_part) more ∙ map-append interface_part (take i xs) (x ∷ [])) in
     record {
-      names = subst (λ ps. AreNamesOf files c.args.place ps c.add_part.new.names.items) next (e.names (map interface_part (take i xs)) was.names);
+      names = subst (λ ps. AreNamesOf files c.args.place ps c.add_part.new.names.items) next (names_next files c.args.place (map interface_part (take i xs)) _ c.loop-part.names.items _ e.view e.placed was.names);
       none = in-following (wrong files top) xs i x (slice_get_read xs _ i x refl c.loop-part-test.true c.part-item.is) was.none (rw own at e.first);
     }
 

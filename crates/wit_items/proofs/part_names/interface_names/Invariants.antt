@@ -1,5 +1,5 @@
 use Rattle.std.proofs.Common.{◌≡◌, None, map, take}
-use Rattle.wit_syntax.proofs.Common.{InterfaceItem, interface_part, item_uses}
+use Rattle.wit_arena.proofs.Common.{InterfaceItem, interface_part, item_uses}
 use Rattle.wit_first.specs.First.{first_in}
 use Rattle.wit_first.specs.UseFaults.{use_fault}
 use Rattle.wit_items.specs.PlacedItems.{AreNamesOf}

@@ -1,4 +1,4 @@
-use Rattle.wit_syntax.proofs.Common.{err_from_is_err_and}
+use Rattle.wit_arena.proofs.Common.{err_from_is_err_and}
 use Rattle.wit_first.specs.UseFaults.{path_fault}
 use Rattle.wit_first.proofs.First.{finds_back, reports_prefix}
 use Rattle.wit_files.specs.FileNames.{top_at}

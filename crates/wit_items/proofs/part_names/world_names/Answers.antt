@@ -1,10 +1,11 @@
 use Rattle.std.proofs.Common.{◌≡◌, ◌+◌, ◌++◌, List, ◌∷◌, [], Option, Some, map, take, refl, sym, ap, ◌∙◌, subst}
-use Rattle.wit_syntax.proofs.Common.{Fault, PackageFile, TheWorld, TopName, WorldItem, err_from_is_err_and, option_map, part_uses, slice_get, slice_get-map, slice_get_read, take_all, take_more, world_part, own_uses, map-append}
+use Rattle.wit_arena.proofs.Common.{Fault, PackageFile, TheWorld, TopName, err_from_is_err_and, map-append, option_map, own_uses, part_uses, slice_get, slice_get-map, slice_get_read, take_all, take_more, world_part}
+use Rattle.wit_syntax.proofs.Common.{WorldItem}
 use Rattle.wit_first.specs.UseFaults.{use_fault}
 use Rattle.wit_first.proofs.First.{in-all, in-following, in-parts, reports-in, reports_same}
 use Rattle.wit_items.specs.ItemPaths.{part_view}
 use Rattle.wit_items.specs.PlacedItems.{AreNamesOf}
-use Rattle.wit_items.proofs.PlacedNames.{names_none}
+use Rattle.wit_items.proofs.PlacedNames.{names_next, names_none}
 use Rattle.wit_items.proofs.WrittenNames.{own_among}
 use Rattle.wit_items.proofs.UsableNames.{among_flat, use_has_path}
 use Rattle.wit_files.specs.FileNames.{top_at}
@@ -55,7 +56,7 @@ loop-part-preserved c =
     let more : take (i + 1) xs ≡ take i xs ++ x ∷ [] = take_more xs i x c.loop-part-test.true ∙ ap (λ y. take i xs ++ y ∷ []) (sym c.part-item.is) in
     let next : map world_part (take i xs) ++ part_view c.world_part.result ∷ [] ≡ map world_part (take (i + 1) xs) = ap (λ p. map world_part (take i xs) ++ p ∷ []) c.world_part.ensures ∙ sym (ap (map world_part) more ∙ map-append world_part (take i xs) (x ∷ [])) in
     record {
-      names = subst (λ ps. AreNamesOf files c.args.place ps c.add_part.new.names.items) next (e.names (map world_part (take i xs)) was.names);
+      names = subst (λ ps. AreNamesOf files c.args.place ps c.add_part.new.names.items) next (names_next files c.args.place (map world_part (take i xs)) _ c.loop-part.names.items _ e.view e.placed was.names);
       none = in-following (wrong files top) xs i x (slice_get_read xs _ i x refl c.loop-part-test.true c.part-item.is) was.none (rw (ap own_uses c.world_part.ensures) at e.first);
     }
 

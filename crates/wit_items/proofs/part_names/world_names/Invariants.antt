@@ -1,5 +1,6 @@
 use Rattle.std.proofs.Common.{◌≡◌, None, map, take}
-use Rattle.wit_syntax.proofs.Common.{WorldItem, own_uses, world_part}
+use Rattle.wit_syntax.proofs.Common.{WorldItem}
+use Rattle.wit_arena.proofs.Common.{own_uses, world_part}
 use Rattle.wit_first.specs.First.{first_in}
 use Rattle.wit_first.specs.UseFaults.{use_fault}
 use Rattle.wit_items.specs.PlacedItems.{AreNamesOf}

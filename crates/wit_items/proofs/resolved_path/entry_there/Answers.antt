@@ -1,5 +1,5 @@
 use Rattle.std.proofs.Common.{◌≡◌, None, Some, sym, ap, ◌∙◌}
-use Rattle.wit_syntax.proofs.Common.{Target}
+use Rattle.wit_arena.proofs.Common.{Target}
 use Rattle.wit_top_names.specs.Tops.{target_view}
 use Rattle.wit_files.specs.declared.file_names.Found.TheVariants.{Foreign as ForeignAt}
 use Rattle.wit_items.proofs.Finding.{got_at}

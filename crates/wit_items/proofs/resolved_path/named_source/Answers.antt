@@ -1,5 +1,5 @@
 use Rattle.std.proofs.Common.{◌≡◌, Bool, Option, None, Some, inl, inr, refl, sym, ap, ◌∙◌}
-use Rattle.wit_syntax.proofs.Common.{Id, Local, all_items, is_world_at, path_id, world_there}
+use Rattle.wit_arena.proofs.Common.{Id, Local, all_items, is_world_at, path_id, world_there}
 use Rattle.wit_first.specs.FileFaults.{lost_fault}
 use Rattle.wit_first.specs.UseFaults.{reached_fault}
 use Rattle.wit_files.specs.declared.file_names.Found.TheVariants.{Item as ItemAt}

@@ -1,5 +1,5 @@
 use Rattle.std.proofs.Common.{rules, ◌≡◌, Bool, None, Option, Some, inl, inr, sym, ap, ◌∙◌}
-use Rattle.wit_syntax.proofs.Common.{Foreign, Id, all_items, is_world_at, leads, option_copied, package_of, path_id, world_there}
+use Rattle.wit_arena.proofs.Common.{Foreign, Id, all_items, is_world_at, leads, option_copied, package_of, path_id, world_there}
 use Rattle.wit_model.specs.declared.ast_item.AstItem.TheVariants as entry
 use Rattle.wit_first.specs.FileFaults.{lost_fault}
 use Rattle.wit_first.specs.UseFaults.{reached_fault}

@@ -1,6 +1,5 @@
 use Rattle.std.proofs.Common.{rules, ◌≡◌, Option, Some, None, ℕ, inl, inr, sym, ap, ◌∙◌, subst}
-use Rattle.wit_syntax.proofs.Common.{if◌then◌else◌, is_none, item_word, missing_at}
-use Rattle.wit_arena.proofs.Common.{env_of}
+use Rattle.wit_arena.proofs.Common.{env_of, if◌then◌else◌, is_none, item_word, missing_at}
 use Rattle.wit_scopes.specs.BorrowedNames.{IsPlaced}
 use Rattle.wit_scopes.specs.declared.scope_name.Source.{Source}
 use Rattle.wit_items.specs.ForeignAddresses.{prefix_of}

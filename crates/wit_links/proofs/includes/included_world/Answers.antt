@@ -1,8 +1,6 @@
 use Rattle.std.proofs.Common.{◌≡◌, sym, ap, ◌∙◌}
-use Rattle.wit_syntax.proofs.Common.{Foreign, leads, package_of}
+use Rattle.wit_items.proofs.Common.{Foreign, entry_at, leads, package_of, top_at, world_at, world_entry}
 use Rattle.wit_top_names.specs.Tops.{target_view}
-use Rattle.wit_items.specs.ItemPaths.{entry_at, world_entry, world_at}
-use Rattle.wit_files.specs.FileNames.{top_at}
 use Rattle.wit_links.proofs.includes.included_world.Goals as goal
 
 pub returns-in-Foreign : goal.returns-in-Foreign

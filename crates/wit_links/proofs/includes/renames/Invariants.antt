@@ -1,5 +1,5 @@
 use Rattle.std.proofs.Common.{◌≡◌, map, take}
-use Rattle.wit_arena.proofs.Common.{renamed}
+use Rattle.wit_items.proofs.Common.{renamed}
 use Rattle.wit_links.proofs.includes.renames.Given as goal
 
 abbrev pub invariant-loop-name : goal.invariant-loop-name

@@ -1,12 +1,5 @@
 use Rattle.std.proofs.Common.{◌≡◌, map, None, Some, inl, inr, refl, sym, ap, ◌∙◌, ◌++◌}
-use Rattle.wit_syntax.proofs.Common.{Id, Target, err_from_is_err_and, interface_there, leads, codes}
-use Rattle.wit_first.specs.AttributeFaults.{stability_fault}
-use Rattle.wit_first.proofs.First.{none_both, reports_back, reports_prefix}
-use Rattle.wit_arena.proofs.Common.{renamed}
-use Rattle.wit_files.specs.FileNames.{top_at}
-use Rattle.wit_items.specs.ItemPaths.{world_at}
-use Rattle.wit_items.proofs.Others.{world_found}
-use Rattle.wit_items.proofs.Found.{worlds_found}
+use Rattle.wit_items.proofs.Common.{Id, Target, codes, err_from_is_err_and, interface_there, leads, none_both, renamed, reports_back, reports_prefix, stability_fault, top_at, world_at, world_found, worlds_found}
 use Rattle.wit_links.proofs.includes.resolve_include.Goals as goal
 
 pub returns-in-None-clause-first : goal.returns-in-None-clause-first

@@ -1,11 +1,7 @@
 use Rattle.std.proofs.Common.{◌≡◌, ◌+◌, ℕ, List, [], ◌∷◌, ◌++◌, ◌<◌, length, get_or, take, Some, refl, sym, ap, ◌∙◌, subst, arith}
-use Rattle.wit_syntax.proofs.Common.{Include, IncludePart, TheWorld, TopName, WorldItem, contains_at, err_from_is_err_and, map, option_map, slice_get, slice_get-get_or, slice_get-map, take_all, world_part}
+use Rattle.wit_items.proofs.Common.{Include, IncludePart, TheWorld, TopName, contains_at, err_from_is_err_and, first_in, in-following, map, option_map, or_none, others_of, reports-in, reports_same, slice_get, slice_get-get_or, slice_get-map, take_all, top_at, world_part, worlds_at}
+use Rattle.wit_syntax.proofs.Common.{WorldItem}
 use Rattle.wit_tree.specs.declared.tree.WorldItem.TheVariants as world_item
-use Rattle.wit_first.specs.First.{first_in}
-use Rattle.wit_first.proofs.First.{in-following, or_none, reports-in, reports_same}
-use Rattle.wit_arena.proofs.Common.{worlds_at}
-use Rattle.wit_files.specs.FileNames.{top_at}
-use Rattle.wit_items.specs.BorrowedItems.{others_of}
 use Rattle.wit_links.specs.Includes.{included_fault}
 use Rattle.wit_links.specs.declared.worlds.Worlds.{Worlds}
 use Rattle.wit_links.proofs.IncludeFaults.{part_fault, parts_fault}

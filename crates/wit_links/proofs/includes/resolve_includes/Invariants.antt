@@ -1,8 +1,5 @@
 use Rattle.std.proofs.Common.{◌≡◌, None, take}
-use Rattle.wit_first.specs.First.{first_in}
-use Rattle.wit_arena.proofs.Common.{worlds_at}
-use Rattle.wit_items.specs.BorrowedItems.{others_of}
-use Rattle.wit_files.specs.FileNames.{top_at}
+use Rattle.wit_items.proofs.Common.{first_in, others_of, top_at, worlds_at}
 use Rattle.wit_links.proofs.IncludeFaults.{part_fault}
 use Rattle.wit_links.proofs.IncludePart.{included, AreIncluded}
 use Rattle.wit_links.proofs.includes.resolve_includes.Given as goal

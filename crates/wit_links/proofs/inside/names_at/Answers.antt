@@ -1,7 +1,5 @@
 use Rattle.std.proofs.Common.{◌≡◌, ◌<◌, ℕ, List, Some, Vec, Global, get_or, length, map, sym, ap, ◌∙◌, subst}
-use Rattle.wit_syntax.proofs.Common.{WorldSide, length-map, option_map, slice_get, slice_get-get_or}
-use Rattle.wit_scopes.specs.BorrowedNames.{Borrowed as BorrowedName, name_view}
-use Rattle.wit_items.specs.InlineNames.{inside_of, inside_view}
+use Rattle.wit_items.proofs.Common.{Borrowed as BorrowedName, WorldSide, inside_of, inside_view, length-map, name_view, option_map, slice_get, slice_get-get_or}
 use Rattle.wit_links.proofs.inside.names_at.Goals as goal
 
 abbrev lent : Vec BorrowedName Global → List BorrowedName

@@ -1,11 +1,5 @@
 use Rattle.std.proofs.Common.{◌≡◌, Some, sym, ap, ◌∙◌, subst}
-use Rattle.wit_syntax.proofs.Common.{IfOk-weaker, InterfaceNamed, Target, err_from_is_err_and, target_scope}
-use Rattle.wit_first.specs.First.{Finds}
-use Rattle.wit_first.proofs.First.{finds_back, reports_prefix}
-use Rattle.wit_files.specs.FileNames.{top_at}
-use Rattle.wit_items.specs.ForeignAddresses.{prefix_of}
-use Rattle.wit_items.specs.ResolvedInterfaces.{source_place, unresolved_fault}
-use Rattle.wit_items.proofs.Usable.{wanted_usable}
+use Rattle.wit_items.proofs.Common.{Finds, IfOk-weaker, InterfaceNamed, Target, err_from_is_err_and, finds_back, prefix_of, reports_prefix, source_place, target_scope, top_at, unresolved_fault, wanted_usable}
 use Rattle.wit_links.specs.Links.{IsLinkedTo, interface_place}
 use Rattle.wit_links.proofs.Leading.{source_placed}
 use Rattle.wit_links.proofs.links.linked_id.Goals as goal

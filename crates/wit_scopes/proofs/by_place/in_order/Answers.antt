@@ -1,5 +1,5 @@
 use Rattle.std.proofs.Common.{◌≡◌, ◌<◌, ◌++◌, ◌∷◌, [], Some, length, get_or, ap, sym, ◌∙◌}
-use Rattle.wit_syntax.proofs.Common.{in_order, in_order-more, slice_get, slice_get-get_or, take_all}
+use Rattle.wit_arena.proofs.Common.{in_order, in_order-more, slice_get, slice_get-get_or, take_all}
 use Rattle.wit_scopes.proofs.by_place.in_order.Goals as goal
 
 pub loop-place-preserved : goal.loop-place-preserved

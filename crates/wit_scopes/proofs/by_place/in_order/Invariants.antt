@@ -1,5 +1,5 @@
 use Rattle.std.proofs.Common.{◌≡◌, take}
-use Rattle.wit_syntax.proofs.Common.{in_order}
+use Rattle.wit_arena.proofs.Common.{in_order}
 use Rattle.wit_scopes.proofs.by_place.in_order.Given as goal
 
 abbrev pub invariant-loop-place : goal.invariant-loop-place

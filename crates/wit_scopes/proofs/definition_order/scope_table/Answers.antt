@@ -1,5 +1,5 @@
 use Rattle.std.proofs.Common.{◌≡◌, ◌+◌, List, Some, ap, sym, ◌∙◌}
-use Rattle.wit_syntax.proofs.Common.{Id, fresh_row, map, read_map, row_of, rows_more, rows_of, slice_get, take-map, take_all}
+use Rattle.wit_arena.proofs.Common.{Id, fresh_row, map, read_map, row_of, rows_more, rows_of, slice_get, take-map, take_all}
 use Rattle.wit_scopes.specs.BorrowedNames.{Borrowed, name_view}
 use Rattle.wit_scopes.proofs.definition_order.scope_table.Goals as goal
 

@@ -1,5 +1,5 @@
 use Rattle.std.proofs.Common.{◌≡◌, map, take}
-use Rattle.wit_syntax.proofs.Common.{rows, rows_of}
+use Rattle.wit_arena.proofs.Common.{rows, rows_of}
 use Rattle.wit_scopes.specs.BorrowedNames.{name_view}
 use Rattle.wit_scopes.proofs.definition_order.scope_table.Given as goal
 

@@ -1,5 +1,5 @@
 use Rattle.std.proofs.Common.{◌≡◌, ◌+◌, ◌++◌, List, ◌∷◌, [], map, take, sym, ap, ◌∙◌, append_assoc}
-use Rattle.wit_syntax.proofs.Common.{Id, local_id, map-append, take_all, take_more}
+use Rattle.wit_arena.proofs.Common.{Id, local_id, map-append, take_all, take_more}
 use Rattle.wit_scopes.specs.BorrowedNames.{DefinedName, definition_view}
 use Rattle.wit_scopes.proofs.distinct.add_definition_ids.Goals as goal
 

@@ -1,5 +1,5 @@
 use Rattle.std.proofs.Common.{◌≡◌, ◌++◌, map, take}
-use Rattle.wit_syntax.proofs.Common.{local_id}
+use Rattle.wit_arena.proofs.Common.{local_id}
 use Rattle.wit_scopes.specs.BorrowedNames.{definition_view}
 use Rattle.wit_scopes.proofs.distinct.add_definition_ids.Given as goal
 

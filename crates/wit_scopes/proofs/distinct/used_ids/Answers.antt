@@ -1,5 +1,5 @@
 use Rattle.std.proofs.Common.{◌≡◌, ◌+◌, ◌++◌, List, ◌∷◌, [], map, take, sym, ap, ◌∙◌}
-use Rattle.wit_syntax.proofs.Common.{Id, local_id, map-append, take_all, take_more}
+use Rattle.wit_arena.proofs.Common.{Id, local_id, map-append, take_all, take_more}
 use Rattle.wit_scopes.specs.BorrowedNames.{use_view}
 use Rattle.wit_scopes.specs.declared.scope_name.UsedName.{UsedName}
 use Rattle.wit_scopes.proofs.distinct.used_ids.Goals as goal

@@ -1,5 +1,5 @@
 use Rattle.std.proofs.Common.{◌≡◌, map, take}
-use Rattle.wit_syntax.proofs.Common.{local_id}
+use Rattle.wit_arena.proofs.Common.{local_id}
 use Rattle.wit_scopes.specs.BorrowedNames.{use_view}
 use Rattle.wit_scopes.proofs.distinct.used_ids.Given as goal
 

@@ -1,5 +1,5 @@
 use Rattle.std.proofs.Common.{◌+◌, ◌++◌, ◌∷◌, [], List, map, take, refl, ap, ◌∙◌}
-use Rattle.wit_syntax.proofs.Common.{UseName, Used, map-append, slice_get_read, take_all, take_next}
+use Rattle.wit_arena.proofs.Common.{UseName, Used, map-append, slice_get_read, take_all, take_next}
 use Rattle.wit_scopes.specs.BorrowedNames.{source_view, name_view}
 use Rattle.wit_scopes.proofs.Declaring.{one_more}
 use Rattle.wit_scopes.proofs.Placed.{names_more}

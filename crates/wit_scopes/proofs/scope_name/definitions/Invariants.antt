@@ -1,5 +1,5 @@
 use Rattle.std.proofs.Common.{◌≡◌, map, take}
-use Rattle.wit_syntax.proofs.Common.{defined}
+use Rattle.wit_arena.proofs.Common.{defined}
 use Rattle.wit_scopes.specs.BorrowedNames.{name_view, definition_view}
 use Rattle.wit_scopes.proofs.scope_name.definitions.Given as goal
 

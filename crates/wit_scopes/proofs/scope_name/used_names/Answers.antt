@@ -1,5 +1,5 @@
 use Rattle.std.proofs.Common.{◌≡◌, ◌++◌, ◌∷◌, [], List, Some, take, refl, sym, ap, ◌∙◌}
-use Rattle.wit_syntax.proofs.Common.{append-nil, flat_map, slice_get, slice_get_read, take_all}
+use Rattle.wit_arena.proofs.Common.{append-nil, flat_map, slice_get, slice_get_read, take_all}
 use Rattle.wit_scopes.specs.BorrowedNames.{Borrowed, own_use}
 use Rattle.wit_scopes.specs.declared.scope_name.UsedName.{UsedName}
 use Rattle.wit_scopes.proofs.UsedNames.{uses_more}

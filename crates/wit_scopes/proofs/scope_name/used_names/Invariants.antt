@@ -1,5 +1,5 @@
 use Rattle.std.proofs.Common.{◌≡◌, take}
-use Rattle.wit_syntax.proofs.Common.{flat_map}
+use Rattle.wit_arena.proofs.Common.{flat_map}
 use Rattle.wit_scopes.specs.BorrowedNames.{own_use}
 use Rattle.wit_scopes.proofs.scope_name.used_names.Given as goal
 

@@ -1,6 +1,5 @@
 use Rattle.std.proofs.Common.{◌≡◌, ◌+◌, ◌++◌, ◌∷◌, [], List, take, sym, ap, ◌∙◌}
-use Rattle.wit_type_tree.specs.declared.types.Field.{Field}
-use Rattle.wit_syntax.proofs.Common.{append-nil, field_types, map-append, take_all, take_more}
+use Rattle.wit_arena.proofs.Common.{Field, append-nil, field_types, map-append, take_all, take_more}
 use Rattle.wit_scopes.proofs.TypeWords.{type_words, words_more}
 use Rattle.wit_scopes.proofs.written_names.collect_field_deps.Goals as goal
 

@@ -1,5 +1,5 @@
 use Rattle.std.proofs.Common.{◌≡◌, ℕ, true, false, List, sym, ◌∙◌, subst, ◌++◌}
-use Rattle.wit_syntax.proofs.Common.{IfOk, string_bytes, codes, side_word}
+use Rattle.wit_arena.proofs.Common.{codes, side_word}
 use Rattle.wit_walk.proofs.Common.{crossed, sort_among}
 use Rattle.wit_refusals.specs.KeyedNames.{HasName}
 use Rattle.wit_refusals.specs.NameScopes.{Name}
@@ -28,5 +28,6 @@ returns-else-not-branch-clause-first c =
     let there = subst (λ (l : List Name). HasName l name) (c.in-Err.ensures.unchanged c.args.side) (c.in_ok-has-in-Err.ensures.0 c.if-not-branch.false) in
     let sorts = sorted_on c.args.side c.args.sides.now in
     let word = sort_among sorts name in
-    let says = subst (λ (w : List ℕ). IfOk c.conflict.result (λ t. string_bytes t ≡ (side_word c.args.side ++ (codes " `" ++ (name ++ (codes "` conflicts with prior " ++ (w ++ codes " of same name"))))))) c.sort_on-what.ensures c.conflict.ensures in
-    named_has (crossed c.args.side sorts) (defined_on c.args.side c.args.in_use.now) name c.args.span c.refuse_in.result there (c.refuse_in.ensures (side_word c.args.side ++ (codes " `" ++ (name ++ (codes "` conflicts with prior " ++ (word ++ codes " of same name"))))) says)
+    let says : List ℕ → List ℕ → List ℕ = λ on what. on ++ (codes " `" ++ (name ++ (codes "` conflicts with prior " ++ (what ++ codes " of same name")))) in
+    let words = rw (c.side_word-word.ensures, c.sort_on-what.ensures) at c.format-words.ensures.ok in
+    named_has (crossed c.args.side sorts) (defined_on c.args.side c.args.in_use.now) name c.args.span c.refuse_in.result there (c.refuse_in.ensures (says (side_word c.args.side) word) words)

@@ -1,5 +1,5 @@
 use Rattle.std.proofs.Common.{◌≡◌, ◌∷◌, [], List, ℕ, ap, sym, ◌∙◌, Option, true, false, subst}
-use Rattle.wit_syntax.proofs.Common.{Fault, Imported, SideFunction, role_side}
+use Rattle.wit_arena.proofs.Common.{Fault, Imported, SideFunction, role_side}
 use Rattle.wit_refusals.specs.NameScopes.{Name}
 use Rattle.wit_sides.specs.SideNames.{defined_on}
 use Rattle.wit_rules.specs.BorrowedFunctions.{function_view}

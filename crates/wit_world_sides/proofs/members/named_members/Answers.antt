@@ -1,5 +1,5 @@
 use Rattle.std.proofs.Common.{◌++◌, List, map, sym, ap, ◌∙◌, subst}
-use Rattle.wit_syntax.proofs.Common.{AllDiffer, Imported, WorldSide, differ_none, err_from_is_err_and, names_on}
+use Rattle.wit_arena.proofs.Common.{AllDiffer, Imported, WorldSide, differ_none, err_from_is_err_and, names_on}
 use Rattle.wit_refusals.specs.NameScopes.{Name}
 use Rattle.wit_signatures.specs.ForeignName.{name_key, name_of_id}
 use Rattle.wit_world_sides.proofs.Putting.{begun_with}

@@ -1,6 +1,5 @@
 use Rattle.std.proofs.Common.{◌≡◌, ◌∷◌, [], refl, ap, ◌∙◌}
-use Rattle.wit_syntax.proofs.Common.{SideFunction, WorldSide, codes, role_side, same_side}
-use Rattle.wit_arena.proofs.Common.{function_item}
+use Rattle.wit_arena.proofs.Common.{SideFunction, WorldSide, codes, function_item, role_side, same_side}
 use Rattle.wit_refusals.specs.NameScopes.{Name}
 use Rattle.wit_rules.specs.BorrowedFunctions.{function_view}
 use Rattle.wit_externs.specs.Next.{linked_on}

@@ -1,6 +1,5 @@
 use Rattle.std.proofs.Common.{[], refl, ap, subst, inl, Option, sym, true}
-use Rattle.wit_syntax.proofs.Common.{Fault, SideInline, err_from_is_err_and, on_ok_weaker}
-use Rattle.wit_arena.proofs.Common.{WorldItem}
+use Rattle.wit_arena.proofs.Common.{Fault, SideInline, WorldItem, err_from_is_err_and, on_ok_weaker}
 use Rattle.wit_model.specs.declared.world.WorldKey.TheVariants as key
 use Rattle.wit_world_sides.specs.Members.{Puts, item_word}
 use Rattle.wit_walk.proofs.Common.{Finds}

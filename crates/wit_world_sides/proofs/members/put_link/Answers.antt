@@ -1,5 +1,5 @@
 use Rattle.std.proofs.Common.{refl, ap, Option, subst, sym}
-use Rattle.wit_syntax.proofs.Common.{Fault, SideLink, on_ok_weaker}
+use Rattle.wit_arena.proofs.Common.{Fault, SideLink, on_ok_weaker}
 use Rattle.wit_world_sides.specs.Members.{item_word, path_link}
 use Rattle.wit_world_sides.proofs.Putting.{names_under, put_under, sorted_under}
 use Rattle.wit_walk.proofs.Common.{Finds}

@@ -1,5 +1,5 @@
 use Rattle.std.proofs.Common.{ℕ, ◌++◌, [], ◌∷◌, List, map, refl, sym, ap, ◌∙◌}
-use Rattle.wit_syntax.proofs.Common.{WorldSide, item_side, same_side}
+use Rattle.wit_arena.proofs.Common.{WorldSide, item_side, same_side}
 use Rattle.wit_model.specs.declared.world.WorldKey.TheVariants as key
 use Rattle.wit_refusals.specs.NameScopes.{Name}
 use Rattle.wit_sides.specs.SideNames.{defined_on}

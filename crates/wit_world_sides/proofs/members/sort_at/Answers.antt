@@ -1,6 +1,5 @@
 use Rattle.std.proofs.Common.{Option, sym, ap, ◌∙◌}
-use Rattle.wit_syntax.proofs.Common.{codes, option_copied, option_map_or}
-use Rattle.wit_arena.proofs.Common.{WorldItem}
+use Rattle.wit_arena.proofs.Common.{WorldItem, codes, option_copied, option_map_or}
 use Rattle.wit_world_sides.specs.Members.{item_word}
 use Rattle.wit_world_sides.proofs.Sorts.{sort_lookup}
 use Rattle.wit_world_sides.proofs.members.sort_at.Goals as goal

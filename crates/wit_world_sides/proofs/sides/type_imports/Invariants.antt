@@ -1,6 +1,5 @@
 use Rattle.std.proofs.Common.{◌≡◌, List, map, take}
-use Rattle.wit_syntax.proofs.Common.{ScopeName, local_id}
-use Rattle.wit_arena.proofs.Common.{type_imports}
+use Rattle.wit_arena.proofs.Common.{ScopeName, local_id, type_imports}
 use Rattle.wit_world_sides.proofs.sides.type_imports.Given as goal
 
 abbrev pub invariant-loop-place : goal.invariant-loop-place

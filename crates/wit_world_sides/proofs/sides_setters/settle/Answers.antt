@@ -1,4 +1,4 @@
-use Rattle.wit_syntax.proofs.Common.{Exported, Imported}
+use Rattle.wit_arena.proofs.Common.{Exported, Imported}
 use Rattle.wit_world_sides.proofs.Putting.{keyed_differ}
 use Rattle.wit_world_sides.proofs.sides_setters.settle.Goals as goal
 

@@ -1,7 +1,6 @@
 use Rattle.std.proofs.Common.{ℕ, [], ◌∷◌, ◌++◌, refl, ap, ◌∙◌}
 use Rattle.wit_model.specs.declared.ast_item.AstItem.TheVariants as entry
-use Rattle.wit_arena.proofs.Common.{Interface}
-use Rattle.wit_files.specs.ForeignPaths.{foreign_view}
+use Rattle.wit_items.proofs.Common.{Interface, foreign_view}
 use Rattle.wit_front.proofs.ForeignName.{arenas-interface}
 use Rattle.wit_front.proofs.foreign.ForeignArenas.add_interface.Goals as goal
 

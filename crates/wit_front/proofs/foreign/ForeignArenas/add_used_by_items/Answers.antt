@@ -1,9 +1,7 @@
 use Rattle.std.proofs.Common.{◌≡◌, ◌+◌, ◌++◌, List, [], ◌∷◌, take, sym, ap, ◌∙◌, subst, arith, append_assoc}
-use Rattle.wit_syntax.proofs.Common.{ForeignUse, flat_map, foreign_items, take_all, take_more}
-use Rattle.wit_arena.proofs.Common.{interfaces_differ}
-use Rattle.wit_top_names.proofs.Lost.{flat_more}
+use Rattle.wit_items.proofs.Common.{ForeignUse, IsItemPlaced, flat_map, foreign_items, interfaces_differ, take_all, take_more}
 use Rattle.wit_items.specs.declared.items.Item.{Item}
-use Rattle.wit_items.specs.PlacedItems.{IsItemPlaced}
+use Rattle.wit_top_names.proofs.Lost.{flat_more}
 use Rattle.wit_front.specs.ForeignPrefix.{AreAdded, addresses_among, borrowed_foreign_uses}
 use Rattle.wit_front.proofs.ForeignUses.{all-foreign_uses, items_placed}
 use Rattle.wit_front.proofs.ForeignName.{prefix_used}

@@ -1,8 +1,7 @@
 use Rattle.std.proofs.Common.{◌++◌, List, take}
-use Rattle.wit_syntax.proofs.Common.{All, ForeignUse, ForeignVisit, flat_map}
-use Rattle.wit_items.specs.PlacedItems.{IsItemPlaced}
-use Rattle.wit_front.specs.ForeignPrefix.{AreAdded, AreApart, addresses_among, borrowed_foreign_uses}
+use Rattle.wit_items.proofs.Common.{All, AllDiffer, ForeignUse, ForeignVisit, IsItemPlaced, flat_map}
+use Rattle.wit_front.specs.ForeignPrefix.{AreAdded, addresses_among, borrowed_foreign_uses}
 use Rattle.wit_front.proofs.foreign.ForeignArenas.add_used_by_items.Given as goal
 
 abbrev pub invariant-loop-item : goal.invariant-loop-item
-invariant-loop-item l = (vs : List ForeignVisit) (ts : List ForeignUse) → AreApart vs → All (IsItemPlaced (addresses_among vs)) l.items → AreAdded vs ts l.fn.types l.fn.self → AreAdded vs (ts ++ flat_map borrowed_foreign_uses (take l.item-index l.items)) l.types l.self
+invariant-loop-item l = (vs : List ForeignVisit) (ts : List ForeignUse) → AllDiffer (addresses_among vs) → All (IsItemPlaced (addresses_among vs)) l.items → AreAdded vs ts l.fn.types l.fn.self → AreAdded vs (ts ++ flat_map borrowed_foreign_uses (take l.item-index l.items)) l.types l.self

@@ -1,8 +1,5 @@
 use Rattle.std.proofs.Common.{◌≡◌, [], ◌∷◌, ap, ◌∙◌, subst}
-use Rattle.wit_syntax.proofs.Common.{ForeignNamed, Used, append-nil, on_ok_weaker, package_of, use_of_foreign}
-use Rattle.wit_scopes.specs.BorrowedNames.{Borrowed as ScopeName, source_view, name_view, IsPlaced}
-use Rattle.wit_scopes.specs.declared.scope_name.Source.{Source}
-use Rattle.wit_scopes.specs.PlacedNames.{IsNamePlaced}
+use Rattle.wit_items.proofs.Common.{Borrowed as ScopeName, ForeignNamed, IsNamePlaced, IsPlaced, Source, Used, append-nil, name_view, on_ok_weaker, package_of, source_view, use_of_foreign}
 use Rattle.wit_front.specs.ForeignPrefix.{addresses_among, name_foreign_uses}
 use Rattle.wit_front.proofs.foreign.ForeignArenas.add_used_by_name.Goals as goal
 

@@ -1,9 +1,7 @@
 use Rattle.std.proofs.Common.{◌++◌, List, map, take}
-use Rattle.wit_syntax.proofs.Common.{ForeignUse, ForeignVisit}
-use Rattle.wit_scopes.specs.BorrowedNames.{name_view}
-use Rattle.wit_scopes.specs.PlacedNames.{AreNamesPlaced}
-use Rattle.wit_front.specs.ForeignPrefix.{AreAdded, AreApart, addresses_among, names_foreign_uses}
+use Rattle.wit_items.proofs.Common.{AllDiffer, AreNamesPlaced, ForeignUse, ForeignVisit, flat_map, name_view}
+use Rattle.wit_front.specs.ForeignPrefix.{AreAdded, addresses_among, name_foreign_uses}
 use Rattle.wit_front.proofs.foreign.ForeignArenas.add_used_by_names.Given as goal
 
 abbrev pub invariant-loop-name : goal.invariant-loop-name
-invariant-loop-name l = (vs : List ForeignVisit) (ts : List ForeignUse) → AreApart vs → AreNamesPlaced (addresses_among vs) l.names → AreAdded vs ts l.fn.types l.fn.self → AreAdded vs (ts ++ names_foreign_uses (map name_view (take l.name-index l.names))) l.types l.self
+invariant-loop-name l = (vs : List ForeignVisit) (ts : List ForeignUse) → AllDiffer (addresses_among vs) → AreNamesPlaced (addresses_among vs) l.names → AreAdded vs ts l.fn.types l.fn.self → AreAdded vs (ts ++ flat_map name_foreign_uses (map name_view (take l.name-index l.names))) l.types l.self

@@ -1,9 +1,8 @@
 use Rattle.std.proofs.Common.{◌≡◌, ℕ, [], ◌∷◌, ◌++◌, Some, None, nat_eq, refl, sym, ap, ◌∙◌, subst}
-use Rattle.wit_syntax.proofs.Common.{Metadata, insert_entry, lookup, pointwise, slice_get, slice_set}
+use Rattle.wit_items.proofs.Common.{Interface, Metadata, insert_entry, lookup, named, pointwise, slice_get, slice_set}
 use Rattle.std.specs.Prelude.{is_some}
 use Rattle.wit_types.specs.declared.types.TypeDefKind.TheVariants.{Unknown}
 use Rattle.wit_types.specs.declared.types.TypeOwner.TheVariants as owner
-use Rattle.wit_arena.proofs.Common.{Interface, named}
 use Rattle.wit_front.specs.ForeignPrefix.{with_types, addresses_among}
 use Rattle.wit_front.proofs.ForeignName.{in_use-known, in_use-fresh, is_some-copied, none_copied}
 use Rattle.wit_front.proofs.foreign.ForeignArenas.add_used_type.Goals as goal

@@ -1,7 +1,6 @@
 use Rattle.std.proofs.Common.{ℕ, [], ◌∷◌, ◌++◌, refl, ap, ◌∙◌}
 use Rattle.wit_model.specs.declared.ast_item.AstItem.TheVariants as entry
-use Rattle.wit_arena.proofs.Common.{World}
-use Rattle.wit_files.specs.ForeignPaths.{foreign_view}
+use Rattle.wit_items.proofs.Common.{World, foreign_view}
 use Rattle.wit_front.proofs.ForeignName.{arenas-world}
 use Rattle.wit_front.proofs.foreign.ForeignArenas.add_world.Goals as goal
 

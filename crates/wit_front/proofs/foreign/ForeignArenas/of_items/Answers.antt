@@ -1,7 +1,6 @@
 use Rattle.std.proofs.Common.{◌≡◌, ◌+◌, ◌++◌, ◌∷◌, [], List, map, take, sym, ap, ◌∙◌, subst}
-use Rattle.wit_syntax.proofs.Common.{ForeignVisit, map-append, take_all, take_more}
+use Rattle.wit_items.proofs.Common.{ForeignVisit, foreign_view, map-append, take_all, take_more}
 use Rattle.wit_files.specs.declared.foreign.ForeignVisit.{ForeignVisit as Borrowed}
-use Rattle.wit_files.specs.ForeignPaths.{foreign_view}
 use Rattle.wit_front.specs.ForeignPrefix.{AreAdded}
 use Rattle.wit_front.proofs.foreign.ForeignArenas.of_items.Goals as goal
 

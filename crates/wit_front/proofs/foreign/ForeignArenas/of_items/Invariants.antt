@@ -1,5 +1,5 @@
 use Rattle.std.proofs.Common.{[], map, take}
-use Rattle.wit_files.specs.ForeignPaths.{foreign_view}
+use Rattle.wit_items.proofs.Common.{foreign_view}
 use Rattle.wit_front.specs.ForeignPrefix.{AreAdded}
 use Rattle.wit_front.proofs.foreign.ForeignArenas.of_items.Given as goal
 
