@@ -1,20 +1,17 @@
 -- Where names in handles end in an arena, they end by files in so many steps: also once some names of the next interface or world, or of what is written in it, were added.
 use Rattle.std.proofs.Common.{◌≡◌, ℕ, zero, suc, ◌<◌, List, [], ◌∷◌, ◌++◌, take, Option, Some, None, inl, inr, refl, sym, ap, ◌∙◌, arith, true, false, length, map, subst, ◌+◌}
-use Rattle.wit_syntax.proofs.Common.{Address, AliasForm, AreDistinct, AtForeign, AtResource, Elsewhere, End, EndsAt, Form, Id, IsOrder, Item, PackageFile, ResourceForm, ScopeName, SideItem, TypeDef, TypeOwner, UnknownForm, Word, address, all_items, at_part, at_prefix, at_seam, at_take, cases_lt, differ_at, differ_by, flat_map, foreign_interfaces, in_turn, in_turn_among, in_turn_distinct, inline_items, inline_items_differ, length-map, local_name, map-append, map_at, option_map, rows_of, scope, scope_names, shape_end, slice_get, slice_get-map, slice_get_within, visited}
+use Rattle.wit_contents.proofs.Names.{Address, AddsForeign, AddsScope, AddsSides, AliasForm, AreDistinct, AreItems, AreKnown, AreNames, AreOfSort, AreOwned, AreUsableUses, AreWorldsDone, AtForeign, AtResource, Decls, Def, Defines, DoneScope, Elsewhere, EndIs, EndsAt, EndsInTurn, EntryEnd, Env, Form, Function, Id, Interface, InterfacesDone, IsDeclared, IsDefined, IsKeyed, IsNameOf, IsOrder, IsOther, IsOutcome, IsResource, IsUnknown, Key, Names, Occurrence, Outcome, PackageFile, Required, ResolvedScope, ResourceForm, ScopeName, SideItem, Turned, TypeDef, TypeOwner, UnknownForm, Word, World, WorldArenas, address, all_items, all_name_occurrences, all_occurrences, all_turns, at_part, at_prefix, at_seam, at_take, cases_lt, collects_from, decls, defines_wider, differ_at, differ_by, done_address, end_fault as walk_fault, end_source-more, entry_end, env_of, flat_map, foreign_interfaces, found_end, function_part_declared, handle_fault, in_turn, in_turn_among, in_turn_distinct, inline_items, inline_items_differ, item_declared, item_of, item_scopes, keys, kind_end, kind_of, length-map, local_name, map-append, map_at, name_seen_in, next_interface, next_world, none_is_next, option_cases, option_map, own_item, own_order, part_end, prefix_apart, prefix_scopes, resolved_scope_of, resolved_scopes, resolved_scopes_among, rows_of, scope, scope_names, scope_of, scopes_of, shape_end, slice_get, slice_get-map, slice_get_within, turned, visited, world_item_declared}
+use Rattle.wit_walk.proofs.Common.{End}
+use Rattle.wit_arena.proofs.Common.{Item}
 use Rattle.wit_types.specs.declared.types.«Type».{«Type» as Ty}
 use Rattle.wit_types.specs.declared.types.«Type».TheVariants as type
-use Rattle.wit_walk.proofs.Common.{IsOutcome, Outcome, end_fault as walk_fault, handle_fault}
-use Rattle.wit_arena.proofs.Common.{AddsForeign, AddsScope, AddsSides, AreItems, AreKnown, AreNames, AreOfSort, AreOwned, AreUsableUses, AreWorldsDone, Decls, Def, Defines, EndIs, EntryEnd, Env, Function, Interface, InterfacesDone, IsDeclared, IsDefined, IsKeyed, IsOther, IsResource, IsUnknown, Key, Names, Occurrence, Required, ResolvedScope, Turned, World, WorldArenas, all_name_occurrences, all_occurrences, all_turns, collects_from, decls, defines_wider, end_source-more, entry_end, env_of, found_end, function_part_declared, item_declared, item_of, item_scopes, keys, kind_end, kind_of, name_seen_in, next_interface, next_world, option_cases, own_item, own_order, part_end, prefix_apart, prefix_scopes, resolved_scopes, resolved_scopes_among, scope_of, scopes_of, turned, world_item_declared}
+use Rattle.wit_arena.proofs.Interfaces.{functions_of}
 use Rattle.wit_entries.specs.EntryFaults.{end_fault, end_in}
 use Rattle.wit_externs.specs.AloneFaults.{EndsIn}
 use Rattle.wit_types.specs.declared.types.TypeOwner.TheVariants as owner
 use Rattle.wit_arena.proofs.DoneNames.{function_part_of}
 use Rattle.wit_arena.proofs.FunctionPart.{DoneFunction, IsFunctionPart, scope_functions}
-use Rattle.wit_arena.proofs.Interfaces.{functions_of}
-use Rattle.wit_arena.proofs.Members.{DoneScope, IsNameOf, resolved_scope_of, done_address}
-use Rattle.wit_arena.proofs.ScopesInTurn.{none_is_next}
 use Rattle.wit_arena.proofs.Sided.{IsFreshInside, AreSided}
-use Rattle.wit_item_entries.specs.ReachedFaults.{EndsInTurn}
 use Rattle.wit_arena.proofs.Inside.{inside_at, inside_scopes-count}
 use Rattle.wit_arena.proofs.WorldSides.{fresh_inside, names_done, sides_done, world_fresh}
 use Rattle.wit_arena.proofs.WorldSides as done

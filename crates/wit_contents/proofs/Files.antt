@@ -1,33 +1,16 @@
 -- What holds of files, of what comes before their interfaces and worlds, and once these were added.
-use Rattle.std.proofs.Common.{◌≡◌, List, false, sym, ap, ◌∙◌, ◌<◌, ℕ, All, length, map, get_or, subst, ◌≤◌, [], arith, refl, ◌++◌, Some}
-use Rattle.wit_syntax.proofs.Common.{Declared, ForeignVisit, IsOrder, PackageFile, TypeDef, about, all_declared, all_items, append-nil, foreign_interfaces, foreign_items, foreign_worlds, is_inside, item_rows, length-map, option_map, slice_get-get_or, visited, Fault, IsBrokenNames, first_foreign_uses, foreign_packages, in_order, interfaces_of, worlds_of, package_of, Item, TheInline, TheInterface, TheWorld, slice_get, InterfaceNamed, WorldNamed}
+use Rattle.std.proofs.Common.{◌≡◌, List, sym, ap, ◌∙◌, ◌<◌, ℕ, All, length, map, get_or, subst, ◌≤◌, [], arith, refl, ◌++◌}
+use Rattle.wit_contents.proofs.Names.{AddsForeign, AddsInterfaces, AddsWorlds, AreEntriesOf, AreItemsOf, AreUsableUses, Fault, ForeignVisit, Interface, InterfaceNamed, IsBrokenNames, IsItemPlaced, IsNameIndex, IsOrder, Item as BorrowedItem, Names, PackageFile, Required, TypeDef, World, WorldArenas, WorldNamed, all_items, append-nil, dep, first_foreign_uses, foreign_interfaces, foreign_items, foreign_packages, foreign_view, foreign_worlds, in_order, index_prefix, interfaces_at, interfaces_at-append, interfaces_differ, interfaces_of, item_rows, item_view, items_within, length-map, option_map, others_of, package_of, prefix_of, prefix_worlds, slice_get-get_or, visited, visited_foreign, visits_differ, worlds_at, worlds_at-append, worlds_of}
 use Rattle.wit_tree.specs.declared.tree.PackageName.{PackageName as Header}
-use Rattle.wit_arena.proofs.Common.{AddsForeign, Interface, Names, Required, World, index_prefix, interfaces_differ, items_within, visited_foreign, visits_differ, worlds_at, worlds_at-append, AddsInterfaces, AddsWorlds, WorldArenas, dep, prefix_worlds, AreUsableUses, IsNameIndex, interfaces_at, interfaces_at-append}
-use Rattle.wit_items.specs.declared.items.Item.{Item as BorrowedItem}
-use Rattle.wit_items.specs.BorrowedItems.{item_view, others_of}
 use Rattle.wit_arena.proofs.MadePackage.{made_of_package}
 use Rattle.wit_arena.proofs.Resolved.{files_package}
 use Rattle.wit_model.specs.declared.foreign.ForeignItems.{ForeignItems}
 use Rattle.wit_contents.specs.AddedFiles.{MakeContents, package_with}
-use Rattle.wit_files.specs.ForeignPaths.{foreign_view}
 use Rattle.wit_files.specs.declared.foreign.ForeignVisit.{ForeignVisit as BorrowedVisit}
 use Rattle.wit_front.specs.declared.foreign.ForeignArenas.{ForeignArenas}
-use Rattle.wit_items.specs.ForeignAddresses.{prefix_of}
-use Rattle.wit_items.specs.Gathered.{AreItemsOf}
-use Rattle.wit_items.specs.ItemPaths.{AreEntriesOf}
-use Rattle.wit_items.specs.PlacedItems.{IsItemPlaced}
 use Rattle.wit_front.specs.ForeignPrefix.{AddsPrefix, AreAdded, HasUsed, IsPrefix, entries_after}
 use Rattle.wit_front.proofs.ForeignUses.{items_placed}
 use Rattle.wit_front.proofs.Prefixes.{entries_after-among}
-
--- each item of files has a name by which it is found
-pub all_called : (files : List PackageFile) (k : ℕ) (i : Item) → slice_get (all_items files) k ≡ Some i → (about i.declared).called ≡ Some (about i.declared).id.name.now
-all_called files k i at = by i.declared (all_declared files k i at)
-  where
-    by : (d : Declared) → is_inside (about d).address ≡ false → (about d).called ≡ Some (about d).id.name.now
-    by (TheInterface x) own = refl
-    by (TheWorld x) own = refl
-    by (TheInline world place x name items) own = absurd (let f : ⊥ = cc in f)
 
 -- the places of items are those of the items that are borrowed
 pub borrowed_within : (files : List PackageFile) (places : List ℕ) (items : List BorrowedItem) → IsOrder (item_rows files) places → map item_view items ≡ all_items files → All (λ (place : ℕ). place < length items) places

@@ -1,21 +1,13 @@
 -- The first fault of an interface: of its names, or, once they are resolved, of what comes after them.
 use Rattle.std.proofs.Common.{◌≡◌, ℕ, List, [], length, map, Option, None, sym, ap, ◌∙◌, subst, arith}
-use Rattle.wit_syntax.proofs.Common.{Err, Fault, Id, Item, Ok, ParseError, Result, ScopeName, TypeDef, TypeOwner, in_turn, local_id, option_or, rows_of, scope_names, take_all}
+use Rattle.wit_contents.proofs.Names.{AddsTurn, Defines, EndsInTurn, Env, Err, Fault, Finds, FindsInterface, Id, InOrder, Interfaces, IsLent, IsOutcome, IsRightOf, ItemScope, Names, Ok, Outcome, ParseError, Required, ResolvedScope, Result, ScopeName, TypeDef, TypeOwner, env_of, finds_same, head_fault, in_turn, interface_fault, local_id, names_of, option_or, order_of, outcome_one, resolved_scopes_of, rest_fault, rows_of, scope_item, scope_names, take_all}
+use Rattle.wit_arena.proofs.Common.{Item}
 use Rattle.wit_types.specs.declared.types.TypeOwner.TheVariants as owner
-use Rattle.wit_walk.proofs.Common.{Finds, InOrder, IsOutcome, Outcome, finds_same, order_of, outcome_one}
-use Rattle.wit_arena.proofs.Common.{Defines, Env, Names, Required, ResolvedScope, env_of}
 use Rattle.wit_entries.specs.Requiring.{IsExtended}
 use Rattle.wit_externs.specs.AloneFaults.{EndsIn, FindsIn}
 use Rattle.wit_externs.proofs.AloneFaults.{safe_of}
-use Rattle.wit_items.specs.BorrowedItems.{scope_item}
-use Rattle.wit_items.specs.ResolvedInterfaces.{resolved_scopes_of}
-use Rattle.wit_items.specs.declared.interfaces.Interfaces.{Interfaces}
-use Rattle.wit_items.specs.declared.items.ItemScope.{ItemScope}
-use Rattle.wit_item_entries.specs.AddedNames.{AddsTurn}
 use Rattle.wit_item_entries.specs.Body.{HasTurn}
-use Rattle.wit_item_entries.specs.ReachedFaults.{EndsInTurn}
 use Rattle.wit_item_entries.specs.declared.names.ResolvedNames.{ResolvedNames}
-use Rattle.wit_contents.specs.InterfaceFaults.{FindsInterface, IsLent, IsRightOf, head_fault, interface_fault, names_of, rest_fault}
 use Rattle.wit_contents.proofs.FileFaults.{or_found}
 
 -- names that were added in turn are in the order of their outcome

@@ -1,5 +1,4 @@
 pub mod Files
-pub mod Linking
 mod WorldsMore
 mod MemberFaults
 mod Members
@@ -14,3 +13,4 @@ pub mod MembersWalked
 pub mod RightWorlds
 pub mod RightInterfaces
 pub mod FileFaults
+pub mod Names

@@ -1,13 +1,9 @@
 -- The first fault of a link of a world, by the interfaces that are resolved, is that of the walk of files.
 use Rattle.std.proofs.Common.{◌≡◌, ℕ, ◌+◌, suc, Bool, true, false, not, ◌||◌, List, [], ◌∷◌, ◌++◌, nat_eq, Option, Some, None, IsSome, inl, inr, refl, sym, ap, ◌∙◌, arith}
-use Rattle.wit_syntax.proofs.Common.{Address, Fault, Foreign, ForeignNamed, ForeignVisit, Id, InterfaceNamed, Item, Link, Local, PackageFile, PackageName, SideFunction, SideInline, SideItem, SideLink, Target, TopName, UsePath, all_items, cases_Bool, find_at, find_passes, flat_map, foreign_at, foreign_interfaces, foreign_items, if◌then◌else◌, is_none, is_world, is_world_at, item_link, item_named, item_word, items_on, kept_has, leads, linked_twice, list_any, missing_at, option_map, option_map_or, option_or, option_to_list, path_id, path_scope, same_address, same_address-equal, same_address-from, slice_get, slice_get-map, some_of, target_scope, visited, world_there, ◌&&◌}
-use Rattle.wit_walk.proofs.Common.{is_same_link, link_fault, linked_fault as again_fault, lost_fault, metadata_fault, or_assoc, reached_fault}
-use Rattle.wit_arena.proofs.Common.{Names, env_of, interfaces_differ, place_at, place_at-found}
+use Rattle.wit_contents.proofs.Names.{Address, Fault, Foreign, ForeignNamed, ForeignVisit, Id, InterfaceNamed, Link, Local, Names, PackageFile, PackageName, SideFunction, SideInline, SideItem, SideLink, Target, TopName, UsePath, again_linked, all_items, cases_Bool, env_of, find_at, find_passes, flat_map, foreign_at, foreign_interfaces, foreign_items, if◌then◌else◌, interface_place, interfaces_differ, is_none, is_same_link, is_world, is_world_at, item_link, item_named, item_word, items_on, kept_has, leads, link_fault, linked_fault, linked_twice, list_any, lost_fault, metadata_fault, missing_at, number_equal, option_map, option_map_or, option_or, option_to_list, or_assoc, path_id, path_place, path_scope, place_at, place_at-found, prefix_of, reached_fault, same_address, same_address-equal, same_address-from, slice_get, slice_get-map, some_of, target_scope, unresolved_fault, visited, world_there, ◌&&◌}
+use Rattle.wit_arena.proofs.Common.{Item}
+use Rattle.wit_items.proofs.Common.{linked_fault as again_fault}
 use Rattle.wit_externs.specs.Links.{bare_places}
-use Rattle.wit_items.specs.ForeignAddresses.{prefix_of}
-use Rattle.wit_items.specs.ResolvedInterfaces.{unresolved_fault}
-use Rattle.wit_links.specs.Links.{interface_place, linked_fault, path_place}
-use Rattle.wit_world_sides.specs.PutFaults.{again_linked}
 
 abbrev wants : ForeignVisit → Bool
 wants v = v.wants_world
@@ -53,17 +49,13 @@ lost_there files by_name (Foreign p id) l none = absurd (
     let wrong : Some v.0.wants_world ≡ None = sym (ap (option_map (λ (u : ForeignVisit). u.wants_world)) v.1) ∙ none in
     cc)
 
--- two of one place are one scope
-nat_from : (i j : ℕ) → nat_eq i j ≡ true → i ≡ j
-nat_from i j h = grind (arith, h)
-
 nat_itself : (i : ℕ) → nat_eq i i ≡ true
 nat_itself i = grind arith
 
 same_place : (i j : ℕ) (s t : Address) (place : Address → Option ℕ) (addresses : List Address) → slice_get addresses i ≡ Some s → slice_get addresses j ≡ Some t → place s ≡ Some i → place t ≡ Some j → nat_eq i j ≡ same_address t s
 same_place i j s t place addresses at_s at_t of_s of_t = elim (cases_Bool (nat_eq i j)) [
   | inl hit ↦ (
-      let one : i ≡ j = nat_from i j hit in
+      let one : i ≡ j = number_equal i j hit in
       let both : Some t ≡ Some s = sym at_t ∙ ap (slice_get addresses) (sym one) ∙ at_s in
       let same : t ≡ s = cc in
       hit ∙ sym (same_address-from t s same))

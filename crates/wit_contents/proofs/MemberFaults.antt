@@ -1,37 +1,24 @@
 -- The first fault of what is on the sides of a world: of one that comes next, and of more after some, part by part.
 use Rattle.std.proofs.Common.{◌≡◌, ℕ, List, [], ◌∷◌, ◌++◌, length, map, take, Option, Some, None, refl, sym, ap, ◌∙◌, subst, append_assoc, ◌<◌, ◌+◌, drop, get_or}
-use Rattle.wit_syntax.proofs.Common.{Declared, Fault, Id, Item, Link, ParseError, ResourceFunc, ScopeName, SideFunction, SideItem, SideLink, SourceFunction, TheInline, TheWorld, TopName, TypeBody, TypeDef, World, WorldItem, about, append-nil, definition_functions, flat_map, flat_map-append, functions_items, inline_item, item_function, item_inline, item_name, items_on, map-append, option_map, option_map_or, option_or, part_items, resource_function, scope_names, side_items, slice_get, slice_get_read, take_seam, world_part, Result}
-use Rattle.wit_walk.proofs.Common.{Reports, after-append, first_after, function_fault, metadata_fault, none_both, or_none, reports_prefix, reports_same, word_fault, Finds, finds_same}
-use Rattle.wit_arena.proofs.Common.{Env, env_of, Interface}
-use Rattle.wit_rules.specs.Signatures.{functions_view}
-use Rattle.wit_signatures.specs.SignatureFaults.{signed_fault}
+use Rattle.wit_contents.proofs.Names.{AddsMembers, AreKeyed, AreNamesPlaced, AreRightMembers, Declared, Env, Fault, Finds, FindsInterface, Id, Interfaces, IsLinkedTo, IsNext, IsRightMember, IsRightOf, ItemScope, ItemWalk, Link, MemberTest, ParseError, Reports, ResourceFunc, Result, ScopeName, SideFunction, SideItem, SideLink, SourceFunction, Stage, TheInline, TheWorld, TopName, TypeBody, TypeDef, about, after-append, append-nil, declared_view, definition_functions, env_of, finds_same, first_after, flat_map, flat_map-append, function_fault, function_member, functions_items, inline_item, inline_member, inline_of, inline_side, inside_of, inside_view, item_function, item_inline, item_name, items_on, lead, length-map, link_member, linked_fault, lost_word, map-append, meaning, metadata_fault, name_view, names_at_top, names_of, next_place, none_both, option_map, option_map_or, option_or, or_none, part_items, parts_more, prefix_of, put_link_fault, reports_prefix, reports_same, resource_function, resource_items, scope_item, scope_names, seen_on, side_items, slice_get, slice_get_read, slice_get_within, stage, take_next, take_seam, top_at, walk_item, word_fault, world_part}
+use Rattle.wit_contents.specs.declared.walk.Growing.{Growing}
+use Rattle.wit_contents.specs.declared.walk.Walked.{Walked}
+use Rattle.wit_arena.proofs.Common.{Item}
+use Rattle.wit_walk.proofs.Common.{World, WorldItem}
+use Rattle.wit_rules.specs.BorrowedFunctions.{function_view}
+use Rattle.wit_rules.specs.Signatures.{HaveOwners}
 use Rattle.wit_externs.specs.AloneFaults.{EndsIn, signed_by, words_in}
 use Rattle.wit_externs.proofs.AloneFaults.{function_same}
 use Rattle.wit_entries.specs.Requiring.{IsExtended}
-use Rattle.wit_files.specs.FileNames.{names_at_top, top_at}
-use Rattle.wit_items.specs.ForeignAddresses.{prefix_of}
-use Rattle.wit_scopes.specs.BorrowedNames.{name_view}
-use Rattle.wit_scopes.specs.PlacedNames.{AreNamesPlaced}
-use Rattle.wit_items.specs.BorrowedItems.{scope_item, declared_view}
-use Rattle.wit_items.specs.InlineNames.{inside_view, inside_of}
 use Rattle.wit_items.specs.declared.items.InlineInterface.{InlineInterface}
-use Rattle.wit_items.specs.declared.interfaces.Interfaces.{Interfaces}
-use Rattle.wit_items.specs.declared.items.ItemScope.{ItemScope}
-use Rattle.wit_world_sides.specs.PutFaults.{put_link_fault}
-use Rattle.wit_links.specs.Links.{IsLinkedTo, linked_fault}
-use Rattle.wit_links.specs.SideCounts.{inline_of, inline_side, seen_on}
 use Rattle.wit_links.proofs.Inlined.{names_own, lent_named, lent_placed}
-use Rattle.wit_item_entries.proofs.FunctionFaults.{words_same}
-use Rattle.wit_world_sides.specs.Members.{AreKeyed}
-use Rattle.wit_contents.specs.declared.walk.Walked.{Walked}
-use Rattle.wit_contents.specs.InterfaceFaults.{names_of, FindsInterface, IsRightOf}
-use Rattle.wit_contents.specs.MemberFaults.{AreRightMembers, IsRightMember, MemberTest, function_member, link_member, FindsMembers, inline_member}
-use Rattle.wit_contents.specs.Walk.{AddsMembers, AddsNext, IsNext, ItemWalk, Stage, lead, next_place, walk_item, resource_items, stage}
+use Rattle.wit_item_entries.proofs.FunctionFaults.{words_same, all_names}
+use Rattle.wit_item_entries.proofs.Owners.{owners, turn_has}
 use Rattle.wit_contents.proofs.InterfaceFaults.{finds_right}
 use Rattle.wit_contents.proofs.Members.{function_there, inline_here, members_none, members_then, next_then}
 use Rattle.wit_type_tree.specs.declared.types.TypeBody.TheVariants as body
-use Rattle.wit_items.proofs.UsableNames.{parts_more}
-use Rattle.wit_externs.proofs.Steps.{split_at, used_next}
+use Rattle.wit_entries.specs.EntryFaults.{written_fault}
+use Rattle.wit_externs.proofs.Steps.{split_at}
 
 -- by each test that is right of all, the first of them have no fault; and an error reports the first of all
 abbrev pub HaveNone : ItemWalk → (prefix all done : List SideItem) → Stage → Type 0
@@ -46,7 +33,7 @@ module _ (w : ItemWalk) where
   right_one wrong prefix x a keyed right = subst (λ (l : List SideItem). IsRightMember wrong w l x a) (append-nil prefix) (right [] [] x a refl (members_none w prefix a keyed))
 
   -- what is found of it by each test that is right of it is the first of all
-  pub one_found : {T : Type 0} (r : Result T ParseError) (x : SideItem) (a : Stage) (n : IsNext w (x ∷ []) a.walked) → ((wrong : MemberTest) → IsRightMember wrong w n.prefix x a → Finds (wrong n.prefix x) r) → FindsMembers w n.prefix (x ∷ []) a r
+  pub one_found : {T : Type 0} (r : Result T ParseError) (x : SideItem) (a : Stage) (n : IsNext w (x ∷ []) a.walked) → ((wrong : MemberTest) → IsRightMember wrong w n.prefix x a → Finds (wrong n.prefix x) r) → (wrong : MemberTest) → AreRightMembers wrong w n.prefix (x ∷ []) a → Finds (first_after wrong n.prefix (x ∷ [])) r
   one_found r x a n found wrong right = finds_same r (sym (or_none (wrong n.prefix x))) (found wrong (right_one wrong n.prefix x a n.keyed right))
 
   -- of all that come next these were added, and none of them has a fault
@@ -81,7 +68,7 @@ module _ (w : ItemWalk) where
         reports_same (sym is) (reports_prefix (first_after wrong ((n.prefix ++ done) ++ ys) rest) (own (next_of n) wrong (rights_next n wrong right)))
 
     -- where these have none either
-    pub done_later : (c : Stage) → AddsNext w ys b c → ((n : IsNext w ys b.walked) → HaveNone w n.prefix ys ys b) → AreDone all (done ++ ys) a c
+    pub done_later : (c : Stage) → ((n : IsNext w ys b.walked) → AddsMembers w n.prefix ys b c) → ((n : IsNext w ys b.walked) → HaveNone w n.prefix ys ys b) → AreDone all (done ++ ys) a c
     done_later c adds none = record {
       adds = λ n. members_then w n.prefix done ys a b c (d.adds n) (adds (next_of n));
       none = λ n wrong right. after-append wrong n.prefix done ys ∙ none_both (d.none n wrong right) (none (next_of n) wrong (rights_next n wrong right));
@@ -90,19 +77,29 @@ module _ (w : ItemWalk) where
 -- a function that comes next, by its place among the functions of the item
 module _ {w : ItemWalk} {fn : SourceFunction} {m : Walked} (n : IsNext w (SideFunction fn ∷ []) m) where
   abbrev fns : List SourceFunction
-  fns = functions_view w.walk.scope
+  fns = map function_view w.scope.functions.items
 
   abbrev place : ℕ
   place = m.seen.functions
 
   abbrev env : Env
-  env = env_of w.walk.scope.names.now
+  env = env_of w.scope.names.types
 
   abbrev xs : List ScopeName
   xs = scope_names (walk_item w)
 
-  pub function_next : slice_get (functions_view w.walk.scope) m.seen.functions ≡ Some fn
+  -- it is there, in a scope of the names
+  pub function_next : slice_get (map function_view w.scope.functions.items) m.seen.functions ≡ Some fn
   function_next = ap (λ (l : List SourceFunction). slice_get l place) n.walk.functions ∙ function_there (walk_item w) n.prefix n.rest fn place n.sides n.seen.functions
+
+  pub function_within : m.seen.functions < length w.scope.functions.items
+  function_within = subst (λ (k : ℕ). place < k) (length-map w.scope.functions.items function_view) (slice_get_within fns place fn function_next)
+
+  pub function_owners : HaveOwners (env_of w.scope.names.types) (map function_view w.scope.functions.items)
+  function_owners = subst (HaveOwners env) (sym n.walk.functions) (owners (walk_item w) env (turn_has xs w.scope.names.turn.items w.scope.names.types n.walk.turn w.scope.names.listed))
+
+  pub function_scoped : (name : List ℕ) → env name ≡ None → meaning xs name ≡ None
+  function_scoped = all_names xs w.scope.names.turn.items w.scope.names.types n.walk.turn w.scope.names.listed
 
   upto : take place fns ≡ flat_map item_function n.prefix
   upto =
@@ -115,11 +112,11 @@ module _ {w : ItemWalk} {fn : SourceFunction} {m : Walked} (n : IsNext w (SideFu
   by_scope : (handle : Id → Option Fault) → function_fault (signed_by (words_in env) handle (take place fns ++ fn ∷ [])) xs fn ≡ function_fault (signed_by (word_fault xs) handle (flat_map item_function n.prefix ++ fn ∷ [])) xs fn
   by_scope handle =
       ap (λ (l : List SourceFunction). function_fault (signed_by (words_in env) handle (l ++ fn ∷ [])) xs fn) upto
-      ∙ ap (λ (word : List SourceFunction → Id → Option Fault). function_fault (signed_by word handle (flat_map item_function n.prefix ++ fn ∷ [])) xs fn) (words_same xs w.walk.turn.now w.walk.scope.names.now n.walk.turn n.walk.listed)
+      ∙ ap (λ (word : List SourceFunction → Id → Option Fault). function_fault (signed_by word handle (flat_map item_function n.prefix ++ fn ∷ [])) xs fn) (words_same xs w.scope.names.turn.items w.scope.names.types n.walk.turn w.scope.names.listed)
 
   -- itself, by a test of names in handles that is right of the arena once it was resolved
   abbrev pub by_table : List TypeDef → Option Fault
-  by_table es = function_fault (signed_fault env es (take (place + 1) fns)) xs fn
+  by_table es = function_fault (written_fault (lost_word (take (place + 1) fns)) env es) xs fn
 
   abbrev pub by_names : (Id → Option Fault) → Option Fault
   by_names handle = function_fault (signed_by (word_fault xs) handle (flat_map item_function n.prefix ++ fn ∷ [])) xs fn
@@ -128,7 +125,7 @@ module _ {w : ItemWalk} {fn : SourceFunction} {m : Walked} (n : IsNext w (SideFu
   function_is es handle ends = function_same env es handle xs ends fns place fn function_next ∙ by_scope handle
 
 -- and so of all that is found of it
-pub function_found : {T : Type 0} (r : Result T ParseError) (w : ItemWalk) (fn : SourceFunction) (a : Stage) (n : IsNext w (SideFunction fn ∷ []) a.walked) → ((handle : Id → Option Fault) → ((more : List TypeDef) → EndsIn (env_of w.walk.scope.names.now) (a.types ++ more) handle) → Finds (function_member w n.prefix a.walked.members fn handle) r) → FindsMembers w n.prefix (SideFunction fn ∷ []) a r
+pub function_found : {T : Type 0} (r : Result T ParseError) (w : ItemWalk) (fn : SourceFunction) (a : Stage) (n : IsNext w (SideFunction fn ∷ []) a.walked) → ((handle : Id → Option Fault) → ((more : List TypeDef) → EndsIn (env_of w.scope.names.types) (a.growing.types ++ more) handle) → Finds (function_member w n.prefix a.walked.members fn handle) r) → (wrong : MemberTest) → AreRightMembers wrong w n.prefix (SideFunction fn ∷ []) a → Finds (first_after wrong n.prefix (SideFunction fn ∷ [])) r
 function_found r w fn a n found = one_found w r (SideFunction fn) a n (λ wrong right. finds_same r (sym right.2) (found right.0 right.1))
 
 -- its test is right once it was resolved
@@ -138,11 +135,11 @@ function_ends env old new handle from g = subst (λ (es : List TypeDef). EndsIn 
 -- a link that comes next: its attributes, where its path leads, and its name
 module _ {w : ItemWalk} {link : Link} {m : Walked} (n : IsNext w (SideLink link ∷ []) m) where
   abbrev resolved : Interfaces
-  resolved = w.walk.interfaces.now
+  resolved = w.interfaces
 
   -- what is at the top of its file
   at_top : top_at resolved.files w.item.place ≡ (walk_item w).top
-  at_top = ap names_at_top n.walk.item.filed.file
+  at_top = ap names_at_top n.walk.world.item.filed.file
 
   pub link_leads : (id : ℕ) → IsLinkedTo resolved.files resolved.by_name (top_at resolved.files w.item.place) link.path id → IsLinkedTo resolved.files resolved.by_name (walk_item w).top link.path id
   link_leads id leads = subst (λ (t : List TopName). IsLinkedTo resolved.files resolved.by_name t link.path id) at_top leads
@@ -166,7 +163,7 @@ module _ {w : ItemWalk} {link : Link} {m : Walked} (n : IsNext w (SideLink link 
       ∙ ap (λ (p : Option ℕ). option_map_or (put_link_fault m.members link) p None) there
       ∙ is
 
-pub link_found : {T : Type 0} (r : Result T ParseError) (w : ItemWalk) (link : Link) (a : Stage) (n : IsNext w (SideLink link ∷ []) a.walked) → Finds (link_member w a.walked.members link) r → FindsMembers w n.prefix (SideLink link ∷ []) a r
+pub link_found : {T : Type 0} (r : Result T ParseError) (w : ItemWalk) (link : Link) (a : Stage) (n : IsNext w (SideLink link ∷ []) a.walked) → Finds (link_member w a.walked.members link) r → (wrong : MemberTest) → AreRightMembers wrong w n.prefix (SideLink link ∷ []) a → Finds (first_after wrong n.prefix (SideLink link ∷ [])) r
 link_found r w link a n found = one_found w r (SideLink link) a n (λ wrong right. finds_same r (sym right) found)
 
 -- an inline interface that comes next, as it is lent
@@ -177,31 +174,31 @@ module _ {w : ItemWalk} {m : Walked} (x : InlineInterface) (n : IsNext w (inline
       let i = walk_item w in
       let number : before ≡ length (flat_map item_inline (items_on side n.prefix)) = count ∙ n.seen.inline side in
       let here : inline_item i x.place (inline_side x) ≡ inline_of i x ∷ [] = ap (λ (world : List _). record { top = i.top; declared = TheInline world x.place x.written.now x.name x.items.now } ∷ []) (sym world) in
-      names_own (inside_view side w.item) i (inline_of i x) n.prefix n.rest x.written.now x.name x.items.now before x.place (map name_view s.names.now) (n.walk.item.written side) n.sides number here (lent_named (inside_of side w.item) before s.names.now own)
+      names_own (inside_view side w.item) i (inline_of i x) n.prefix n.rest x.written.now x.name x.items.now before x.place (map name_view s.names.now) (n.walk.world.item.written side) n.sides number here (lent_named (inside_of side w.item) before s.names.now own)
 
   pub names_inside : names_of s ≡ scope_names (scope_item s)
   names_inside = names ∙ ap scope_names (sym item)
 
-  pub names_placed : AreNamesPlaced (prefix_of w.walk.interfaces.now.files) s.names.now
-  names_placed = lent_placed (prefix_of w.walk.interfaces.now.files) (inside_of x.written.now.side w.item) before s.names.now own (n.walk.item.placed.inside x.written.now.side)
+  pub names_placed : AreNamesPlaced (prefix_of w.interfaces.files) s.names.now
+  names_placed = lent_placed (prefix_of w.interfaces.files) (inside_of x.written.now.side w.item) before s.names.now own (n.walk.world.item.placed.inside x.written.now.side)
 
-  module _ (old : List TypeDef) (inside : List Interface) where
+  module _ (old : Growing) where
     abbrev is : Interfaces
-    is = w.walk.interfaces.now
+    is = w.interfaces
 
     abbrev u : Item
     u = inline_of (walk_item w) x
 
     abbrev IsRight : (Item → Option Fault) → Type 0
-    IsRight test = IsRightOf test is old (next_place is inside) u
+    IsRight test = IsRightOf test is old.types (next_place is old.inside) u
 
     -- what is found in it is what a test that is right of it says
-    pub inside_found : {T : Type 0} (q : Result T ParseError) (test : Item → Option Fault) → IsRight test → FindsInterface is (next_place is inside) old s q → Finds (test u) q
-    inside_found q test right found = finds_right q test is old (next_place is inside) u s (record { item = item; named = names; placed = names_placed }) right found
+    pub inside_found : {T : Type 0} (q : Result T ParseError) (test : Item → Option Fault) → IsRight test → FindsInterface is (next_place is old.inside) old.types s q → Finds (test u) q
+    inside_found q test right found = finds_right q test is old.types (next_place is old.inside) u s (record { item = item; named = names; placed = names_placed }) right found
 
     -- that, and then its name
-    pub inline_found : {T : Type 0} (r : Result T ParseError) → ((test : Item → Option Fault) → IsRight test → Finds (option_or (test u) (inline_member m.members n.prefix (inline_side x))) r) → FindsMembers w n.prefix (inline_side x ∷ []) (stage old inside m) r
-    inline_found r found = one_found w r (inline_side x) (stage old inside m) n (λ wrong right. (
+    pub inline_found : {T : Type 0} (r : Result T ParseError) → ((test : Item → Option Fault) → IsRight test → Finds (option_or (test u) (inline_member m.members n.prefix (inline_side x))) r) → (wrong : MemberTest) → AreRightMembers wrong w n.prefix (inline_side x ∷ []) (stage old m) → Finds (first_after wrong n.prefix (inline_side x ∷ [])) r
+    inline_found r found = one_found w r (inline_side x) (stage old m) n (λ wrong right. (
         let it = right.1 u (inline_here (walk_item w) n.prefix x world (place ∙ n.seen.interfaces x.written.now.side)) in
         finds_same r (sym it.1) (found right.0 it.0)))
 
@@ -231,14 +228,14 @@ module _ (w : ItemWalk) (world : World) (xs : List WorldItem) (k : ℕ) (x y : W
       ∙ flat_map-append part_items (map world_part prefix) (world_part y ∷ map world_part back)
 
   more : world_sides (take k xs) ++ one ≡ world_sides (take (k + 1) xs)
-  more = sym (parts_more part_items world_part (take k xs) (take (k + 1) xs) y (world_part y) (used_next xs k y part_at) refl)
+  more = sym (parts_more part_items world_part (take k xs) (take (k + 1) xs) y (world_part y) (take_next xs k y part_at) refl)
 
   -- so its own come next
   pub part_next : IsNext w (side_items (walk_item w)) a.walked → IsNext w (part_items (world_part y)) b.walked
   part_next n = next_of w (side_items (walk_item w)) (world_sides (take k xs)) one (world_sides (drop (k + 1) xs)) a b split was n
 
   -- and are done, or report the first fault
-  pub part_done : (c : Stage) → AddsNext w (part_items (world_part y)) b c → ((n : IsNext w (part_items (world_part y)) b.walked) → HaveNone w n.prefix (part_items (world_part y)) (part_items (world_part y)) b) → AreDone w (side_items (walk_item w)) (world_sides (take (k + 1) xs)) a c
+  pub part_done : (c : Stage) → ((n : IsNext w (part_items (world_part y)) b.walked) → AddsMembers w n.prefix (part_items (world_part y)) b c) → ((n : IsNext w (part_items (world_part y)) b.walked) → HaveNone w n.prefix (part_items (world_part y)) (part_items (world_part y)) b) → AreDone w (side_items (walk_item w)) (world_sides (take (k + 1) xs)) a c
   part_done c adds none = subst (λ (l : List SideItem). AreDone w (side_items (walk_item w)) l a c) more (done_later w (side_items (walk_item w)) (world_sides (take k xs)) one (world_sides (drop (k + 1) xs)) a b split was c adds none)
 
   pub part_kept : part_items (world_part y) ≡ [] → AreDone w (side_items (walk_item w)) (world_sides (take (k + 1) xs)) a b
@@ -260,7 +257,7 @@ pub resource_more : (r : Id) (fs : List ResourceFunc) (k : ℕ) (f : ResourceFun
 resource_more r fs k f at =
     let prefix = take k fs in
     sym (
-    ap (resource_items r) (used_next fs k f at)
+    ap (resource_items r) (take_next fs k f at)
     ∙ ap (map SideFunction) (map-append (resource_function r) prefix (f ∷ []))
     ∙ map-append SideFunction (map (resource_function r) prefix) (map (resource_function r) (f ∷ [])))
 

@@ -1,26 +1,18 @@
 -- What is on the sides of a world, resolved one after another: nothing, more after some, and a function, an interface by its path, or an inline one.
 use Rattle.std.proofs.Common.{◌≡◌, ℕ, ◌+◌, List, [], ◌∷◌, ◌++◌, length, refl, sym, ap, ◌∙◌, subst, append_assoc, arith, Bool, true, false, if◌then◌else◌, map, Some, inl, inr, add-zero, Option, suc}
-use Rattle.wit_syntax.proofs.Common.{Address, Contains-append_cases, Extern, Id, InterfaceItem, Item, Link, SideFunction, SideInline, SideItem, SideLink, SourceFunction, TheInline, TopName, TypeDef, WorldSide, address, all_handles, append-nil, at_back, at_prefix, filter-append, flat_map, flat_map-append, functions, functions_items, inline_after, inline_after-append, interfaces_on, item_function, item_inline, item_name, item_side, items_on, length-append, length-inline_after, length-map, map-append, option_map_or, option_to_list, path_scope, role_side, same_side, side_items, slice_get, written_types}
-use Rattle.wit_arena.proofs.Common.{AddsFunctions, AddsInterface, AddsSides, AreSideItems, Function, Interface, Names, Required, ResolvedScope, env_of, function_item, inline_entry, interfaces_at, link_item, put_on, AreEnded}
-use Rattle.wit_walk.proofs.Common.{Sorted, item_sorted}
+use Rattle.wit_contents.proofs.Names.{Address, AddsFunctions, AddsInside, AddsInterface, AddsMembers, AddsSides, AreEnded, AreKeyed, AreSideItems, Contains-append_cases, Entry, Extern, Function, HasMore, HavePlaces, Id, Interface, InterfaceItem, IsNext, IsSeen, ItemWalk, Link, Name, Names, Puts, Required, ResolvedScope, SideFunction, SideInline, SideItem, SideLink, Sorted, SourceFunction, Stage, TheInline, TopName, TypeDef, WorldSide, address, all_handles, append-nil, at_back, at_prefix, bare_id, contains_one, entry_sorted, env_of, filter-append, flat_map, flat_map-append, function_item, functions, functions_items, inline_after, inline_after-append, inline_entry, inline_of, inline_side, interfaces_at, interfaces_on, item_function, item_inline, item_name, item_side, item_sorted, items_on, lead, length-append, length-inline_after, length-map, link_item, map-append, next_place, option_map_or, option_to_list, path_scope, prefix_of, put_on, resolved_scopes_of, role_side, same_side, side_items, slice_get, sorted_on, stage, walk_item, written_types}
+use Rattle.wit_contents.specs.declared.walk.Walked.{Walked}
+use Rattle.wit_arena.proofs.Common.{Item}
 use Rattle.wit_entries.proofs.Requiring.{extended_then}
-use Rattle.wit_refusals.specs.NameScopes.{Name}
 use Rattle.wit_sides.specs.SideNames.{defined_on}
 use Rattle.wit_externs.specs.Clash.{item_names, names_of_items}
 use Rattle.wit_externs.specs.Links.{bare_place, bare_places}
 use Rattle.wit_externs.specs.Next.{linked_on}
-use Rattle.wit_items.specs.ResolvedInterfaces.{resolved_scopes_of}
-use Rattle.wit_world_sides.specs.Members.{AreKeyed, Entry, sorted_on, Puts, bare_id, entry_sorted}
 use Rattle.wit_world_sides.specs.FilledSides.{entries_of}
-use Rattle.wit_links.specs.SideCounts.{IsSeen, inline_of, inline_side}
-use Rattle.wit_contents.specs.Walk.{AddsMembers, HasMore, HavePlaces, IsNext, ItemWalk, Stage, lead, next_place, walk_item, AddsInside, stage}
-use Rattle.wit_items.proofs.UsableNames.{contains_one}
 use Rattle.wit_entries.specs.Requiring.{IsExtended, Requires}
 use Rattle.wit_externs.proofs.Steps.{at_middle, kept_nothing, kept_one}
-use Rattle.wit_items.specs.ForeignAddresses.{prefix_of}
 use Rattle.wit_items.specs.declared.items.InlineInterface.{InlineInterface}
 use Rattle.wit_world_sides.specs.declared.members.Members.{Members}
-use Rattle.wit_contents.specs.declared.walk.Walked.{Walked}
 
 module _ (cs : List ResolvedScope) (count : ℕ) (s : Address) (names : Names) where
   -- as many interfaces are added as are written there, and as many functions are made
@@ -137,8 +129,8 @@ module _ (w : ItemWalk) where
   pub members_none : (prefix : List SideItem) (a : Stage) → AreKeyed a.walked.members → AddsMembers w prefix [] a a
   members_none prefix a keyed = record {
     functions = [];
-    adds = record { own = []; list = sym (append-nil a.walked.required.items); holds = λ s. sides_none (resolved_scopes_of w.walk.interfaces.now) (length w.walk.interfaces.now.arena) s w.walk.scope.names.now a.types a.inside [] };
-    extended = record { more = []; is = sym (append-nil a.types) };
+    adds = record { own = []; list = sym (append-nil a.walked.required.items); holds = λ s. sides_none (resolved_scopes_of w.interfaces) (length w.interfaces.arena) s w.scope.names.types a.growing.types a.growing.inside [] };
+    extended = record { more = []; is = sym (append-nil a.growing.types) };
     seen = λ ys seen. subst (λ (l : List SideItem). IsSeen l a.walked.seen) (sym (append-nil ys)) seen;
     in_use = λ s. sym (append-nil (defined_on s a.walked.members.in_use));
     linked = λ s. sym (append-nil (linked_on s a.walked.members.links));
@@ -168,17 +160,17 @@ module _ (w : ItemWalk) where
     given = length-inline_after item prefix xs
 
     made : length p.functions ≡ length (flat_map item_function xs)
-    made = sides_made (resolved_scopes_of w.walk.interfaces.now) (length w.walk.interfaces.now.arena) (address item) w.walk.scope.names.now a.types b.types a.inside b.inside p.functions p.adds.own xs us (p.adds.holds (address item))
+    made = sides_made (resolved_scopes_of w.interfaces) (length w.interfaces.arena) (address item) w.scope.names.types a.growing.types b.growing.types a.growing.inside b.growing.inside p.functions p.adds.own xs us (p.adds.holds (address item))
 
-    count : length b.inside ≡ length a.inside + length (flat_map item_inline xs)
-    count = sides_count (resolved_scopes_of w.walk.interfaces.now) (length w.walk.interfaces.now.arena) (address item) w.walk.scope.names.now a.types b.types a.inside b.inside p.functions p.adds.own xs us (p.adds.holds (address item))
+    count : length b.growing.inside ≡ length a.growing.inside + length (flat_map item_inline xs)
+    count = sides_count (resolved_scopes_of w.interfaces) (length w.interfaces.arena) (address item) w.scope.names.types a.growing.types b.growing.types a.growing.inside b.growing.inside p.functions p.adds.own xs us (p.adds.holds (address item))
 
-    adds_both : (s : Address) → AddsSides (resolved_scopes_of w.walk.interfaces.now) (length w.walk.interfaces.now.arena) s w.walk.scope.names.now a.types c.types a.inside c.inside (p.functions ++ q.functions) (p.adds.own ++ q.adds.own) (xs ++ ys) all_inline
+    adds_both : (s : Address) → AddsSides (resolved_scopes_of w.interfaces) (length w.interfaces.arena) s w.scope.names.types a.growing.types c.growing.types a.growing.inside c.growing.inside (p.functions ++ q.functions) (p.adds.own ++ q.adds.own) (xs ++ ys) all_inline
     adds_both s =
-        let both = sides_then (resolved_scopes_of w.walk.interfaces.now) (length w.walk.interfaces.now.arena) s w.walk.scope.names.now a.types b.types c.types a.inside b.inside c.inside p.functions q.functions p.adds.own q.adds.own xs ys us vs given (p.adds.holds s) (q.adds.holds s) in
-        subst (λ (l : List Item). AddsSides (resolved_scopes_of w.walk.interfaces.now) (length w.walk.interfaces.now.arena) s w.walk.scope.names.now a.types c.types a.inside c.inside (p.functions ++ q.functions) (p.adds.own ++ q.adds.own) (xs ++ ys) l) (sym inline_both) both
+        let both = sides_then (resolved_scopes_of w.interfaces) (length w.interfaces.arena) s w.scope.names.types a.growing.types b.growing.types c.growing.types a.growing.inside b.growing.inside c.growing.inside p.functions q.functions p.adds.own q.adds.own xs ys us vs given (p.adds.holds s) (q.adds.holds s) in
+        subst (λ (l : List Item). AddsSides (resolved_scopes_of w.interfaces) (length w.interfaces.arena) s w.scope.names.types a.growing.types c.growing.types a.growing.inside c.growing.inside (p.functions ++ q.functions) (p.adds.own ++ q.adds.own) (xs ++ ys) l) (sym inline_both) both
 
-    present_both : (all : List Address) → HavePlaces w a.inside all_inline all → (s : WorldSide) → HasMore all w s (xs ++ ys) (p.functions ++ q.functions) all_inline (entries_of s a.walked.members.sides) (entries_of s c.walked.members.sides)
+    present_both : (all : List Address) → HavePlaces w a.growing.inside all_inline all → (s : WorldSide) → HasMore all w s (xs ++ ys) (p.functions ++ q.functions) all_inline (entries_of s a.walked.members.sides) (entries_of s c.walked.members.sides)
     present_both all places s =
         let named : map address all_inline ≡ map address us ++ map address vs = ap (map address) inline_both ∙ map-append address us vs in
         let first = p.are_present all (record {
@@ -190,7 +182,7 @@ module _ (w : ItemWalk) where
           inline = λ k r at. (
               let there = places.inline (length (map address us) + k) r (ap (λ (l : List Address). slice_get l (length (map address us) + k)) named ∙ at_back (map address us) (map address vs) k r at) in
               let long : length (map address us) ≡ length us = length-map us address in
-              let place : next_place w.walk.interfaces.now a.inside + (length (map address us) + k) ≡ next_place w.walk.interfaces.now b.inside + k = omega (arith, long, given, count) in
+              let place : next_place w.interfaces a.growing.inside + (length (map address us) + k) ≡ next_place w.interfaces b.growing.inside + k = omega (arith, long, given, count) in
               subst (λ (n : ℕ). slice_get all n ≡ Some r) place there);
         }) s in
         let all_given : length (map address us) ≡ length (flat_map item_inline xs) = length-map us address ∙ given in
@@ -205,7 +197,7 @@ module _ (w : ItemWalk) where
     members_then = record {
       functions = p.functions ++ q.functions;
       adds = record { own = p.adds.own ++ q.adds.own; list = q.adds.list ∙ ap (λ (l : List Required). l ++ q.adds.own) p.adds.list ∙ append_assoc a.walked.required.items p.adds.own q.adds.own; holds = adds_both };
-      extended = extended_then a.types b.types c.types p.extended q.extended;
+      extended = extended_then a.growing.types b.growing.types c.growing.types p.extended q.extended;
       seen = λ zs seen. subst (λ (l : List SideItem). IsSeen l c.walked.seen) (append_assoc zs xs ys) (q.seen (zs ++ xs) (p.seen zs seen));
       in_use = λ s. q.in_use s ∙ ap (λ (l : List Name). l ++ names_of_items (items_on s ys)) (p.in_use s) ∙ append_assoc (defined_on s a.walked.members.in_use) (names_of_items (items_on s xs)) (names_of_items (items_on s ys)) ∙ ap (λ (l : List Name). defined_on s a.walked.members.in_use ++ l) (sym (names_then s xs ys));
       linked = λ s. q.linked s ∙ ap (λ (l : List ℕ). l ++ bare_places (lead w) (items_on s ys)) (p.linked s) ∙ append_assoc (linked_on s a.walked.members.links) (bare_places (lead w) (items_on s xs)) (bare_places (lead w) (items_on s ys)) ∙ ap (λ (l : List ℕ). linked_on s a.walked.members.links ++ l) (sym (places_then s xs ys));
@@ -265,10 +257,10 @@ inline_here i prefix x world place =
 
 module _ (w : ItemWalk) (prefix : List SideItem) (a : Stage) where
   -- a function
-  pub member_function : (fn : SourceFunction) (made : Function) (types : List TypeDef) (m : Walked) → ((s : Address) → AddsFunctions a.types types s w.walk.scope.names.now (fn ∷ []) (made ∷ [])) → Requires (env_of w.walk.scope.names.now) types (all_handles (written_types fn)) a.walked.required.items m.required.items → IsExtended a.types types → Puts a.walked.members m.members (SideFunction fn) [] (function_item made) → ((ys : List SideItem) → IsSeen ys a.walked.seen → IsSeen (ys ++ SideFunction fn ∷ []) m.seen) → AddsMembers w prefix (SideFunction fn ∷ []) a (stage types a.inside m)
+  pub member_function : (fn : SourceFunction) (made : Function) (types : List TypeDef) (m : Walked) → ((s : Address) → AddsFunctions a.growing.types types s w.scope.names.types (fn ∷ []) (made ∷ [])) → Requires (env_of w.scope.names.types) types (all_handles (written_types fn)) a.walked.required.items m.required.items → IsExtended a.growing.types types → Puts a.walked.members m.members (SideFunction fn) [] (function_item made) → ((ys : List SideItem) → IsSeen ys a.walked.seen → IsSeen (ys ++ SideFunction fn ∷ []) m.seen) → AddsMembers w prefix (SideFunction fn ∷ []) a (stage (record { types = types; inside = a.growing.inside }) m)
   member_function fn made types m adds handled extended put seen = record {
     functions = made ∷ [];
-    adds = record { own = handled.list; list = handled.added; holds = λ s. sides_function (resolved_scopes_of w.walk.interfaces.now) (length w.walk.interfaces.now.arena) s w.walk.scope.names.now a.types types a.inside fn made handled.list (adds s) handled.ended };
+    adds = record { own = handled.list; list = handled.added; holds = λ s. sides_function (resolved_scopes_of w.interfaces) (length w.interfaces.arena) s w.scope.names.types a.growing.types types a.growing.inside fn made handled.list (adds s) handled.ended };
     extended = extended;
     seen = seen;
     in_use = put.in_use;
@@ -280,11 +272,11 @@ module _ (w : ItemWalk) (prefix : List SideItem) (a : Stage) where
   }
 
   -- an interface by its path
-  pub member_link : (link : Link) (id : ℕ) (m : Walked) → lead w link.path ≡ Some id → slice_get (interfaces_at (prefix_of w.walk.interfaces.now.files) w.walk.interfaces.now.arena) id ≡ Some (path_scope (walk_item w).top link.path) → m.required.items ≡ a.walked.required.items → Puts a.walked.members m.members (SideLink link) (bare_id link.name id) (link_item link id) → ((ys : List SideItem) → IsSeen ys a.walked.seen → IsSeen (ys ++ SideLink link ∷ []) m.seen) → AddsMembers w prefix (SideLink link ∷ []) a (stage a.types a.inside m)
+  pub member_link : (link : Link) (id : ℕ) (m : Walked) → lead w link.path ≡ Some id → slice_get (interfaces_at (prefix_of w.interfaces.files) w.interfaces.arena) id ≡ Some (path_scope (walk_item w).top link.path) → m.required.items ≡ a.walked.required.items → Puts a.walked.members m.members (SideLink link) (bare_id link.name id) (link_item link id) → ((ys : List SideItem) → IsSeen ys a.walked.seen → IsSeen (ys ++ SideLink link ∷ []) m.seen) → AddsMembers w prefix (SideLink link ∷ []) a (stage a.growing m)
   member_link link id m leads present required put seen = record {
     functions = [];
-    adds = record { own = []; list = required ∙ sym (append-nil a.walked.required.items); holds = λ s. sides_link (resolved_scopes_of w.walk.interfaces.now) (length w.walk.interfaces.now.arena) s w.walk.scope.names.now a.types a.inside link };
-    extended = record { more = []; is = sym (append-nil a.types) };
+    adds = record { own = []; list = required ∙ sym (append-nil a.walked.required.items); holds = λ s. sides_link (resolved_scopes_of w.interfaces) (length w.interfaces.arena) s w.scope.names.types a.growing.types a.growing.inside link };
+    extended = record { more = []; is = sym (append-nil a.growing.types) };
     seen = seen;
     in_use = put.in_use;
     linked = λ s. put.linked s ∙ ap (λ (l : List ℕ). linked_on s a.walked.members.links ++ l) (kept_one (bare_place (lead w)) (λ y. same_side s (item_side y)) (SideLink link) (bare_id link.name id) (ap (λ (o : Option ℕ). option_map_or (λ (own : Id). []) link.name (option_to_list o)) leads));
@@ -295,28 +287,28 @@ module _ (w : ItemWalk) (prefix : List SideItem) (a : Stage) where
   }
 
   -- an inline interface
-  pub member_inline : (x : InlineInterface) (u : Item) (types : List TypeDef) (inside : List Interface) (m : Walked) → inline_after (walk_item w) prefix (inline_side x ∷ []) ≡ u ∷ [] → AddsInside w.walk.interfaces.now a.types types a.inside inside a.walked.required.items m.required.items u → Puts a.walked.members m.members (inline_side x) [] (inline_entry x.written.now x.name (next_place w.walk.interfaces.now a.inside)) → ((ys : List SideItem) → IsSeen ys a.walked.seen → IsSeen (ys ++ inline_side x ∷ []) m.seen) → AddsMembers w prefix (inline_side x ∷ []) a (stage types inside m)
+  pub member_inline : (x : InlineInterface) (u : Item) (types : List TypeDef) (inside : List Interface) (m : Walked) → inline_after (walk_item w) prefix (inline_side x ∷ []) ≡ u ∷ [] → AddsInside w.interfaces a.growing.types types a.growing.inside inside a.walked.required.items m.required.items u → Puts a.walked.members m.members (inline_side x) [] (inline_entry x.written.now x.name (next_place w.interfaces a.growing.inside)) → ((ys : List SideItem) → IsSeen ys a.walked.seen → IsSeen (ys ++ inline_side x ∷ []) m.seen) → AddsMembers w prefix (inline_side x ∷ []) a (stage (record { types = types; inside = inside }) m)
   member_inline x u types inside m own step put seen = record {
     functions = [];
     adds = record {
       own = step.2.appends.own;
       list = step.2.appends.list;
       holds = λ s.
-          let cs = resolved_scopes_of w.walk.interfaces.now in
-          let count = length w.walk.interfaces.now.arena in
-          let names = w.walk.scope.names.now in
-          let one = sides_inline cs count s names a.types types a.inside step.0 step.2.appends.own x.written.now x.name x.items.now u step.2.appends.holds in
-          subst (λ (us : List Item). AddsSides cs count s names a.types types a.inside inside [] step.2.appends.own (inline_side x ∷ []) us) (sym own) (
-          subst (λ (l : List Interface). AddsSides cs count s names a.types types a.inside l [] step.2.appends.own (inline_side x ∷ []) (u ∷ [])) (sym step.1) one);
+          let cs = resolved_scopes_of w.interfaces in
+          let count = length w.interfaces.arena in
+          let names = w.scope.names.types in
+          let one = sides_inline cs count s names a.growing.types types a.growing.inside step.0 step.2.appends.own x.written.now x.name x.items.now u step.2.appends.holds in
+          subst (λ (us : List Item). AddsSides cs count s names a.growing.types types a.growing.inside inside [] step.2.appends.own (inline_side x ∷ []) us) (sym own) (
+          subst (λ (l : List Interface). AddsSides cs count s names a.growing.types types a.growing.inside l [] step.2.appends.own (inline_side x ∷ []) (u ∷ [])) (sym step.1) one);
     };
     extended = step.2.extended;
     seen = seen;
     in_use = put.in_use;
     linked = λ s. put.linked s ∙ ap (λ (l : List ℕ). linked_on s a.walked.members.links ++ l) (none_either [] (same_side s (item_side (inline_side x))) ∙ kept_nothing (bare_place (lead w)) (λ y. same_side s (item_side y)) (inline_side x) refl);
-    sorted = sorted_put a.walked.members m.members (inline_side x) [] (inline_entry x.written.now x.name (next_place w.walk.interfaces.now a.inside)) put;
+    sorted = sorted_put a.walked.members m.members (inline_side x) [] (inline_entry x.written.now x.name (next_place w.interfaces a.growing.inside)) put;
     keyed = put.keyed;
     are_present = λ all places s.
-        let id = next_place w.walk.interfaces.now a.inside in
+        let id = next_place w.interfaces a.growing.inside in
         let e = inline_entry x.written.now x.name id in
         let there : slice_get all (id + 0) ≡ Some (address u) = places.inline 0 (address u) (ap (λ (us : List Item). slice_get (map address us) 0) own) in
         let at : slice_get all id ≡ Some (address u) = subst (λ (n : ℕ). slice_get all n ≡ Some (address u)) (add-zero id) there in

@@ -1,16 +1,15 @@
 -- The walk's fault of what is on the sides of a world is what is found of it, one after another: of its name, and of itself.
 use Rattle.std.proofs.Common.{◌≡◌, ℕ, Bool, List, [], ◌∷◌, ◌++◌, map, Option, None, refl, sym, ap, ◌∙◌, Some, Contains, length}
-use Rattle.wit_syntax.proofs.Common.{Address, Called, Exported, Extern, Fault, Id, Imported, InterfaceItem, Item, Link, PackageFile, ScopeName, SideFunction, SideInline, SideItem, SideLink, SourceFunction, Span, TheInline, TypeDef, WorldSide, about, address, codes, contains_at, filter, flat_map, folded_key, if◌then◌else◌, in_turn, inline_after, inline_item, is_interface, item_called, item_function, item_name, item_side, items_on, kept_at, leads, local_id, local_names, map_map, name_called, names_on, option_or, path_scope, same_side, scope_names, side_items, slice_get, clash, fault_in}
-use Rattle.wit_walk.proofs.Common.{Known, Sorted, called_fault, clash-made, crossed, external_fault, first_in, folded_fault, function_fault, handle_fault, in-map, is_extern, item_sorted, linked_fault as again_fault, member_fault, or_none_both, own_fault, repeat_of, side_sorted, signed_fault, stability_fault, ordered_fault}
-use Rattle.wit_arena.proofs.Common.{Interface, Names, env_of, interfaces_at, names_in, type_imports}
-use Rattle.wit_refusals.specs.NameScopes.{Name}
+use Rattle.wit_contents.proofs.Names.{Address, AddsMembers, AreRightMembers, Called, Exported, Extern, Fault, Id, Imported, InterfaceItem, Interfaces, IsRightOf, IsStart, ItemWalk, Known, Link, Name, Names, PackageFile, ScopeName, SideFunction, SideInline, SideItem, SideLink, Sorted, SourceFunction, Span, Stage, TheInline, TypeDef, WorldSide, about, address, again_linked, called_fault, clash, clash-made, codes, contains_at, crossed, crossed_fault, entry_sorted, env_of, external_fault, fault_in, filter, first_in, flat_map, folded_fault, folded_key, function_fault, function_member, handle_fault, if◌then◌else◌, in-map, in_turn, inline_after, inline_item, inline_member, interface_place, interfaces_at, is_extern, is_interface, item_called, item_function, item_name, item_side, item_sorted, items_on, kept_at, lead, leads, link_member, local_id, local_names, map_map, member_fault, name_called, named_fault, names_in, names_on, next_place, option_or, or_none_both, own_fault, path_place, path_scope, prefix_of, put_fault, put_link_fault, repeat_of, same_side, scope_names, side_items, side_sorted, signed_fault, slice_get, sorted_on, stability_fault, stage, type_imports, walk_item}
+use Rattle.wit_contents.specs.declared.walk.Growing.{Growing}
+use Rattle.wit_contents.specs.declared.walk.Walked.{Walked}
+use Rattle.wit_arena.proofs.Common.{Item}
+use Rattle.wit_items.proofs.Common.{linked_fault as again_fault, ordered_fault}
 use Rattle.wit_signatures.specs.ForeignName.{name_of_id}
 use Rattle.wit_sides.specs.SideNames.{defined_on}
 use Rattle.wit_externs.specs.AloneFaults.{again_fault as twice_fault, EndsIn}
 use Rattle.wit_externs.specs.Clash.{item_names, names_of_items}
 use Rattle.wit_item_entries.proofs.NameOrder.{all_used, called, called_item}
-use Rattle.wit_world_sides.specs.Members.{entry_sorted, sorted_on}
-use Rattle.wit_world_sides.specs.PutFaults.{crossed_fault, named_fault, put_fault, again_linked, put_link_fault}
 use Rattle.wit_world_sides.specs.declared.members.Members.{Members}
 use Rattle.wit_contents.proofs.PathsWalked.{in_same}
 use Rattle.wit_contents.proofs.Walked.{repeat-made}
@@ -19,14 +18,7 @@ use Rattle.wit_entries.proofs.Requiring.{extended_then}
 use Rattle.wit_externs.specs.Links.{bare_places}
 use Rattle.wit_externs.specs.Next.{linked_on}
 use Rattle.wit_externs.proofs.Steps.{at_middle}
-use Rattle.wit_items.specs.ForeignAddresses.{prefix_of}
-use Rattle.wit_items.specs.declared.interfaces.Interfaces.{Interfaces}
-use Rattle.wit_links.specs.Links.{interface_place, path_place}
 use Rattle.wit_links.proofs.Leading.{called_at}
-use Rattle.wit_contents.specs.InterfaceFaults.{IsRightOf}
-use Rattle.wit_contents.specs.MemberFaults.{AreRightMembers, function_member, inline_member, link_member}
-use Rattle.wit_contents.specs.Walk.{AddsMembers, IsStart, ItemWalk, Stage, lead, next_place, stage, walk_item}
-use Rattle.wit_contents.specs.declared.walk.Walked.{Walked}
 use Rattle.wit_contents.proofs.LinksWalked.{HaveOwnPlaces, IsLeading, again_linked_walked, link_walked}
 
 -- one name after others
@@ -75,9 +67,9 @@ put_walked m xs order ids before x are state sorts =
     ∙ ap (first_in (called_fault extern as_crossed (map called names))) (called_item x)
     ∙ ap (λ (l : List Called). first_in (called_fault extern as_crossed l) (item_called x)) (all_used side xs there order ids are)
 
-module _ (wk : ItemWalk) (known : Known) (order : List ℕ) (turned : wk.walk.turn.now ≡ map local_id (in_turn (scope_names (walk_item wk)) order)) (listed : names_in wk.walk.scope.names.now ≡ map (λ id. id.name.now) wk.walk.turn.now) (start : Walked) (begun : IsStart wk start) (old : List TypeDef) (inside : List Interface) where
+module _ (wk : ItemWalk) (known : Known) (order : List ℕ) (turned : wk.scope.names.turn.items ≡ map local_id (in_turn (scope_names (walk_item wk)) order)) (start : Walked) (begun : IsStart wk start) (old : Growing) where
   abbrev is : Interfaces
-  is = wk.walk.interfaces.now
+  is = wk.interfaces
 
   abbrev files : List PackageFile
   files = is.files
@@ -101,22 +93,22 @@ module _ (wk : ItemWalk) (known : Known) (order : List ℕ) (turned : wk.walk.tu
   abbrev named : List SideItem → SideItem → Option Fault
   named before x = own_fault xs (items_on (item_side x) before) order x
 
-  module _ (ends : (new : List TypeDef) → IsExtended old new → EndsIn (env_of wk.walk.scope.names.now) new handle) (leading : (link : Link) → Contains (side_items item) (SideLink link) → IsLeading files is.by_name (leads item.top link.path)) (insides : (done : List SideItem) (now : Stage) → AddsMembers wk [] done (stage old inside start) now → (x : SideItem) (rest : List SideItem) → side_items item ≡ done ++ (x ∷ rest) → (u : Item) → inline_after item done (x ∷ []) ≡ u ∷ [] → IsRightOf inner is now.types (next_place is now.inside) u) where
-    module _ (done : List SideItem) (now : Stage) (adds : AddsMembers wk [] done (stage old inside start) now) where
+  module _ (ends : (new : List TypeDef) → IsExtended old.types new → EndsIn (env_of wk.scope.names.types) new handle) (leading : (link : Link) → Contains (side_items item) (SideLink link) → IsLeading files is.by_name (leads item.top link.path)) (insides : (done : List SideItem) (now : Stage) → AddsMembers wk [] done (stage old start) now → (x : SideItem) (rest : List SideItem) → side_items item ≡ done ++ (x ∷ rest) → (u : Item) → inline_after item done (x ∷ []) ≡ u ∷ [] → IsRightOf inner is now.growing.types (next_place is now.growing.inside) u) where
+    module _ (done : List SideItem) (now : Stage) (adds : AddsMembers wk [] done (stage old start) now) where
       abbrev m : Members
       m = now.walked.members
 
       -- what is on the sides by now
-      in_use : (s : WorldSide) → defined_on s m.in_use ≡ names_on s (map name_of_id wk.walk.turn.now) ++ names_of_items (items_on s done)
+      in_use : (s : WorldSide) → defined_on s m.in_use ≡ names_on s (map name_of_id wk.scope.names.turn.items) ++ names_of_items (items_on s done)
       in_use s = adds.in_use s ∙ ap (λ l. l ++ names_of_items (items_on s done)) (begun.in_use s)
 
       sorts : (s : WorldSide) → sorted_on s m.sides ≡ side_sorted s xs (items_on s done) order
       sorts s =
           let there = in_turn xs order in
-          adds.sorted s ∙ ap (λ (l : List Sorted). l ++ flat_map item_sorted (items_on s done)) (start_sorted start.members there wk.walk.scope.names.now wk.walk.turn.now turned listed (begun.imports there turned) begun.exports s)
+          adds.sorted s ∙ ap (λ (l : List Sorted). l ++ flat_map item_sorted (items_on s done)) (start_sorted start.members there wk.scope.names.types wk.scope.names.turn.items turned wk.scope.names.listed (begun.imports there turned) begun.exports s)
 
       put : (x : SideItem) → put_fault m x ≡ named done x
-      put x = put_walked m xs order wk.walk.turn.now done x turned in_use sorts
+      put x = put_walked m xs order wk.scope.names.turn.items done x turned in_use sorts
 
       linked : (s : WorldSide) → linked_on s m.links ≡ bare_places (lead wk) (items_on s done)
       linked s = adds.linked s ∙ ap (λ l. l ++ bare_places (lead wk) (items_on s done)) (begun.linked s)
@@ -182,7 +174,7 @@ module _ (wk : ItemWalk) (known : Known) (order : List ℕ) (turned : wk.walk.tu
             by (Some f) wrong = wrong_inside f wrong ∙ ap (λ (o : Option Fault). option_or o (inline_member m done own)) (sym wrong)
 
     -- the next one
-    pub right_members : AreRightMembers member wk [] (side_items item) (stage old inside start)
-    right_members done rest (SideFunction fn) now split adds = (handle, λ more. ends (now.types ++ more) (extended_then old now.types (now.types ++ more) adds.extended (record { more = more; is = refl })), sym (function_walked done now adds fn))
+    pub right_members : AreRightMembers member wk [] (side_items item) (stage old start)
+    right_members done rest (SideFunction fn) now split adds = (handle, λ more. ends (now.growing.types ++ more) (extended_then old.types now.growing.types (now.growing.types ++ more) adds.extended (record { more = more; is = refl })), sym (function_walked done now adds fn))
     right_members done rest (SideLink link) now split adds = sym (links_walked done now adds link (contains_at (side_items item) (length done) (SideLink link) (ap (λ (l : List SideItem). slice_get l (length done)) split ∙ at_middle done (SideLink link) rest)))
     right_members done rest (SideInline x name items) now split adds = (inner, λ u next. (insides done now adds (SideInline x name items) rest split u next, inside_is done now adds x name items u next))

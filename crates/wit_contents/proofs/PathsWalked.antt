@@ -1,27 +1,15 @@
 -- Interfaces and worlds that are resolved say of used names and of includes what files do.
 use Rattle.std.proofs.Common.{◌≡◌, ℕ, ◌+◌, true, false, List, ◌++◌, length, map, Option, Some, None, ◌⊎◌, IsSome, inl, inr, refl, sym, ap, ◌∙◌, subst, arith, Contains, ◌<◌, zero, suc, Bool, [], ◌∷◌, take}
-use Rattle.wit_syntax.proofs.Common.{Address, AllDiffer, Attribute, Declared, DefinitionPart, ExternPart, Fault, Foreign, ForeignNamed, ForeignVisit, FunctionPart, Id, Include, IncludePart, InterfaceNamed, IsOrder, Item, Local, PackageFile, PackageName, Part, ScopeName, SourceFunction, Target, TheInline, TheInterface, TheWorld, TypeDef, UseName, UsePart, UsePath, Used, WorldNamed, about, address, all_declared, all_items, at_back, at_contains, at_part, at_prefix, at_split, at_within, bytes_eq, cases_Bool, contains_at, find_passes, find_some, first_named, firsts_has, flat_map_at, flat_map_has, foreign_at, foreign_interfaces, foreign_uses, foreign_worlds, functions, if◌then◌else◌, in_order, include_path, include_paths, includes, interface_there, is_foreign, is_none, is_world, is_world_at, item_at, item_name, item_named, item_rows, item_word, leads, length-map, list_any, local_name, lookup-place, map_at, meaning, missing_at, name_equal, name_itself, option_and_then, option_map, option_map_or, option_or, part_includes, parts, path_id, same_address, same_address-equal, same_foreign_use, scope, scope_names, slice_get, slice_get-map, slice_get_within, some_of, use_of_foreign, visited, worlds_of}
-use Rattle.wit_arena.proofs.Common.{AddsForeign, AreFunctions, AreUsableUses, AreWorldsDone, Def, Interface, InterfacesDone, IsForeignUse, IsFound, IsResolvedUse, Names, Ordered, Required, ResolvedScope, Turned, World, WorldArenas, are_interfaces, are_worlds, env_of, foreign_entry, foreign_place, foreign_use_key, free_functions, interface_address, interfaces, item_of, item_scopes, kept_early, keys, named_at, needed_before, option_cases, own_item, own_order, paths_of_world, prefix_resolved_scope, prefix_scopes, resolved_scope, resolved_scope_at, resolved_scopes, resolved_scopes-append, scope_of, unstated, use_of_foreign-equal, use_of_foreign-from, used_listed, visited_foreign, world_address, world_list, worlds, worlds_at, worlds_at-append, worlds_sort, IsNameIndex, interfaces_at}
-use Rattle.wit_walk.proofs.Common.{any_found, any_some, first_in, include_fault, interface_fault, lost_use, stability_fault, use_fault}
+use Rattle.wit_contents.proofs.Names.{Address, AddsForeign, AllDiffer, AreFunctions, AreUsableUses, AreWorldsDone, Attribute, Declared, Def, DefinitionPart, DoneScope, ExternPart, Fault, Foreign, ForeignNamed, ForeignVisit, FunctionPart, Id, Include, IncludePart, Interface, InterfaceNamed, Interfaces, InterfacesDone, IsForeignUse, IsFound, IsNameIndex, IsNoWorld, IsOrder, IsPlaced, IsResolvedUse, Local, Names, Ordered, PackageFile, PackageName, Part, Required, ResolvedScope, ScopeName, Source as BorrowedSource, SourceFunction, Target, Turned, TypeDef, UseName, UsePart, UsePath, Used, UsedName, World, WorldArenas, WorldNamed, Worlds, address, all_declared, all_items, any_found, any_some, are_interfaces, are_worlds, at_back, at_contains, at_part, at_prefix, at_split, at_within, bytes_eq, cases_Bool, contains_at, entry_of_item, env_of, find_passes, find_some, first_in, first_named, firsts_has, flat_map_at, flat_map_has, foreign_at, foreign_entry, foreign_interfaces, foreign_place, foreign_use_key, foreign_uses, foreign_worlds, free_functions, functions, if◌then◌else◌, in_order, include_fault, include_path, include_paths, included_fault, includes, interface_address, interface_there, interfaces, interfaces_at, is_foreign, is_none, is_world, is_world_at, item_at, item_name, item_named, item_of, item_rows, item_scopes, item_word, kept_early, keys, leads, length-map, list_any, local_name, lookup-place, lost_use, map_at, meaning, missing_at, name_equal, name_itself, named_at, named_within, needed_before, option_and_then, option_cases, option_map, option_map_or, option_or, ordered_at, own_declared, own_item, own_order, part_includes, parts, path_id, paths_of_world, prefix_resolved_scope, prefix_scopes, resolved_scope, resolved_scope_at, resolved_scope_of, resolved_scopes, resolved_scopes-append, same_address, same_address-equal, same_foreign_use, scope, scope_at, scope_names, scope_of, slice_get, slice_get-map, slice_get_within, some_of, source_target, source_view, stability_fault, unresolved_fault, unstated, use_fault, use_of_foreign, use_of_foreign-equal, use_of_foreign-from, use_view, used_listed, visited, visited_foreign, world_address, world_at, world_entry, world_list, world_missing, worlds, worlds_at, worlds_at-append, worlds_of, worlds_sort}
+use Rattle.wit_arena.proofs.Common.{Item}
+use Rattle.wit_items.proofs.Common.{interface_fault}
 use Rattle.wit_arena.proofs.FreeNames.{free_of, AreStated, free_stated, stated_free, free_names}
-use Rattle.wit_arena.proofs.Members.{resolved_scope_of, DoneScope}
-use Rattle.wit_arena.proofs.ScopesInTurn.{ordered_at, scope_at, entry_of_item}
 use Rattle.wit_entries.specs.EntryFaults.{unless_found}
-use Rattle.wit_scopes.specs.BorrowedNames.{IsPlaced, source_view, use_view}
-use Rattle.wit_scopes.specs.declared.scope_name.UsedName.{UsedName}
-use Rattle.wit_scopes.specs.declared.scope_name.Source.{Source as BorrowedSource}
 use Rattle.wit_scopes.specs.declared.scope_name.Source.TheVariants as borrowed_source
-use Rattle.wit_items.specs.declared.interfaces.Interfaces.{Interfaces}
 use Rattle.wit_item_entries.specs.UseFaults.{asked_fault, interface_of, lost_name, used_fault}
-use Rattle.wit_items.proofs.Found.{named_within}
 use Rattle.wit_item_entries.proofs.UseFaults.{found_of, of_function, of_nothing, used_from}
 use Rattle.wit_contents.proofs.Walked.{AreAsWalked}
 use Rattle.wit_model.specs.declared.ast_item.AstItem.TheVariants as entry
-use Rattle.wit_items.specs.ItemPaths.{world_at, world_entry, source_target}
-use Rattle.wit_items.specs.ResolvedInterfaces.{unresolved_fault}
-use Rattle.wit_items.proofs.Others.{world_missing, IsNoWorld}
-use Rattle.wit_links.specs.Includes.{included_fault}
-use Rattle.wit_links.specs.declared.worlds.Worlds.{Worlds}
 
 -- names that are the same say the same of one that means nothing
 lost_same : (fns gns : List (List ℕ)) (id : Id) → (Contains gns id.name.now → Contains fns id.name.now) → (Contains fns id.name.now → Contains gns id.name.now) → lost_name fns id ≡ lost_name gns id
@@ -61,16 +49,10 @@ asked_same files from attributes n i t = by (env_of i.types n.name.name.now) ref
     by None free = ap Some lost ∙ sym (ap (λ (m : Option ScopeName). if is_none m then Some (lost_use t.item n.name) else None) (t.missing free))
     by (Some place) present = sym (ap (λ (m : Option ScopeName). if is_none m then Some (lost_use t.item n.name) else None) (t.meant place present).1)
 
--- no item is where a name leads to another package
-declared_near : (d : Declared) → is_foreign (about d).address ≡ false
-declared_near (TheInterface i) = refl
-declared_near (TheWorld w) = refl
-declared_near (TheInline world place x name items) = refl
-
 none_far : (files : List PackageFile) (from : Address) → is_foreign from ≡ true → item_at (all_items files) from ≡ None
 none_far files from far = option_cases (item_at (all_items files) from) (item_at (all_items files) from ≡ None) (λ w found. absurd (
     let same : address w ≡ from = same_address-equal (address w) from (find_passes (λ (v : Item). same_address (address v) from) (all_items files) w found) in
-    let wrong : true ≡ false = sym far ∙ ap is_foreign (sym same) ∙ declared_near w.declared in
+    let wrong : true ≡ false = sym far ∙ ap is_foreign (sym same) ∙ own_declared w.declared in
     cc)) (λ none. none)
 
 -- what is meant in the same names

@@ -1,25 +1,13 @@
 -- The walk's fault of each interface is what is found of it, where its uses are as walked and the walk's test of names in handles is right, as it is once those before it are resolved.
 use Rattle.std.proofs.Common.{◌≡◌, ◌⊎◌, ◌++◌, ℕ, zero, suc, false, List, [], ◌∷◌, map, take, Option, Some, Contains, inl, inr, refl, sym, ap, ◌∙◌, subst, ◌+◌, Bool, true, not, length, None}
-use Rattle.wit_syntax.proofs.Common.{Address, AllDiffer, Attribute, Fault, Id, IsOrder, Item, PackageFile, ScopeName, TypeDef, UseName, Used, address, all_items, at_seam, contains_at, filter, flat_map, foreign_interfaces, in_order, interfaces_of, is_world, item_name, item_rows, kept_next, option_map, rows_of, scope_names, slice_get, slice_get-map, used, used_at, visited, Row, InterfaceNamed}
+use Rattle.wit_contents.proofs.Names.{Address, AddsForeign, AddsInterfaces, AllDiffer, AreNamesPlaced, AreUsableUses, Attribute, Borrowed, EndsInTurn, Fault, Id, Interface, InterfaceNamed, Interfaces, InterfacesDone, IsForeignUse, IsIndexed, IsLent, IsNameIndex, IsOrder, IsOutcome, IsPlaced, IsResolvedUse, IsRightOf, Item as BorrowedItem, ItemScope, Known, Outcome, PackageFile, Required, ResolvedScope, Row, ScopeName, TypeDef, UseName, Used, UsedName, World, address, all_items, are_interfaces, are_worlds, at_seam, contains_at, contents_fault, earliest, filter, flat_map, foreign_interfaces, handle_fault, in_order, interface_fault, interfaces, interfaces_at, interfaces_done, interfaces_of, interfaces_sort, is_world, item_name, item_rows, item_view, kept_early, kept_next, kept_prefix, name_view, names_of, option_map, own_use, prefix_of, resolved_scopes, resolved_scopes_of, rows_of, scope_faults, scope_names, slice_get, slice_get-map, source_view, use_view, used, used_before, uses_viewed, visited, worlds, worlds_sort}
+use Rattle.wit_arena.proofs.Common.{Item}
+use Rattle.wit_walk.proofs.Common.{used_at}
 use Rattle.wit_types.specs.declared.types.TypeOwner.TheVariants as owner
-use Rattle.wit_arena.proofs.Common.{AddsForeign, AddsInterfaces, AreUsableUses, Interface, InterfacesDone, IsForeignUse, IsResolvedUse, Required, ResolvedScope, World, are_interfaces, are_worlds, interfaces, interfaces_done, interfaces_sort, kept_early, kept_prefix, resolved_scopes, used_before, worlds, worlds_sort, IsNameIndex, interfaces_at}
-use Rattle.wit_scopes.specs.BorrowedNames.{Borrowed, IsPlaced, name_view, own_use, use_view, source_view}
-use Rattle.wit_scopes.specs.PlacedNames.{AreNamesPlaced}
 use Rattle.wit_scopes.specs.declared.scope_name.Named.TheVariants as borrowed
-use Rattle.wit_scopes.specs.declared.scope_name.UsedName.{UsedName}
-use Rattle.wit_scopes.proofs.UsedNames.{uses_viewed}
-use Rattle.wit_walk.proofs.Common.{IsOutcome, Known, Outcome, contents_fault, earliest, handle_fault, ordered_fault, scope_faults}
-use Rattle.wit_items.specs.BorrowedItems.{item_view}
-use Rattle.wit_items.specs.ResolvedInterfaces.{resolved_scopes_of}
-use Rattle.wit_items.specs.declared.interfaces.Interfaces.{Interfaces}
-use Rattle.wit_items.specs.declared.items.ItemScope.{ItemScope}
-use Rattle.wit_item_entries.specs.ReachedFaults.{EndsInTurn}
-use Rattle.wit_contents.specs.InterfaceFaults.{IsLent, IsRightOf, interface_fault, names_of}
+use Rattle.wit_items.proofs.Common.{ordered_fault}
 use Rattle.wit_contents.proofs.Ends.{IsEnough, interface_ends}
 use Rattle.wit_contents.proofs.Walked.{AreAsWalked, interface_walked}
-use Rattle.wit_items.specs.ForeignAddresses.{prefix_of}
-use Rattle.wit_items.specs.declared.items.Item.{Item as BorrowedItem}
-use Rattle.wit_contents.specs.AddedInterfaces.{IsIndexed}
 use Rattle.wit_contents.proofs.PathsWalked.{uses_as_walked}
 
 -- a borrowed name that is used is among those of its scope, and placed where they are

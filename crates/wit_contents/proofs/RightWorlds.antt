@@ -1,48 +1,26 @@
 -- The walk's fault of each world is what is found of it, once all interfaces and the worlds before it are resolved.
 use Rattle.std.proofs.Common.{◌≡◌, ◌⊎◌, ℕ, ◌+◌, true, false, List, [], ◌∷◌, ◌++◌, length, map, take, Option, Some, None, IsSome, inl, inr, refl, sym, ap, ◌∙◌, subst, Contains, arith}
-use Rattle.wit_syntax.proofs.Common.{Address, AllDiffer, Attribute, Fault, Foreign, ForeignNamed, ForeignVisit, Id, Include, IncludePart, InterfaceNamed, IsBrokenNames, IsOrder, Item, Link, PackageFile, PackageName, ParseError, ScopeName, SideItem, SideLink, TopName, TypeDef, UseName, Used, address, all_items, all_scopes, at_contains, bytes_eq, contains_at, find_at, find_passes, flat_map, foreign_at, foreign_interfaces, in_order, in_turn, includes, inline_after, inline_after-append, inline_interface, inline_items, interfaces_of, is_world, item_inline, item_name, item_named, item_rows, leads, length-inline_after, local_id, name_equal, option_map, parts, rows_of, scope_names, scopes_declared, scopes_inline, side_items, slice_get, slice_get-map, take_seam, visited, worlds_of, Row, option_or, WorldNamed}
+use Rattle.wit_contents.proofs.Names.{Address, AddsForeign, AddsInterfaces, AddsMembers, AddsScope, AddsSides, AddsWorlds, AllDiffer, AreIndexed, AreNamesPlaced, AreRightMembers, AreRightOfWorlds, AreUsableUses, AreWorldsDone, Attribute, Borrowed, EndsInTurn, Fault, Foreign, ForeignNamed, ForeignVisit, HasPart, Id, InOrder, Include, IncludePart, Interface, InterfaceNamed, Interfaces, InterfacesDone, IsBrokenNames, IsForeignUse, IsIndexed, IsItemOf, IsLent, IsNameIndex, IsOrder, IsOutcome, IsResolvedUse, IsRight, IsRightOf, IsRightOfWorld, IsStart, IsWalk, Item as BorrowedItem, ItemScope, ItemWalk, Known, Link, Names, Outcome, PackageFile, PackageName, ParseError, Reports, Required, ResolvedScope, Row, ScopeName, SideItem, SideLink, Stage, TopName, TypeDef, UseName, Used, World, WorldArenas, WorldNamed, Worlds, address, all_items, all_scopes, all_uses_fault, are_interfaces, are_worlds, at_contains, bytes_eq, contains_at, contents_fault, declared_view, distinct_items, env_of, fault_after, filed_item, find_at, find_passes, first_after, first_in, flat_map, foreign_at, foreign_interfaces, handle_fault, in_order, in_turn, include_fault, includes, includes_fault, inline_after, inline_after-append, inline_interface, inline_items, interface_at, interfaces, interfaces_at, interfaces_done, interfaces_in, interfaces_of, interfaces_sort, is_world, item_inline, item_name, item_named, item_rows, item_view, kept_prefix, leads, length-inline_after, local_id, member_fault, name_equal, name_view, names_at_top, next_place, option_cases, option_map, option_or, order_of, others_of, outcome_one, own_use, part_visited, parts, prefix_of, prefix_scopes, prefix_worlds, reports_same, resolved_scopes, resolved_scopes_of, rows_of, scope_names, scopes_declared, scopes_inline, setters_fault, side_items, slice_get, slice_get-map, source_view, stage, take_seam, used_interface, used_visited, uses_usable, visited, worlds, worlds_at, worlds_in, worlds_of, worlds_sort}
+use Rattle.wit_contents.specs.declared.walk.Growing.{Growing}
+use Rattle.wit_contents.specs.declared.walk.Walked.{Walked}
+use Rattle.wit_contents.specs.declared.walk.WorldScope.{WorldScope}
+use Rattle.wit_arena.proofs.Common.{Item}
 use Rattle.wit_types.specs.declared.types.TypeOwner.TheVariants as owner
-use Rattle.wit_arena.proofs.Common.{AddsForeign, AddsInterfaces, AddsScope, AddsSides, AddsWorlds, AreUsableUses, AreWorldsDone, Interface, InterfacesDone, IsForeignUse, IsResolvedUse, Names, Required, ResolvedScope, World, WorldArenas, are_interfaces, are_worlds, distinct_items, env_of, interface_at, interfaces, interfaces_done, interfaces_sort, kept_prefix, option_cases, prefix_scopes, prefix_worlds, resolved_scopes, used_interface, worlds, worlds_at, worlds_sort, IsNameIndex, interfaces_at}
-use Rattle.wit_walk.proofs.Common.{IsOutcome, InOrder, Known, Outcome, Reports, all_uses_fault, contents_fault, first_in, handle_fault, include_fault, member_fault, order_of, outcome_one, reports_same, ordered_fault, first_after, setters_fault}
+use Rattle.wit_items.proofs.Common.{ordered_fault}
 use Rattle.wit_arena.proofs.WorldSides.{world_added}
 use Rattle.wit_arena.proofs.Worlds.{worlds_done}
 use Rattle.wit_entries.specs.Requiring.{IsExtended}
 use Rattle.wit_externs.specs.AloneFaults.{EndsIn}
 use Rattle.wit_externs.proofs.Steps.{at_middle}
-use Rattle.wit_files.specs.FileNames.{names_at_top}
-use Rattle.wit_scopes.specs.BorrowedNames.{Borrowed, name_view, own_use, source_view}
-use Rattle.wit_scopes.specs.PlacedNames.{AreNamesPlaced}
-use Rattle.wit_items.specs.ForeignAddresses.{prefix_of}
-use Rattle.wit_items.specs.ItemPaths.{HasPart}
-use Rattle.wit_items.proofs.Others.{part_visited, used_visited}
-use Rattle.wit_items.specs.BorrowedItems.{declared_view, item_view, others_of}
-use Rattle.wit_items.specs.Gathered.{IsItemOf}
-use Rattle.wit_items.specs.ResolvedInterfaces.{resolved_scopes_of}
-use Rattle.wit_items.specs.declared.interfaces.Interfaces.{Interfaces}
-use Rattle.wit_items.specs.declared.items.Item.{Item as BorrowedItem}
-use Rattle.wit_items.specs.declared.items.ItemScope.{ItemScope}
-use Rattle.wit_items.proofs.Usable.{filed_item, uses_usable}
-use Rattle.wit_links.specs.Includes.{includes_fault}
-use Rattle.wit_links.specs.declared.worlds.Worlds.{Worlds}
-use Rattle.wit_item_entries.specs.declared.names.ResolvedNames.{ResolvedNames}
-use Rattle.wit_item_entries.specs.ReachedFaults.{EndsInTurn}
-use Rattle.wit_contents.specs.AddedInterfaces.{IsIndexed, interfaces_in}
-use Rattle.wit_contents.specs.Worlds.{AreIndexed, worlds_in, IsRightOfWorld, AreRightOfWorlds, IsWalkOf}
-use Rattle.wit_contents.specs.InterfaceFaults.{IsLent, IsRightOf}
-use Rattle.wit_contents.specs.MemberFaults.{AreRightMembers}
-use Rattle.wit_contents.specs.Walk.{AddsMembers, IsStart, Stage, next_place, stage, walk_of}
-use Rattle.wit_contents.specs.declared.walk.Walk.{Walk}
-use Rattle.wit_contents.specs.declared.walk.Walked.{Walked}
 use Rattle.wit_contents.proofs.Ends.{IsEnough, inline_ends, named_ends, world_ends}
 use Rattle.wit_contents.proofs.PathsWalked.{includes_walked, near_has, uses_as_walked}
-use Rattle.wit_contents.proofs.Linking.{link_path}
 use Rattle.wit_contents.proofs.LinksWalked.{IsLeading}
 use Rattle.wit_contents.proofs.Members.{sides_count}
 use Rattle.wit_contents.proofs.MembersWalked.{right_members}
 use Rattle.wit_contents.proofs.RightInterfaces.{borrowed_uses, next_kept, placed_uses, right_interface, AreRightFrom, interfaces_right}
 use Rattle.wit_contents.proofs.Walked.{AreAsWalked, head_walked, world_split}
-use Rattle.wit_contents.specs.FileFaults.{IsRight, fault_after}
 use Rattle.wit_contents.proofs.FileFaults.{interfaces_reported, none_after, worlds_reported}
+use Rattle.wit_walk.proofs.MemberFaults.{path_among}
 
 -- all interfaces of files are resolved, in an order of their items, after those of other packages
 pub record AreDeclared (files : List PackageFile) (arena : List Interface) (places : List ℕ) (es : List TypeDef) (prefix : List Interface) (wprefix : List World) (middle : List TypeDef) (rs : List Required) : Type 0 where
@@ -146,7 +124,7 @@ module _ (ws : Worlds) (places : List ℕ) (es : List TypeDef) (prefix : List In
         near_has files places g.order g.differ g.uses es prefix wprefix g.foreign declared_interfaces middle done.0 rs done.2 is refl done.1 indexed (InterfaceNamed (item_name v)) name (record { place = it.0; item = v; at = it.1; sort = other; is = refl }) (ap InterfaceNamed called))) (λ none. absurd (let wrong : None ≡ Some false = sym (ap (option_map is_world) none) ∙ usable in cc));
     visits = λ p id lead. (
         let k = at_contains (side_items w) (SideLink link) among in
-        used_visited files w link.path declared (link_path w k.0 link k.1) p id lead);
+        used_visited files w link.path declared (path_among w k.0 link k.1) p id lead);
   }
 
   -- where names of it end
@@ -157,7 +135,20 @@ module _ (ws : Worlds) (places : List ℕ) (es : List TypeDef) (prefix : List In
   ends = subst (Ends (resolved_scopes_of is)) made (subst (λ (cs : List ResolvedScope). Ends cs a.worlds) (sym scopes_are)
       (world_ends files declared_interfaces declared_worlds (interfaces_sort (in_order all places)) (worlds_sort (in_order all places)) (are_interfaces files places g.order g.differ) (are_worlds files places g.order g.differ) g.uses es prefix wprefix g.foreign middle done.0 rs done.2 us mid a wrs w there before outcome (outcomes (rows_of xs)) known.steps (enough (address w))))
 
-  module _ (types : Names) (named : List TypeDef) (scoped : AddsScope mid named (resolved_scopes_of is) (owner.World (length ws.arena)) xs types) where
+  -- its members
+  abbrev member : List SideItem → SideItem → Option Fault
+  member = member_fault files known.steps (ordered_fault files known (λ (v : Item). None)) w (order_of outcome)
+
+  module _ (s : WorldScope) (named : List TypeDef) (scoped : AddsScope mid named (resolved_scopes_of is) (owner.World (length ws.arena)) xs s.names.types) where
+    abbrev types : Names
+    types = s.names.types
+
+    abbrev walk : ItemWalk
+    walk = record { item = i; scope = s; interfaces = is }
+
+    abbrev growing : Growing
+    growing = record { types = named; inside = a.inside }
+
     own_scoped : AddsScope mid named resolved (owner.World (length a.worlds)) xs types
     own_scoped = subst (λ (l : List World). AddsScope mid named resolved (owner.World (length l)) xs types) (sym made) (subst (λ (cs : List ResolvedScope). AddsScope mid named cs (owner.World (length ws.arena)) xs types) scopes_are scoped)
 
@@ -165,7 +156,7 @@ module _ (ws : Worlds) (places : List ℕ) (es : List TypeDef) (prefix : List In
     all_ends new extended = named_ends files declared_interfaces declared_worlds (interfaces_sort (in_order all places)) (worlds_sort (in_order all places)) (are_interfaces files places g.order g.differ) (are_worlds files places g.order g.differ) g.uses es prefix wprefix g.foreign middle done.0 rs done.2 us mid a wrs w there before types named own_scoped new extended known.steps (enough (address w))
 
     -- an interface that is written in it comes next
-    module _ (names : ResolvedNames) (same_types : names.types ≡ types) (walk : Walk) (own : IsWalkOf walk i is names) (start : Walked) (first : List SideItem) (now : Stage) (members : AddsMembers (walk_of i walk) [] first (stage named a.inside start) now) (x : SideItem) (rest : List SideItem) (split : side_items w ≡ first ++ (x ∷ rest)) (u : Item) (inner : inline_after w first (x ∷ []) ≡ u ∷ []) where
+    module _ (start : Walked) (first : List SideItem) (now : Stage) (members : AddsMembers walk [] first (stage growing start) now) (x : SideItem) (rest : List SideItem) (split : side_items w ≡ first ++ (x ∷ rest)) (u : Item) (inner : inline_after w first (x ∷ []) ≡ u ∷ []) where
       abbrev written : List Item
       written = inline_after w [] first
 
@@ -185,51 +176,41 @@ module _ (ws : Worlds) (places : List ℕ) (es : List TypeDef) (prefix : List In
       in_turn_next : slice_get (inline_items w) (length written) ≡ Some u
       in_turn_next = ap (λ (l : List Item). slice_get l (length written)) whole ∙ at_middle written u later
 
-      sides : AddsSides resolved (length (prefix ++ done.0)) (address w) types named now.types a.inside now.inside members.functions members.adds.own first written
+      sides : AddsSides resolved (length (prefix ++ done.0)) (address w) types named now.growing.types a.inside now.growing.inside members.functions members.adds.own first written
       sides =
-          subst (λ (ns : Names). AddsSides resolved (length (prefix ++ done.0)) (address w) ns named now.types a.inside now.inside members.functions members.adds.own first written) (own.types ∙ same_types) (
-          subst (λ (l : List Interface). AddsSides resolved (length l) (address w) walk.scope.names.now named now.types a.inside now.inside members.functions members.adds.own first written) done.1 (
-          subst (λ (cs : List ResolvedScope). AddsSides cs (length is.arena) (address w) walk.scope.names.now named now.types a.inside now.inside members.functions members.adds.own first written) scopes_are (
-          subst (λ (js : Interfaces). AddsSides (resolved_scopes_of js) (length js.arena) (address w) walk.scope.names.now named now.types a.inside now.inside members.functions members.adds.own first written) own.interfaces (members.adds.holds (address w)))))
+          subst (λ (l : List Interface). AddsSides resolved (length l) (address w) types named now.growing.types a.inside now.growing.inside members.functions members.adds.own first written) done.1 (
+          subst (λ (cs : List ResolvedScope). AddsSides cs (length is.arena) (address w) types named now.growing.types a.inside now.growing.inside members.functions members.adds.own first written) scopes_are (members.adds.holds (address w)))
 
-      covered : length now.inside ≡ length a.inside + length written
+      covered : length now.growing.inside ≡ length a.inside + length written
       covered =
-          let more : length now.inside ≡ length a.inside + length (flat_map item_inline first) = sides_count resolved (length (prefix ++ done.0)) (address w) types named now.types a.inside now.inside members.functions members.adds.own first written sides in
+          let more : length now.growing.inside ≡ length a.inside + length (flat_map item_inline first) = sides_count resolved (length (prefix ++ done.0)) (address w) types named now.growing.types a.inside now.growing.inside members.functions members.adds.own first written sides in
           let long : length written ≡ length (flat_map item_inline first) = length-inline_after w [] first in
           omega (arith, more, long)
 
       abbrev spot : ℕ
-      spot = next_place is now.inside
+      spot = next_place is now.growing.inside
 
       abbrev InnerEnds : List ResolvedScope → List Interface → Type 0
-      InnerEnds cs l = EndsInTurn cs (owner.Interface (length l + length now.inside)) now.types (scope_names u) (known.outcome (rows_of (scope_names u))) (handle_fault files known.steps (address u))
+      InnerEnds cs l = EndsInTurn cs (owner.Interface (length l + length now.growing.inside)) now.growing.types (scope_names u) (known.outcome (rows_of (scope_names u))) (handle_fault files known.steps (address u))
 
       inner_ends : InnerEnds (resolved_scopes_of is) is.arena
       inner_ends = subst (InnerEnds (resolved_scopes_of is)) (sym done.1) (subst (λ (cs : List ResolvedScope). InnerEnds cs (prefix ++ done.0)) (sym scopes_are)
-          (inline_ends files declared_interfaces declared_worlds (interfaces_sort (in_order all places)) (worlds_sort (in_order all places)) (are_interfaces files places g.order g.differ) (are_worlds files places g.order g.differ) g.uses es prefix wprefix g.foreign middle done.0 rs done.2 us mid a wrs w there before types named own_scoped first written (length written) in_front u in_turn_next now.types now.inside members.functions members.adds.own sides covered (known.outcome (rows_of (scope_names u))) (outcomes (rows_of (scope_names u))) known.steps (enough (address u))))
+          (inline_ends files declared_interfaces declared_worlds (interfaces_sort (in_order all places)) (worlds_sort (in_order all places)) (are_interfaces files places g.order g.differ) (are_worlds files places g.order g.differ) g.uses es prefix wprefix g.foreign middle done.0 rs done.2 us mid a wrs w there before types named own_scoped first written (length written) in_front u in_turn_next now.growing.types now.growing.inside members.functions members.adds.own sides covered (known.outcome (rows_of (scope_names u))) (outcomes (rows_of (scope_names u))) known.steps (enough (address u))))
 
       inner_walked : (s : ItemScope) → IsLent s files u → AreAsWalked files is (flat_map own_use s.names.now)
       inner_walked s its = walked u (scopes_inline files w u declared (contains_at (inline_items w) (length written) u in_turn_next)) s.names.now its.named its.placed
 
-      right_inside : IsRightOf (ordered_fault files known (λ (v : Item). None)) is now.types spot u
-      right_inside = right_interface files known outcomes (λ other. None) is now.types spot u (inline_interface w (length written) u in_turn_next) inner_walked inner_ends
+      right_inside : IsRightOf (ordered_fault files known (λ (v : Item). None)) is now.growing.types spot u
+      right_inside = right_interface files known outcomes (λ other. None) is now.growing.types spot u (inline_interface w (length written) u in_turn_next) inner_walked inner_ends
 
-  -- its members
-  abbrev member : List SideItem → SideItem → Option Fault
-  member = member_fault files known.steps (ordered_fault files known (λ (v : Item). None)) w (order_of outcome)
-
-  module _ (names : ResolvedNames) (named : List TypeDef) (scoped : AddsScope mid named (resolved_scopes_of is) (owner.World (length ws.arena)) xs names.types) (walk : Walk) (start : Walked) (own : IsWalkOf walk i is names) (begun : IsStart (walk_of i walk) start) where
-    right_sides : AreRightMembers member (walk_of i walk) [] (side_items w) (stage named a.inside start)
-    right_sides =
-        let turn = own.walk.turn in
+    -- so its members are
+    right_sides : IsWalk walk → (start : Walked) → IsStart walk start → AreRightMembers member walk [] (side_items w) (stage growing start)
+    right_sides walks start begun =
+        let turn = walks.turn in
         let ordered : outcome ≡ InOrder turn.order = outcome_one (rows_of xs) outcome (InOrder turn.order) (outcomes (rows_of xs)) turn.least in
-        subst (λ (js : Interfaces). AreRightMembers (member_fault js.files known.steps (ordered_fault js.files known (λ (v : Item). None)) w (order_of outcome)) (walk_of i walk) [] (side_items w) (stage named a.inside start)) own.interfaces (
-        right_members (walk_of i walk) known (order_of outcome) (turn.are ∙ ap (λ (o : Outcome). map local_id (in_turn xs (order_of o))) (sym ordered)) own.walk.listed start begun named a.inside
-        (λ new extended. subst (λ (js : Interfaces). EndsIn (env_of walk.scope.names.now) new (handle_fault js.files known.steps (address w))) (sym own.interfaces) (subst (λ (ns : Names). EndsIn (env_of ns) new (handle_fault files known.steps (address w))) (sym own.types) (all_ends names.types named scoped new extended)))
-        (λ link among. subst (λ (js : Interfaces). IsLeading js.files js.by_name (leads w.top link.path)) (sym own.interfaces) (leading link among))
-        (λ first now members x rest split u inner. subst (λ (js : Interfaces). IsRightOf (ordered_fault js.files known (λ (v : Item). None)) js now.types (next_place js now.inside) u) (sym own.interfaces) (right_inside names.types named scoped names refl walk own start first now members x rest split u inner)))
+        right_members walk known (order_of outcome) (turn.are ∙ ap (λ (o : Outcome). map local_id (in_turn xs (order_of o))) (sym ordered)) start begun growing all_ends leading (right_inside start)
 
-  pub right_world : IsRightOfWorld (contents_fault files known) ws mid a.inside i
+  pub right_world : IsRightOfWorld (contents_fault files known) ws (record { types = mid; inside = a.inside }) i
   right_world = record {
     outcome = outcome;
     handle = handle_fault files known.steps (address w);
@@ -237,14 +218,14 @@ module _ (ws : Worlds) (places : List ℕ) (es : List TypeDef) (prefix : List In
     right = outcomes (rows_of xs);
     ends = ends;
     says = world_split files known.steps (ordered_fault files known (λ (v : Item). None)) w outcome ∙ ap (λ (o : Option Fault). option_or o (option_or (first_after member [] (side_items w)) (setters_fault w))) (sym (head_walked files known.steps ws i outcome lent.named walked_uses included));
-    members = λ names named scoped walk start own begun. right_sides names named scoped walk start own begun;
+    members = λ s named walks scoped. right_sides s named scoped walks;
   }
 
 -- each world that comes next
 worlds_right : (is : Interfaces) (places : List ℕ) (es : List TypeDef) (prefix : List Interface) (wprefix : List World) (middle : List TypeDef) (rs : List Required) → AreDeclared is.files is.arena places es prefix wprefix middle rs → IsIndexed is → (items : List BorrowedItem) → map item_view items ≡ all_items is.files → (known : Known) → ((rs : List Row) → IsOutcome rs (known.outcome rs)) → ((s : Address) → IsEnough is.files known.steps s) → AreRightOfWorlds (contents_fault is.files known) is wprefix middle items places
 worlds_right is places es prefix wprefix middle rs declared index items view known outcomes enough = record {
   each = λ ws mid a wrs count place i kept next at sort lent adds made windex.
-      subst (λ (js : Interfaces). AreDeclared js.files js.arena places es prefix wprefix middle rs → IsIndexed js → map item_view items ≡ all_items js.files → ((s : Address) → IsEnough js.files known.steps s) → IsItemOf js.files i → AddsWorlds (prefix_of js.files) (others_of js.files) js.arena middle mid (prefix_worlds wprefix) a wrs (worlds_of (in_order (map item_view items) (take count places))) → IsRightOfWorld (contents_fault js.files known) ws mid a.inside i) kept (λ g indexed all ends own added.
+      subst (λ (js : Interfaces). AreDeclared js.files js.arena places es prefix wprefix middle rs → IsIndexed js → map item_view items ≡ all_items js.files → ((s : Address) → IsEnough js.files known.steps s) → IsItemOf js.files i → AddsWorlds (prefix_of js.files) (others_of js.files) js.arena middle mid (prefix_worlds wprefix) a wrs (worlds_of (in_order (map item_view items) (take count places))) → IsRightOfWorld (contents_fault js.files known) ws (record { types = mid; inside = a.inside }) i) kept (λ g indexed all ends own added.
       let files = ws.interfaces.now.files in
       let here : slice_get (all_items files) place ≡ Some (item_view i) = ap (λ (l : List Item). slice_get l place) (sym all) ∙ slice_get-map item_view items place ∙ ap (option_map item_view) at in
       right_world ws places es prefix wprefix middle rs g indexed known outcomes ends count place i next here sort own mid a wrs (subst (λ (l : List Item). AddsWorlds (prefix_of files) (others_of files) ws.interfaces.now.arena middle mid (prefix_worlds wprefix) a wrs (worlds_of (in_order l (take count places)))) all added) made windex) declared index view enough lent adds;

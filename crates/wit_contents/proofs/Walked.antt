@@ -1,39 +1,21 @@
 -- The first fault of an interface by tables, and that of a world before its members, is that of the walk of files, where the tables say what the files do.
-use Rattle.std.proofs.Common.{◌≡◌, ℕ, zero, suc, Bool, true, false, ◌||◌, List, [], ◌∷◌, ◌++◌, map, Option, Some, None, refl, sym, ap, ◌∙◌, subst}
-use Rattle.wit_syntax.proofs.Common.{Called, Declared, Defined, Exported, Fault, ForeignName, Id, Imported, InterfaceItem, Item, PackageFile, ResourceFunc, ScopeName, SideFunction, SideItem, SourceFunction, Span, TheInline, TheInterface, TheWorld, TypeBody, Used, WorldSide, about, address, bytes_eq, cyclic_at, defined, definition_functions, flat_map, flat_map_at, folded_key, free_function, functions, functions_imported, if◌then◌else◌, in_order, in_turn, includes, interface_part, is_world, item_function, items_on, kept_all, kept_none, list_any, local_id, local_name, map-append, map_at, missing_type_at, name_called, name_twice, names_on, on_side, option_or, part_functions, part_includes, resource_function, role_side, same_side, scope_names, side_called, side_items, side_items_functions, slice_get, type_word, used, clash, codes, fault_in}
+use Rattle.std.proofs.Common.{◌≡◌, ℕ, zero, suc, Bool, true, false, List, [], ◌∷◌, ◌++◌, map, Option, Some, None, refl, sym, ap, ◌∙◌, subst, length, ◌==◌}
+use Rattle.wit_contents.proofs.Names.{Called, Declared, Defined, Exported, Fault, ForeignName, Id, Imported, Include, InterfaceItem, Interfaces, Item as BorrowedItem, ItemScope, Name, Outcome, PackageFile, ResourceFunc, ScopeName, SideFunction, SideItem, SourceFunction, Span, TheInline, TheInterface, TheWorld, TypeBody, Used, UsedName, WorldSide, Worlds, about, address, after-append, after_kept, any-map, bytes_eq, called_fault, clash, clash-made, clash-map, codes, crossed, cyclic_at, defined, definition_fault, definition_functions, definitions_fault, earliest, fault_in, first_after, first_in, flat_map, flat_map_at, folded_fault, folded_key, free_function, function_fault, functions, functions_imported, handle_fault, if◌then◌else◌, in_order, in_turn, include_fault, includes, includes_fault, interface_fault, interface_part, is_on_side, is_world, item_function, item_stability, item_view, items_on, kept_all, kept_none, local_id, local_name, local_names_fault, map-append, map_at, member_fault, missing_type_at, name_called, name_fault, name_twice, names_of, names_on, names_view, on_side, option_or, or_assoc, or_none, or_none_both, order_fault, order_of, ordered_fault, own_fault, own_use, part_functions, repeat-map, repeat_of, resource_function, role_side, same_side, scope_faults, scope_item, scope_names, setters_fault, side_called, side_items, side_items_functions, side_setters_fault, side_sorted, signed_fault, slice_get, stability_fault, turn_fault, type_word, use_fault, use_view, used, uses_viewed, word_fault, world_head}
+use Rattle.wit_arena.proofs.Common.{Item}
 use Rattle.wit_type_tree.specs.declared.types.TypeBody.TheVariants as body
 use Rattle.wit_type_tree.specs.declared.types.ResourceFunc.TheVariants as resource
 use Rattle.wit_tree.specs.declared.tree.InterfaceItem.TheVariants as interface_item
-use Rattle.wit_walk.proofs.Common.{Outcome, after-append, called_fault, clash-made, clash-map, crossed, definition_fault, earliest, first_after, first_in, folded_fault, function_fault, handle_fault, include_fault, is_on_side, local_names_fault, member_fault, name_fault, or_assoc, or_none, or_none_both, order_fault, order_of, own_fault, repeat-map, repeat_of, scope_faults, setters_fault, side_setters_fault, side_sorted, signed_fault, stability_fault, use_fault, word_fault}
-use Rattle.wit_first.proofs.Repeats.{after_kept}
-use Rattle.wit_refusals.specs.NameScopes.{Name}
 use Rattle.wit_signatures.specs.ForeignName.{name_key, name_of_function, name_of_id}
 use Rattle.wit_externs.specs.AloneFaults.{again, again_fault, alone_fault, alone_faults, defined_fault, lone_setters}
 use Rattle.wit_externs.specs.Clash.{names_of_items}
-use Rattle.wit_scopes.specs.BorrowedNames.{own_use, use_view}
-use Rattle.wit_scopes.specs.declared.scope_name.UsedName.{UsedName}
-use Rattle.wit_scopes.proofs.UsedNames.{uses_viewed}
-use Rattle.wit_items.specs.BorrowedItems.{scope_item, item_view, names_view}
-use Rattle.wit_items.specs.declared.interfaces.Interfaces.{Interfaces}
-use Rattle.wit_items.specs.declared.items.ItemScope.{ItemScope}
 use Rattle.wit_item_entries.specs.UseFaults.{local_fault, local_faults, used_fault}
 use Rattle.wit_item_entries.proofs.NameOrder.{all_used, called}
-use Rattle.wit_item_entries.specs.ReachedFaults.{definitions_fault, item_stability, ordered_fault}
 use Rattle.wit_item_entries.specs.ScopeFunctionFaults.{functions_fault}
-use Rattle.wit_contents.specs.InterfaceFaults.{interface_fault, names_of}
-use Rattle.wit_items.specs.declared.items.Item.{Item as BorrowedItem}
-use Rattle.wit_links.specs.Includes.{includes_fault}
-use Rattle.wit_links.specs.declared.worlds.Worlds.{Worlds}
-use Rattle.wit_contents.specs.Worlds.{turn_fault, world_head}
-use Rattle.wit_walk.specs.Setters.{setters_beside}
-
--- an item that is made of another
-any-made : {X Y : Type 0} (p : Y → Bool) (f : X → Y) (xs : List X) → list_any p (map f xs) ≡ list_any (λ (x : X). p (f x)) xs
-any-made p f [] = refl
-any-made p f (x ∷ xs) = ap (λ (b : Bool). p (f x) || b) (any-made p f xs)
+use Rattle.wit_syntax.proofs.Setters.{declared_includes}
+use Rattle.wit_items.proofs.Common.{resource_items}
 
 pub repeat-made : {X Y : Type 0} (key : Y → List ℕ) (as_fault : Y → Fault) (f : X → Y) (before : List X) (x : X) → repeat_of key as_fault (map f before) (f x) ≡ repeat_of (λ (y : X). key (f y)) (λ (y : X). as_fault (f y)) before x
-repeat-made key as_fault f before x = ap (λ (b : Bool). if b then Some (as_fault (f x)) else None) (any-made (λ y. bytes_eq (key y) (key (f x))) f before)
+repeat-made key as_fault f before x = ap (λ (b : Bool). if b then Some (as_fault (f x)) else None) (any-map (λ y. bytes_eq (key y) (key (f x))) f before)
 
 -- a name of a scope that an earlier one is, spelled alike
 abbrev spelled : List ScopeName → ScopeName → Option Fault
@@ -121,23 +103,6 @@ declared_free (TheInterface i) own k fn at = items_free i.items.items k fn at
 declared_free (TheWorld w) own k fn at = absurd (cc)
 declared_free (TheInline world place x name items) own k fn at = items_free items k fn at
 
--- it includes nothing
-items_include : (items : List InterfaceItem) → flat_map part_includes (map interface_part items) ≡ []
-items_include [] = refl
-items_include (interface_item.TypeDef d ∷ items) = items_include items
-items_include (interface_item.Use u ∷ items) = items_include items
-items_include (interface_item.Func g ∷ items) = items_include items
-
-declared_include : (d : Declared) → (about d).is_world ≡ false → flat_map part_includes (about d).parts ≡ []
-declared_include (TheInterface i) own = items_include i.items.items
-declared_include (TheWorld w) own = absurd (cc)
-declared_include (TheInline world place x name items) own = items_include items
-
--- one function of it, after others
-pub functions_back : (fns : List SourceFunction) → flat_map item_function (map SideFunction fns) ≡ fns
-functions_back [] = refl
-functions_back (fn ∷ fns) = ap (λ (l : List SourceFunction). fn ∷ l) (functions_back fns)
-
 module _ (files : List PackageFile) (steps : ℕ) (inside : Item → Option Fault) (i : Item) (order : List ℕ) where
   abbrev xs : List ScopeName
   xs = scope_names i
@@ -167,7 +132,7 @@ module _ (files : List PackageFile) (steps : ℕ) (inside : Item → Option Faul
       let there = items_on side (map SideFunction before) in
       let c : Called = record { name = fn.name; span = fn.span } in
       let names = taken side ++ names_of_items there in
-      let signed : function_fault (signed_fault xs (before ++ fn ∷ []) handle) xs fn ≡ function_fault (signed_fault xs (flat_map item_function (map SideFunction before) ++ fn ∷ []) handle) xs fn = ap (λ (l : List SourceFunction). function_fault (signed_fault xs (l ++ fn ∷ []) handle) xs fn) (sym (functions_back before)) in
+      let signed : function_fault (signed_fault xs (before ++ fn ∷ []) handle) xs fn ≡ function_fault (signed_fault xs (flat_map item_function (map SideFunction before) ++ fn ∷ []) handle) xs fn = ap (λ (l : List SourceFunction). function_fault (signed_fault xs (l ++ fn ∷ []) handle) xs fn) (sym (resource_items before)) in
       let as_crossed = crossed side (side_sorted side xs there order) in
       let folded : again_fault names (name_of_function fn) ≡ folded_fault (side_called side xs there order) c = sym (clash-made (λ (d : Called). folded_key d.name) (λ (earlier later : Called). fault_in 17 later.span (clash (codes "name") earlier.name later.name)) called names (name_of_function fn)) ∙ ap (λ (l : List Called). folded_fault l c) (all_used side xs there order ids refl) in
       let one : again_fault names (name_of_function fn) ≡ own_fault xs there order (SideFunction fn) = folded ∙ sym (called_free (is_on_side fn.role) as_crossed (side_called side xs there order) c own) ∙ sym (or_none (called_fault (is_on_side fn.role) as_crossed (side_called side xs there order) c)) in
@@ -185,7 +150,7 @@ setters_walked i sort =
     let fns = functions i in
     let on : on_side Imported fns ≡ fns = kept_all (λ fn. same_side Imported (role_side fn.role)) fns (λ k fn at. ap (same_side Imported) (functions_imported i sort k fn at)) in
     let off : on_side Exported fns ≡ [] = kept_none (λ fn. same_side Exported (role_side fn.role)) fns (λ k fn at. ap (same_side Exported) (functions_imported i sort k fn at)) in
-    sym (ap (setters_beside i) (declared_include i.declared sort)
+    sym (ap (λ (ns : List Include). if length ns == 0 then option_or (side_setters_fault i Imported) (side_setters_fault i Exported) else None) (declared_includes i.declared sort)
     ∙ ap (λ (l : List SourceFunction). option_or (lone_setters l) (side_setters_fault i Exported)) on
     ∙ ap (λ (l : List SourceFunction). option_or (lone_setters fns) (lone_setters l)) off
     ∙ or_none (lone_setters fns))
@@ -218,7 +183,7 @@ interface_walked files steps inside is s outcome sort named say =
     let members = first_after (member_fault files steps inside i order) [] (side_items i) in
     let names_are : option_or uses twice ≡ names = names_walked files is us xs (uses_viewed s.names.now ∙ ap used named) say in
     let members_are : own ≡ members = members_walked files steps inside i order [] fns (declared_free i.declared sort) ∙ ap (first_after (member_fault files steps inside i order) []) (sym (side_items_functions i sort)) in
-    let nothing : None ≡ first_in (include_fault files i.top) (includes i) = sym (ap (first_in (include_fault files i.top)) (declared_include i.declared sort)) in
+    let nothing : None ≡ first_in (include_fault files i.top) (includes i) = sym (ap (first_in (include_fault files i.top)) (declared_includes i.declared sort)) in
     let last : option_or stable (option_or (option_or uses twice) (option_or round (option_or definitions (option_or folded (option_or own (option_or setters None)))))) ≡ earliest (scope_faults files steps inside i outcome) = rw (names_are, turn_walked (in_turn xs order), members_are, setters_walked i sort, ← nothing) refl in
     by_tables ∙ regroup stable uses twice round definitions folded own setters ∙ last
 

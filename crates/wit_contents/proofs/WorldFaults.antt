@@ -1,36 +1,22 @@
 -- The first fault of a world: of its attributes, of its names, of its includes, or of what is on its sides.
-use Rattle.std.proofs.Common.{◌≡◌, ℕ, ◌+◌, Bool, true, List, [], ◌∷◌, ◌++◌, drop, length, map, take, Option, Some, None, refl, sym, ap, ◌∙◌, subst, All, ◌<◌, get_or}
-use Rattle.wit_syntax.proofs.Common.{Declared, Fault, Id, Include, Item, PackageFile, ParseError, ScopeName, SourceFunction, TheWorld, TopName, TypeDef, TypeOwner, World, append-nil, filter, filter-append, filter_map-append, functions, if◌then◌else◌, in_order, in_turn, includes, kept_next, local_id, option_map, option_or, rows_of, scope_names, side_items, slice_get, slice_get-get_or, slice_get-map, take-append-drop, Result}
+use Rattle.std.proofs.Common.{◌≡◌, ℕ, ◌+◌, Bool, false, true, List, [], ◌∷◌, ◌++◌, drop, length, map, take, Option, Some, None, refl, sym, ap, ◌∙◌, subst, All, ◌<◌, get_or, ◌==◌}
+use Rattle.wit_contents.proofs.Names.{AddsTurn, AreKeyed, Declared, EndsInTurn, Exported, Fault, Finds, FindsNames, FindsSides, Id, Imported, Include, IsItemOf, IsNext, IsOutcome, IsRightOfWorld, IsSeen, IsWalk, Item as BorrowedItem, ItemWalk, Outcome, PackageFile, ParseError, Reports, ResolvedScope, Result, ScopeName, SourceFunction, TheInline, TheInterface, TheWorld, TopName, TypeDef, TypeOwner, Worlds, about, all_declared, all_items, append-nil, at_contains, declared_view, eqb-suc-zero, filter, filter-append, filter_map-append, finds_same, first_after, first_in, functions, if◌then◌else◌, in-append, in-more, in_order, in_turn, includes, includes_fault, is_inside, item_in, item_stability, item_view, kept_next, local_id, names_at_top, names_fault, names_view, option_map, option_or, order_of, reports_back, reports_prefix, reports_same, resolved_scopes_of, rows_of, scope_names, setters_fault, side_items, side_setters_fault, sides_fault, slice_get, slice_get-get_or, slice_get-map, take-append-drop, turn_fault, walk_item, world_head}
+use Rattle.wit_contents.specs.declared.walk.Growing.{Growing}
+use Rattle.wit_contents.specs.declared.walk.Walked.{Walked}
+use Rattle.wit_contents.specs.declared.walk.WorldScope.{WorldScope}
+use Rattle.wit_arena.proofs.Common.{Item}
+use Rattle.wit_walk.proofs.Common.{World}
 use Rattle.wit_types.specs.declared.types.TypeOwner.TheVariants as owner
-use Rattle.wit_arena.proofs.Common.{Interface, ResolvedScope}
-use Rattle.wit_walk.proofs.Common.{IsOutcome, Outcome, Reports, first_after, first_in, in-append, in-more, order_of, reports_prefix, reports_same, setters_fault, Finds, finds_same, reports_back}
 use Rattle.wit_externs.specs.AloneFaults.{sides_setters}
-use Rattle.wit_files.specs.FileNames.{names_at_top}
-use Rattle.wit_items.specs.BorrowedItems.{declared_view, item_view, names_view}
-use Rattle.wit_items.specs.Gathered.{IsItemOf}
-use Rattle.wit_items.specs.ItemPaths.{item_in}
-use Rattle.wit_items.specs.ResolvedInterfaces.{resolved_scopes_of}
-use Rattle.wit_items.specs.declared.items.Item.{Item as BorrowedItem}
-use Rattle.wit_world_sides.specs.Settled.{none_of}
-use Rattle.wit_world_sides.specs.Members.{AreKeyed}
-use Rattle.wit_links.specs.Includes.{includes_fault}
-use Rattle.wit_links.specs.SideCounts.{IsSeen}
-use Rattle.wit_links.specs.declared.worlds.Worlds.{Worlds}
-use Rattle.wit_item_entries.specs.AddedNames.{AddsTurn}
-use Rattle.wit_item_entries.specs.ReachedFaults.{item_stability, names_fault, EndsInTurn, FindsNames}
 use Rattle.wit_item_entries.proofs.ReachedFaults.{done, failed}
 use Rattle.wit_item_entries.specs.declared.names.ResolvedNames.{ResolvedNames}
-use Rattle.wit_contents.specs.MemberFaults.{MemberTest}
-use Rattle.wit_contents.specs.Walk.{IsNext, IsWalk, ItemWalk, walk_item}
-use Rattle.wit_contents.specs.Worlds.{AreRightSides, IsRightOfWorld, sides_fault, turn_fault, world_head}
 use Rattle.wit_contents.proofs.InterfaceFaults.{turned}
-use Rattle.wit_contents.specs.declared.walk.Walked.{Walked}
-use Rattle.wit_walk.specs.Setters.{setters_beside}
+use Rattle.wit_world_sides.specs.FilledSides.{none_of}
 
 -- setters are looked at where a world includes nothing
-setters_by : (i : Item) (ns : List Include) → (if none_of ns then sides_setters (functions i) else None) ≡ setters_beside i ns
+setters_by : (i : Item) (ns : List Include) → (if none_of ns then sides_setters (functions i) else None) ≡ (if length ns == 0 then option_or (side_setters_fault i Imported) (side_setters_fault i Exported) else None)
 setters_by i [] = refl
-setters_by i (n ∷ ns) = refl
+setters_by i (n ∷ ns) = sym (ap (λ (b : Bool). if b then option_or (side_setters_fault i Imported) (side_setters_fault i Exported) else None) (eqb-suc-zero (length ns)))
 
 pub setters_closed : (i : Item) (fns : List SourceFunction) → fns ≡ functions i → (closed : Bool) → closed ≡ none_of (includes i) → (if closed then sides_setters fns else None) ≡ setters_fault i
 setters_closed i fns are closed same =
@@ -48,7 +34,7 @@ item_here i world own is =
 abbrev pub next_all : (w : ItemWalk) (m : Walked) → IsWalk w → IsSeen [] m.seen → AreKeyed m.members → IsNext w (side_items (walk_item w)) m
 next_all w m walk seen keyed = record { walk = walk; prefix = []; rest = []; sides = sym (append-nil (side_items (walk_item w))); seen = seen; keyed = keyed }
 
-module _ (ws : Worlds) (i : BorrowedItem) (old : List TypeDef) where
+module _ (ws : Worlds) (i : BorrowedItem) (old : Growing) where
   abbrev w : Item
   w = item_view i
 
@@ -72,7 +58,7 @@ module _ (ws : Worlds) (i : BorrowedItem) (old : List TypeDef) where
   names_test outcome handle = names_fault ws.interfaces.now i.names.items outcome handle
 
   -- what a test that is right of it says of it
-  module _ (wrong : Item → Option Fault) (inside : List Interface) (test : IsRightOfWorld wrong ws old inside i) where
+  module _ (wrong : Item → Option Fault) (test : IsRightOfWorld wrong ws old i) where
     abbrev rest : Option Fault
     rest = option_or (first_after test.member [] (side_items w)) (setters_fault w)
 
@@ -84,17 +70,17 @@ module _ (ws : Worlds) (i : BorrowedItem) (old : List TypeDef) where
     unstable_first e found = reports_same (sym test.says) (reports_prefix rest (reports_prefix (option_or (names_test test.outcome test.handle) last) found))
 
     module _ (named : names_view i ≡ scope_names (item_view i)) (stable : item_stability (item_view i) ≡ None) where
-      names_found : {T : Type 0} (r : Result T ParseError) → FindsNames None ws.interfaces.now o old i.names.items r → Finds (names_test test.outcome test.handle) r
-      names_found r found = found test.outcome (subst (λ (ys : List ScopeName). IsOutcome (rows_of ys) test.outcome) (sym named) test.right) test.handle (subst (λ (ys : List ScopeName). EndsInTurn cs o old ys test.outcome test.handle) (sym named) test.ends)
+      names_found : {T : Type 0} (r : Result T ParseError) → FindsNames None ws.interfaces.now o old.types i.names.items r → Finds (names_test test.outcome test.handle) r
+      names_found r found = found test.outcome (subst (λ (ys : List ScopeName). IsOutcome (rows_of ys) test.outcome) (sym named) test.right) test.handle (subst (λ (ys : List ScopeName). EndsInTurn cs o old.types ys test.outcome test.handle) (sym named) test.ends)
 
       -- its names are
-      pub names_first : (e : ParseError) → FindsNames None ws.interfaces.now o old i.names.items (failed e) → Reports (wrong (item_view i)) e
+      pub names_first : (e : ParseError) → FindsNames None ws.interfaces.now o old.types i.names.items (failed e) → Reports (wrong (item_view i)) e
       names_first e found = reports_same (sym test.says) (reports_prefix rest (reports_back stable (reports_prefix last (names_found (failed e) found))))
 
       -- they are resolved, and in the arena
-      module _ (n : ResolvedNames) (mid : List TypeDef) (turn : AddsTurn old mid cs o xs n.types n.turn.items n.required.items) (head : FindsNames None ws.interfaces.now o old i.names.items (done n)) where
+      module _ (n : ResolvedNames) (mid : List TypeDef) (turn : AddsTurn old.types mid cs o xs n.types n.turn.items n.required.items) (head : FindsNames None ws.interfaces.now o old.types i.names.items (done n)) where
         turned_is : n.turn.items ≡ turned_ids test.outcome
-        turned_is = turned old mid cs o xs n.types n.turn.items n.required.items turn test.outcome test.right
+        turned_is = turned old.types mid cs o xs n.types n.turn.items n.required.items turn test.outcome test.right
 
         -- so what comes after them is wrong
         pub includes_first : (e : ParseError) → Reports (includes_fault ws (item_view i)) e → Reports (wrong (item_view i)) e
@@ -109,8 +95,27 @@ module _ (ws : Worlds) (i : BorrowedItem) (old : List TypeDef) where
               ∙ ap (λ (x : Option Fault). option_or x (turn_fault (turned_ids test.outcome))) included
               ∙ ap turn_fault (sym turned_is)
 
-          pub world_found : {T : Type 0} (r : Result T ParseError) → ((member : MemberTest) → AreRightSides member i ws.interfaces.now n mid inside → Finds (sides_fault (item_view i) n.turn.items member) r) → Finds (wrong (item_view i)) r
-          world_found r found = finds_same r (sym (test.says ∙ ap (λ (x : Option Fault). option_or x rest) head_is)) (found test.member (test.members n mid turn.adds))
+          pub world_alone : {T : Type 0} (r : Result T ParseError) → Finds (sides_fault (item_view i) n.turn.items test.member) r → Finds (wrong (item_view i)) r
+          world_alone r found = finds_same r (sym (test.says ∙ ap (λ (x : Option Fault). option_or x rest) head_is)) found
+
+      -- what is found in its walk, too
+      module _ (s : WorldScope) (mid : List TypeDef) (turn : AddsTurn old.types mid cs o xs s.names.types s.names.turn.items s.names.required.items) (head : FindsNames None ws.interfaces.now o old.types i.names.items (done s.names)) (included : includes_fault ws (item_view i) ≡ None) where
+        abbrev walk : ItemWalk
+        walk = record { item = i; scope = s; interfaces = ws.interfaces.now }
+
+        pub world_found : {T : Type 0} (r : Result T ParseError) → IsWalk walk → FindsSides walk (record { types = mid; inside = old.inside }) r → Finds (wrong (item_view i)) r
+        world_found r walks found = world_alone s.names mid turn head included r (found test.member (test.members s mid walks turn.adds))
+
+-- each item of files has a name by which it is found
+pub item_called : (files : List PackageFile) (i : BorrowedItem) → IsItemOf files i → (about (item_view i).declared).called ≡ Some (about (item_view i).declared).id.name.now
+item_called files i own =
+    let k = at_contains (all_items files) (item_view i) own.filed.among in
+    by (item_view i).declared (all_declared files k.0 (item_view i) k.1)
+  where
+    by : (d : Declared) → is_inside (about d).address ≡ false → (about d).called ≡ Some (about d).id.name.now
+    by (TheInterface x) free = refl
+    by (TheWorld x) free = refl
+    by (TheInline world place x name items) free = absurd (let f : ⊥ = cc in f)
 
 -- a borrowed item, by its place in an order
 pub record IsAt (items : List BorrowedItem) (places : List ℕ) (k : ℕ) (x : BorrowedItem) : Type 0 where

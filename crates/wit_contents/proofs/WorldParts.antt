@@ -1,66 +1,35 @@
 -- The walk of a world of the files, and what the world adds: after its names what is on its sides, or nothing.
-use Rattle.std.proofs.Common.{◌≡◌, List, map, refl, sym, ap, ◌∙◌, subst, true, ◌+◌, ℕ, ◌∷◌, [], ◌++◌, Some, length, arith, false, None}
-use Rattle.wit_syntax.proofs.Common.{Address, AllDiffer, Declared, Exported, Id, Imported, Include, Item, ScopeName, SideItem, TheWorld, TypeDef, TypeOwner, WorldItem, WorldSide, about, address, and_parts, append-nil, at_back, at_prefix, declared_metadata, eqb-true, flat_map, functions, functions_items, in_turn, in_turn_distinct, includes, inline_items, is_ascii_uppercase, item_function, list_all, list_any, names_on, nil_from_length, part_items, scope_names, side_items, slice_get, world_part}
-use Rattle.wit_walk.proofs.Common.{first_after, no_clashes, none_both, setters_fault}
-use Rattle.wit_arena.proofs.Common.{AddsSides, AddsWorld, AreIncludes, AreSideItems, Interface, IsWorld, Names, Required, World, env_of, function_of, interfaces_at, names_in, settled, type_imports, worlds_at}
-use Rattle.wit_rules.specs.BorrowedFunctions.{function_view}
-use Rattle.wit_rules.specs.Signatures.{HaveOwners, functions_view}
-use Rattle.wit_items.specs.BorrowedItems.{item_view, declared_view}
-use Rattle.wit_items.specs.ResolvedInterfaces.{resolved_scopes_of}
-use Rattle.wit_items.specs.declared.interfaces.Interfaces.{Interfaces}
-use Rattle.wit_items.specs.declared.items.Item.{Item as BorrowedItem}
-use Rattle.wit_item_entries.specs.AddedNames.{AddsTurn}
-use Rattle.wit_item_entries.specs.declared.names.ResolvedNames.{ResolvedNames}
-use Rattle.wit_item_entries.proofs.FunctionFaults.{all_names, turn_texts}
-use Rattle.wit_item_entries.proofs.Owners.{owners, turn_has}
-use Rattle.wit_contents.specs.declared.walk.Walk.{Walk}
-use Rattle.wit_contents.specs.declared.sides.WorldScope.{WorldScope}
-use Rattle.wit_contents.specs.Worlds.{IsFunctionScopeOf, IsScopeOfWorld, IsWalkOf, arenas, sides_fault}
-use Rattle.wit_types.specs.declared.types.TypeOwner.TheVariants as owner
-use Rattle.wit_items.specs.ForeignAddresses.{prefix_of}
-use Rattle.wit_world_sides.specs.Members.{Entry}
-use Rattle.wit_links.proofs.Leading.{addresses_count}
+use Rattle.std.proofs.Common.{◌≡◌, List, map, refl, sym, ap, ◌∙◌, subst, true, ◌+◌, ℕ, ◌∷◌, [], ◌++◌, Some, length, arith, false, None, ◌==◌, Bool}
+use Rattle.wit_contents.proofs.Names.{Address, AddsMembers, AddsSides, AddsTurn, AddsWorld, AllDiffer, AreIncludes, AreSideItems, Borrowed, Declared, Entry, Exported, HavePlaces, Id, Imported, Include, Interface, Interfaces, IsStart, IsTurn, IsWalk, IsWorld, Item as BorrowedItem, ItemWalk, MemberTest, Name, Names, Required, ScopeName, SideItem, TheWorld, TypeDef, World, WorldSide, about, address, and_parts, append-nil, arenas, at_back, at_prefix, declared_metadata, declared_view, eqb-suc-zero, eqb-true, first_after, flat_map, function_of, functions, functions_items, if◌then◌else◌, in_turn, in_turn_distinct, includes, inline_items, interfaces_at, is_ascii_uppercase, item_function, item_view, list_all, list_any, name_view, names_on, nil_from_length, no_clashes, none_both, option_or, part_functions, part_items, prefix_of, puts_nothing, resolved_scopes_of, scope_names, setters_fault, settled, side_items, side_setters_fault, sides_fault, slice_get, stage, type_imports, walk_item, world_part, worlds_at}
+use Rattle.wit_contents.specs.declared.walk.Growing.{Growing}
 use Rattle.wit_contents.specs.declared.walk.Walked.{Walked}
-use Rattle.wit_contents.specs.Walk.{HavePlaces, IsWalk, ItemWalk, walk_item, puts_nothing, AddsMembers, IsStart, stage}
-use Rattle.wit_tree.specs.declared.tree.World.{World as Written}
+use Rattle.wit_contents.specs.declared.walk.WorldScope.{WorldScope}
+use Rattle.wit_arena.proofs.Common.{Item}
+use Rattle.wit_walk.proofs.Common.{World as Written, WorldItem}
+use Rattle.wit_item_entries.proofs.FunctionFaults.{turn_texts}
+use Rattle.wit_types.specs.declared.types.TypeOwner.TheVariants as owner
+use Rattle.wit_links.proofs.Leading.{addresses_count}
+use Rattle.wit_contents.specs.Ready.{IsWorldOf}
+use Rattle.wit_rules.specs.BorrowedFunctions.{function_view}
+use Rattle.wit_rules.specs.Signatures.{AreResults}
+use Rattle.wit_world_sides.specs.FilledSides.{none_of}
 use Rattle.wit_functions.specs.MaybeFunction.{is_setter}
 use Rattle.wit_functions.proofs.NoSetters.{no_setters}
-use Rattle.wit_refusals.specs.NameScopes.{Name}
 use Rattle.wit_signatures.specs.ForeignName.{name_key, name_of_id}
 use Rattle.wit_externs.specs.AloneFaults.{again, sides_setters}
-use Rattle.wit_item_entries.specs.NameOrder.{IsTurn}
 use Rattle.wit_item_entries.proofs.NoFunctions.{names_alone}
-use Rattle.wit_contents.specs.MemberFaults.{MemberTest}
 use Rattle.wit_contents.proofs.Members.{sides_none}
 use Rattle.wit_contents.proofs.MemberFaults.{world_sides}
-use Rattle.wit_walk.specs.Setters.{setters_beside}
 
--- it is that of a world of the files, whose names are resolved, in turn
-pub walk_of_scope : (w : Walk) (i : BorrowedItem) (s : WorldScope) → IsScopeOfWorld w.interfaces.now i s → IsFunctionScopeOf s w.scope → w.turn.now ≡ s.names.turn.items → IsWalkOf w i w.interfaces.now s.names
-walk_of_scope w i s is fns lent =
-    let xs = scope_names (item_view i) in
-    let ids = s.names.turn.items in
-    let env = env_of w.scope.names.now in
-    let own : functions_view w.scope ≡ functions (item_view i) = ap (map function_view) fns.functions ∙ is.functions in
-    let listed : names_in w.scope.names.now ≡ map (λ (id : Id). id.name.now) ids = ap names_in fns.names ∙ s.names.listed in
-    record {
-      walk = record {
-        item = is.world.item;
-        sort = is.world.sort;
-        functions = own;
-        owners = subst (HaveOwners env) (sym own) (owners (item_view i) env (turn_has xs ids w.scope.names.now is.turn listed));
-        scoped = record { names = all_names xs ids w.scope.names.now is.turn listed; results = rw fns.results is.results };
-        turn = rw lent is.turn;
-        listed = listed ∙ ap (map (λ (id : Id). id.name.now)) (sym lent);
-      };
-      interfaces = refl;
-      types = fns.names;
-      turn = lent;
-    }
-
--- its names were added in turn
-pub turn_of : (w : Walk) (i : BorrowedItem) (is : Interfaces) (names : ResolvedNames) → IsWalkOf w i is names → (old new : List TypeDef) (o : TypeOwner) → AddsTurn old new (resolved_scopes_of is) o (scope_names (item_view i)) names.types names.turn.items names.required.items → AddsTurn old new (resolved_scopes_of w.interfaces.now) o (scope_names (item_view i)) w.scope.names.now w.turn.now names.required.items
-turn_of w i is names of old new o n = rw (of.interfaces, of.types, of.turn) n
+-- it is the walk of a world of the files, where its names are resolved in turn
+pub walk_there : (is : Interfaces) (i : BorrowedItem) (s : WorldScope) (world : Written) (names : List Borrowed) → IsWorldOf is i → declared_view i.declared ≡ TheWorld world → IsTurn (scope_names (item_view i)) s.names.turn.items → map function_view s.functions.items ≡ flat_map part_functions (map world_part world.items.items) → names ≡ i.names.items → AreResults s.results (map name_view names) → s.closed ≡ none_of (includes (item_view i)) → IsWalk (record { item = i; scope = s; interfaces = is })
+walk_there is i s world names of declared turn functions lent results closed = record {
+  world = of;
+  functions = functions ∙ ap (λ (d : Declared). flat_map part_functions (about d).parts) (sym declared);
+  results = subst (AreResults s.results) (ap (map name_view) lent ∙ of.item.named) results;
+  turn = turn;
+  closed = closed;
+}
 
 -- where each of so many interfaces that are written in an item is, after the declared ones and those that were written before
 module _ (foreign : List Address) (is inside : List Interface) (ss : List Address) (item : Item) (counted : length (interfaces_at foreign is) ≡ length is) (known : length ss ≡ length inside) where
@@ -71,25 +40,25 @@ module _ (foreign : List Address) (is inside : List Interface) (ss : List Addres
       ap (slice_get (interfaces_at foreign is ++ (ss ++ us))) place ∙ at_back (interfaces_at foreign is) (ss ++ us) (length ss + k) s (at_back ss us k s at)
 
 -- what a world adds, where its names and what is on its sides were added
-module _ (w : ItemWalk) (others : List Address) (ws : List World) (old middle new : List TypeDef) (inside now : List Interface) (required : List Required) (m : Walked) (is : IsWalk w) (n : AddsTurn old middle (resolved_scopes_of w.walk.interfaces.now) (owner.World (length ws)) (scope_names (walk_item w)) w.walk.scope.names.now w.walk.turn.now required) (start : Walked) (begun : IsStart w start) (adds : AddsMembers w [] (side_items (walk_item w)) (stage middle inside start) (stage new now m)) where
+module _ (w : ItemWalk) (others : List Address) (ws : List World) (old : List TypeDef) (middle new : Growing) (required : List Required) (m : Walked) (is : IsWalk w) (n : AddsTurn old middle.types (resolved_scopes_of w.interfaces) (owner.World (length ws)) (scope_names (walk_item w)) w.scope.names.types w.scope.names.turn.items required) (start : Walked) (begun : IsStart w start) (adds : AddsMembers w [] (side_items (walk_item w)) (stage middle start) (stage new m)) where
   abbrev item : Item
   item = walk_item w
 
   abbrev foreign : List Address
-  foreign = prefix_of w.walk.interfaces.now.files
+  foreign = prefix_of w.interfaces.files
 
   abbrev interfaces : List Interface
-  interfaces = w.walk.interfaces.now.arena
+  interfaces = w.interfaces.arena
 
-  pub content_adds : (added : World) (ss : List Address) → length ss ≡ length inside → IsWorld (about item.declared).id.name.now (about item.declared).id.span (declared_metadata item.declared) added → added.imports ≡ settled (includes item) m.members.sides.imports → added.exports ≡ settled (includes item) m.members.sides.exports → AreIncludes (worlds_at others ws) item added.includes → AddsWorld foreign others interfaces old new (arenas ws inside ss) (arenas (ws ++ added ∷ []) now (ss ++ map address (inline_items item))) (required ++ m.required.items) item
+  pub content_adds : (added : World) (ss : List Address) → length ss ≡ length middle.inside → IsWorld (about item.declared).id.name.now (about item.declared).id.span (declared_metadata item.declared) added → added.imports ≡ settled (includes item) m.members.sides.imports → added.exports ≡ settled (includes item) m.members.sides.exports → AreIncludes (worlds_at others ws) item added.includes → AddsWorld foreign others interfaces old new.types (arenas ws middle.inside ss) (arenas (ws ++ added ∷ []) new.inside (ss ++ map address (inline_items item))) (required ++ m.required.items) item
   content_adds added ss known says imports exports included =
       let order = n.adds.order in
       let us = map address (inline_items item) in
       let total = interfaces_at foreign interfaces ++ (ss ++ us) in
-      let counted = addresses_count foreign interfaces w.walk.interfaces.now.prefix in
-      let places : HavePlaces w inside (inline_items item) total = record {
+      let counted = addresses_count foreign interfaces w.interfaces.prefix in
+      let places : HavePlaces w middle.inside (inline_items item) total = record {
         interfaces = λ p s at. at_prefix (interfaces_at foreign interfaces) (ss ++ us) p s at;
-        inline = inline_present foreign interfaces inside ss item counted known;
+        inline = inline_present foreign interfaces middle.inside ss item counted known;
       } in
       let first = adds.are_present total places Imported in
       let second = adds.are_present total places Exported in
@@ -99,8 +68,8 @@ module _ (w : ItemWalk) (others : List Address) (ws : List World) (old middle ne
         last = refl;
         more = refl;
         says = says;
-        types = w.walk.scope.names.now;
-        middle = middle;
+        types = w.scope.names.types;
+        middle = middle.types;
         adds = n.adds;
         own = n.handled.list;
         ended = n.handled.ended;
@@ -128,9 +97,9 @@ pub texts_differ : (xs : List ScopeName) (ids : List Id) → IsTurn xs ids → A
 texts_differ xs ids turn = subst AllDiffer (sym (turn_texts xs turn.order ids turn.are)) (in_turn_distinct xs turn.order turn.least turn.distinct)
 
 -- without functions no setter is without its getter
-by_includes : (i : Item) (ns : List Include) → functions i ≡ [] → setters_beside i ns ≡ None
+by_includes : (i : Item) (ns : List Include) → functions i ≡ [] → (if length ns == 0 then option_or (side_setters_fault i Imported) (side_setters_fault i Exported) else None) ≡ None
 by_includes i [] none = ap sides_setters none
-by_includes i (n ∷ ns) none = refl
+by_includes i (n ∷ ns) none = ap (λ (b : Bool). if b then option_or (side_setters_fault i Imported) (side_setters_fault i Exported) else None) (eqb-suc-zero (length ns))
 
 pub setters_none : (i : Item) → side_items i ≡ [] → setters_fault i ≡ None
 setters_none i empty = by_includes i (includes i) (functions_items i ∙ ap (flat_map item_function) empty)

@@ -1,11 +1,8 @@
 -- Worlds that are added one after another, with the interfaces that are written in them, and one more.
 use Rattle.std.proofs.Common.{◌≡◌, ◌+◌, List, [], ◌∷◌, ◌++◌, length, map, refl, sym, ap, ◌∙◌, subst, append_assoc, arith}
-use Rattle.wit_syntax.proofs.Common.{Address, Item, TypeDef, address, append-nil, flat_map, flat_map-append, inline_items, length-append, length-inline_after, length-map, map-append, side_items}
-use Rattle.wit_arena.proofs.Adding.{adds_append, adds_one}
-use Rattle.wit_arena.proofs.Common.{AddsWorld, AddsWorlds, Interface, Required, World, prefix_worlds, resolved_scopes}
-use Rattle.wit_item_entries.specs.NewRequirements.{Appends}
+use Rattle.wit_contents.proofs.Names.{Address, AddsWorld, AddsWorlds, Appends, Interface, Required, TypeDef, World, address, adds_append, adds_one, append-nil, arenas, flat_map, flat_map-append, inline_items, length-append, length-inline_after, length-map, map-append, prefix_worlds, resolved_scopes, side_items}
+use Rattle.wit_arena.proofs.Common.{Item}
 use Rattle.wit_contents.proofs.Members.{sides_count}
-use Rattle.wit_contents.specs.Worlds.{arenas}
 
 -- the addresses of the interfaces that are written in worlds
 abbrev pub addresses_in : List Item → List Address

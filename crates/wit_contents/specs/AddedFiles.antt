@@ -1,19 +1,9 @@
 -- What is said between the functions of the resolver: what files make.
 use Rattle.std.specs.Prelude.{◌≡◌, List, Ok, Result, Some, ◌++◌}
-use Rattle.wit_values.specs.declared.span.Span.{Span}
-use Rattle.wit_tree.specs.declared.tree.PackageFile.{PackageFile}
+use Rattle.wit_contents.specs.Names.{Interface, IsLegal, Makes, PackageFile, PackageName, Required, Span, TypeDef, UnresolvedPackage, World, first_docs, headers, last_header, package_of}
 use Rattle.wit_tree.specs.declared.tree.PackageName.{PackageName as Header}
-use Rattle.wit_package_names.specs.declared.package_name.PackageName.{PackageName}
-use Rattle.wit_types.specs.declared.types.TypeDef.{TypeDef}
+use Rattle.wit_model.specs.Packages.{package_of_parts}
 use Rattle.wit_model.specs.declared.foreign.ForeignItems.{ForeignItems}
-use Rattle.wit_model.specs.declared.interface.Interface.{Interface}
-use Rattle.wit_model.specs.declared.unresolved.UnresolvedPackage.{UnresolvedPackage}
-use Rattle.wit_model.specs.declared.world.World.{World}
-use Rattle.wit_syntax.specs.Address.{package_of}
-use Rattle.wit_syntax.specs.Broken.{IsLegal, headers, last_header}
-use Rattle.wit_arena.specs.Made.{Makes}
-use Rattle.wit_arena.specs.Resolving.{Required}
-use Rattle.wit_arena.specs.Whole.{first_docs}
 use Rattle.wit_foreign.specs.Kept.{Items}
 use Rattle.wit_contents.specs.declared.contents.Made.{Made}
 use Rattle.wit_contents.specs.declared.world.ResolvedWorlds.{ResolvedWorlds}
@@ -29,7 +19,7 @@ pub record IsMadeOf {E : Type 0} (is : List Interface) (made : ResolvedWorlds) (
 
 -- the package of files whose last header is this one, with these types, interfaces and worlds, and what it names of other packages
 abbrev pub package_with : List PackageFile → Header → List TypeDef → List Interface → List World → ForeignItems → UnresolvedPackage
-package_with files header es is ws foreign = record { name = package_of header; name_span = header.span; docs = first_docs (headers files); types = es; interfaces = is; worlds = ws; foreign_deps = foreign.deps; foreign_dep_spans = foreign.dep_spans; unknown_type_spans = foreign.unknown_type_spans; required_resource_types = foreign.required_resource_types }
+package_with files header es is ws foreign = package_of_parts (package_of header) (record { types = es; interfaces = is; worlds = ws }) (first_docs (headers files)) header.span foreign
 
 -- it is what they make, where they are legal
 pub record MakeContents (files : List PackageFile) (es : List TypeDef) (is : List Interface) (ws : List World) (foreign : ForeignItems) : Type 0 where

@@ -1,26 +1,9 @@
 -- What an interface adds to the arenas.
-use Rattle.std.specs.Prelude.{◌≡◌, ◌++◌, ℕ, List, Option, None, map}
-use Rattle.wit_values.specs.declared.span.Span.{Span}
-use Rattle.wit_types.specs.declared.types.TypeDef.{TypeDef}
-use Rattle.wit_types.specs.declared.types.TypeOwner.{TypeOwner}
-use Rattle.wit_functions.specs.declared.function.Function.{Function}
-use Rattle.wit_model.specs.declared.interface.Interface.{Interface}
-use Rattle.wit_syntax.specs.ScopeTables.{in_order, interfaces_of}
-use Rattle.wit_syntax.specs.Source.{Item}
+use Rattle.std.specs.Prelude.{◌≡◌, ◌++◌, ℕ, List, Option, None, Vec, map}
+use Rattle.wit_contents.specs.Names.{AddsBody, AddsInterface, AddsInterfaces, Appends, Function, Global, HasTurn, Interface, InterfaceNamed, Interfaces, IsExtended, IsNameIndex, Item as BorrowedItem, Required, ResolvedNames, ResolvedScope, Span, TypeDef, TypeOwner, in_order, interfaces_at, interfaces_of, item_view, prefix_of, resolved_scopes_of}
+use Rattle.wit_arena.specs.Common.{Item}
 use Rattle.wit_arena.specs.SourceFunctions.{placed_functions}
-use Rattle.wit_arena.specs.Resolving.{IsNameIndex, Required, ResolvedScope}
-use Rattle.wit_arena.specs.ResolvedArenas.{AddsDeclared, AddsInterface, AddsInterfaces, interfaces_at}
-use Rattle.wit_entries.specs.Requiring.{IsExtended}
-use Rattle.wit_items.specs.ForeignAddresses.{prefix_of}
-use Rattle.wit_items.specs.ResolvedInterfaces.{resolved_scopes_of}
-use Rattle.wit_items.specs.BorrowedItems.{item_view}
-use Rattle.wit_items.specs.declared.interfaces.Interfaces.{Interfaces}
-use Rattle.wit_items.specs.declared.items.Item.{Item as BorrowedItem}
-use Rattle.wit_item_entries.specs.NewRequirements.{Appends}
-use Rattle.wit_item_entries.specs.Body.{AddsBody, HasTurn}
 use Rattle.wit_item_entries.specs.declared.body.Head.{Head}
-use Rattle.wit_item_entries.specs.declared.names.ResolvedNames.{ResolvedNames}
-use Rattle.wit_syntax.specs.Address.{InterfaceNamed}
 
 -- the interfaces among items, in the order of their places
 abbrev pub interfaces_in : List BorrowedItem → List ℕ → List Item
@@ -47,15 +30,8 @@ pub record AddsAt (is : Interfaces) (place : ℕ) (old new : List TypeDef) (befo
 abbrev pub IsIndexed : Interfaces → Type 0
 IsIndexed is = IsNameIndex InterfaceNamed (interfaces_at (prefix_of is.files) is.arena) is.by_name
 
--- interfaces of the same files come after others, which are found, too, and this is said of what they require
-pub record AppendsInterfaces (old new : Interfaces) (before after : List Required) (adds : List Required → Type 0) : Type 0 where
-  pub files : new.files ≡ old.files
-  pub added : Appends before after adds
-  pub index : IsIndexed new
-
--- a declared interface was added, or several were, in the order of their places
-abbrev pub AddsOne : Interfaces → Interfaces → List TypeDef → List TypeDef → List Required → List Required → BorrowedItem → Type 0
-AddsOne is now old new before after i = AppendsInterfaces is now before after (λ rs. AddsDeclared (prefix_of is.files) old new is.arena now.arena rs (item_view i))
-
-abbrev pub AddsAmong : Interfaces → Interfaces → List TypeDef → List TypeDef → List Required → List Required → List BorrowedItem → List ℕ → Type 0
-AddsAmong is now old new before after items places = AppendsInterfaces is now before after (λ rs. AddsInterfaces (prefix_of is.files) old new is.arena now.arena rs (interfaces_in items places))
+-- interfaces of the same files come after others, which are found, too: these items were added
+pub record AppendsAll (is now : Interfaces) (old new : List TypeDef) (before after : Vec Required Global) (items : List Item) : Type 0 where
+  pub files : now.files ≡ is.files
+  pub added : Appends before.items after.items (λ rs. AddsInterfaces (prefix_of is.files) old new is.arena now.arena rs items)
+  pub index : IsIndexed now

@@ -1,17 +1,10 @@
 -- The first fault of files from a step of the walk on.
 use Rattle.std.specs.Prelude.{◌≡◌, ℕ, List, Option, Result, Some, drop}
-use Rattle.wit_type_tree.specs.declared.error.ParseError.{ParseError}
-use Rattle.wit_type_tree.specs.declared.leaves.Id.{Id}
-use Rattle.wit_tree.specs.declared.tree.PackageFile.{PackageFile}
-use Rattle.wit_syntax.specs.Address.{Address}
-use Rattle.wit_syntax.specs.Fault.{Fault}
-use Rattle.wit_syntax.specs.NameEnds.{End, EndsAt, shape_end}
-use Rattle.wit_syntax.specs.ScopeTables.{item_rows}
-use Rattle.wit_syntax.specs.Shape.{Word}
+use Rattle.wit_contents.specs.Names.{Address, EndsAt, Fault, Id, PackageFile, ParseError, Row, Word, item_rows, shape_end}
+use Rattle.wit_syntax.specs.NameEnds.{End}
 use Rattle.wit_first.specs.First.{Finds}
 use Rattle.wit_walk.specs.Orders.{IsOutcome}
 use Rattle.wit_walk.specs.Walk.{Known, earliest, walk_faults}
-use Rattle.wit_graph.specs.Table.{Row}
 
 -- what is looked up is right: each table has its outcome, and each name that ends ends in so many steps
 pub record IsRight (files : List PackageFile) (known : Known) : Type 0 where

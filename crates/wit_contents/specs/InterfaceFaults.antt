@@ -1,31 +1,14 @@
 -- The first fault of an interface, by the interfaces that are resolved and by where its names end.
 use Rattle.std.specs.Prelude.{◌≡◌, ℕ, false, List, Option, Result, length, map, take, Some, slice_get}
-use Rattle.std.specs.Option.{option_or}
-use Rattle.wit_type_tree.specs.declared.error.ParseError.{ParseError}
-use Rattle.wit_type_tree.specs.declared.leaves.Id.{Id}
-use Rattle.wit_tree.specs.declared.tree.PackageFile.{PackageFile}
-use Rattle.wit_types.specs.declared.types.TypeDef.{TypeDef}
+use Rattle.wit_contents.specs.Names.{AddsInterfaces, EndsInTurn, Fault, Id, Interfaces, Item as BorrowedItem, ItemScope, PackageFile, ParseError, Required, ScopeName, TypeDef, functions, in_order, in_turn, interfaces_of, is_world, item_stability, item_view, local_id, lone_setters, names_fault, option_or, prefix_of, resolved_scopes_of, rows_of, scope_item, scope_names}
+use Rattle.wit_arena.specs.Common.{Item}
 use Rattle.wit_types.specs.declared.types.TypeOwner.TheVariants as owner
-use Rattle.wit_syntax.specs.Fault.{Fault}
-use Rattle.wit_syntax.specs.ScopeTables.{in_order, in_turn, interfaces_of, rows_of}
-use Rattle.wit_syntax.specs.Source.{Item, ScopeName, is_world, local_id, scope_names}
-use Rattle.wit_first.specs.First.{Finds}
+use Rattle.wit_first.specs.First.{Finds, first_in}
 use Rattle.wit_walk.specs.Orders.{Outcome, IsOutcome, order_of}
-use Rattle.wit_arena.specs.Resolving.{Required}
-use Rattle.wit_arena.specs.ResolvedArenas.{AddsInterfaces}
-use Rattle.wit_externs.specs.AloneFaults.{lone_setters}
 use Rattle.wit_scopes.specs.BorrowedNames.{name_view}
 use Rattle.wit_scopes.specs.PlacedNames.{AreNamesPlaced}
-use Rattle.wit_items.specs.ForeignAddresses.{prefix_of}
-use Rattle.wit_items.specs.BorrowedItems.{item_view, scope_item}
-use Rattle.wit_items.specs.ResolvedInterfaces.{resolved_scopes_of}
-use Rattle.wit_items.specs.declared.interfaces.Interfaces.{Interfaces}
-use Rattle.wit_items.specs.declared.items.Item.{Item as BorrowedItem}
-use Rattle.wit_items.specs.declared.items.ItemScope.{ItemScope}
-use Rattle.wit_syntax.specs.Function.{functions}
-use Rattle.wit_item_entries.specs.ReachedFaults.{item_stability, names_fault, EndsInTurn}
 use Rattle.wit_item_entries.specs.ScopeFunctionFaults.{functions_fault}
-use Rattle.wit_contents.specs.AddedInterfaces.{IsIndexed}
+use Rattle.wit_contents.specs.AddedInterfaces.{IsIndexed, interfaces_in}
 
 -- the names of an item that is borrowed
 abbrev pub names_of : ItemScope → List ScopeName
@@ -60,6 +43,13 @@ pub record IsRightOf (wrong : Item → Option Fault) (is : Interfaces) (old : Li
   pub ends : EndsInTurn (resolved_scopes_of is) (owner.Interface place) old (scope_names w) outcome handle
   pub says : (s : ItemScope) → IsLent s is.files w → wrong w ≡ interface_fault is s outcome handle
 
+-- a call finds what each such test says
+abbrev pub FindsOne : {T : Type 0} → Interfaces → List TypeDef → Item → Result T ParseError → Type 0
+FindsOne is old w r = (wrong : Item → Option Fault) → IsRightOf wrong is old (length is.arena) w → Finds (wrong w) r
+
 -- so of each of items, in the order of their places, once the interfaces before it are resolved
 abbrev pub AreRightOf : (Item → Option Fault) → Interfaces → List TypeDef → List BorrowedItem → List ℕ → Type 0
 AreRightOf wrong is old items places = (now : Interfaces) (mid : List TypeDef) (rs : List Required) (count place : ℕ) (w : Item) → now.files ≡ is.files → slice_get places count ≡ Some place → slice_get (map item_view items) place ≡ Some w → is_world w ≡ false → AddsInterfaces (prefix_of is.files) old mid is.arena now.arena rs (interfaces_of (in_order (map item_view items) (take count places))) → IsIndexed now → IsRightOf wrong now mid (length now.arena) w
+
+abbrev pub FindsAmong : {T : Type 0} → Interfaces → List TypeDef → List BorrowedItem → List ℕ → Result T ParseError → Type 0
+FindsAmong is old items places r = (wrong : Item → Option Fault) → AreRightOf wrong is old items places → Finds (first_in wrong (interfaces_in items places)) r

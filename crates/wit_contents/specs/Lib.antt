@@ -6,3 +6,4 @@ pub mod MemberFaults
 pub mod Ready
 pub mod Walk
 pub mod Worlds
+pub mod Names

@@ -1,9 +1,10 @@
 //! What the files of a package make: its arenas, and what it names of other packages.
 ghost use Rattle.std.specs.Prelude.{◌≡◌, [], IfOk, IfErr};
 ghost use Rattle.wit_type_tree.specs.RefusalText.{IsAllocationFailure};
+ghost use Rattle.wit_syntax.specs.Broken.{IsBrokenNames};
+ghost use Rattle.wit_syntax.specs.Fault.{Fault};
 ghost use Rattle.wit_contents.specs.AddedFiles.{MakeContents, IsMadeOf};
 ghost use Rattle.wit_contents.specs.FileFaults.{FindsAfter};
-ghost use Rattle.wit_contents.specs.Ready.{Begins};
 
 use crate::declared::resolve_interfaces;
 use crate::world::{ResolvedWorlds, resolve_worlds};
@@ -71,14 +72,14 @@ fn resolve_named<'f, 'a>(
     files: &'f [PackageFile<'a>],
     types: &mut Entries,
 ) -> ParseResult<Made>
-    requires { Begins names.now files.now types.old }
+    requires { (types.old ≡ []) × (names.now ≡ files.now) × ((f : Fault) → IsBrokenNames names.now f → ⊥) }
     ensures made { IfOk result (λ made. MakeContents names.now types.new made.interfaces made.worlds made.foreign) }
     ensures first { FindsAfter 6 names.now result }
 {
     let order = names.item_order();
     let mut prefix = ForeignArenas::of_items(alloc, names.foreign(), order.len())?;
     let gathered = Files::of(names, &prefix.entries);
-    let mut items = declared_items(alloc, &gathered, files, order.len())?;
+    let mut items = declared_items(alloc, files, &gathered, order.len())?;
     drop(gathered);
     let lent: &mut [Item<'_, '_>] = &mut items;
     prefix.add_used_by_items(alloc, types, lent)?;

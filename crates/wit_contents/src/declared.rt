@@ -1,13 +1,12 @@
 //! Declared interfaces, one after another.
-ghost use Rattle.std.specs.Prelude.{◌≡◌, ◌++◌, ◌∷◌, [], IfErr, OnOk, Option, Some, length};
+ghost use Rattle.std.specs.Prelude.{◌≡◌, ◌++◌, ◌∷◌, [], IfErr, OnOk, Some, false};
 ghost use Rattle.wit_type_tree.specs.RefusalText.{IsAllocationFailure};
-ghost use Rattle.wit_syntax.specs.Fault.{Fault};
-ghost use Rattle.wit_syntax.specs.Source.{Item as TheItem};
-ghost use Rattle.wit_first.specs.First.{Finds, first_in};
+ghost use Rattle.wit_syntax.specs.Source.{is_world};
 ghost use Rattle.wit_items.specs.BorrowedItems.{item_view};
-ghost use Rattle.wit_contents.specs.AddedInterfaces.{AddsAmong, AddsOne, IsIndexed, interfaces_in};
-ghost use Rattle.wit_contents.specs.InterfaceFaults.{AreRightOf, IsRightOf};
-ghost use Rattle.wit_contents.specs.Ready.{AreReady, IsNextInterface};
+ghost use Rattle.wit_items.specs.Gathered.{IsItemOf};
+ghost use Rattle.wit_contents.specs.AddedInterfaces.{AppendsAll, IsIndexed, interfaces_in};
+ghost use Rattle.wit_contents.specs.InterfaceFaults.{FindsAmong, FindsOne};
+ghost use Rattle.wit_contents.specs.Ready.{AreReady};
 
 use crate::interface::interface_of;
 use wit_entries::entries::Entries;
@@ -43,9 +42,9 @@ fn resolve_interface<'f, 'a>(
     required: &mut Vec<Required>,
     interfaces: &mut Interfaces<'_, '_, 'f, 'a>,
 ) -> ParseResult<()>
-    requires { IsNextInterface interfaces.old item.now }
-    ensures adds { OnOk result (AddsOne interfaces.old interfaces.new types.old types.new required.old.items required.new.items item.now) }
-    ensures first { (wrong : TheItem → Option Fault) → IsRightOf wrong interfaces.old types.old (length interfaces.old.arena) (item_view item.now) → Finds (wrong (item_view item.now)) result }
+    requires { (is_world (item_view item.now) ≡ false) × IsItemOf interfaces.old.files item.now × IsIndexed interfaces.old }
+    ensures adds { OnOk result (AppendsAll interfaces.old interfaces.new types.old types.new required.old required.new (item_view item.now ∷ [])) }
+    ensures first { FindsOne interfaces.old types.old (item_view item.now) result }
 {
     let place = interfaces.arena.next_id();
     let scope = item.scope();
@@ -62,9 +61,9 @@ pub fn resolve_interfaces<'f, 'a>(
     interfaces: &mut Interfaces<'_, '_, 'f, 'a>,
     places: &[usize],
 ) -> ParseResult<()>
-    requires { AreReady interfaces.old items.now places.now }
-    ensures added { OnOk result (AddsAmong interfaces.old interfaces.new types.old types.new required.old.items required.new.items items.now places.now) }
-    ensures first { (wrong : TheItem → Option Fault) → AreRightOf wrong interfaces.old types.old items.now places.now → Finds (first_in wrong (interfaces_in items.now places.now)) result }
+    requires { AreReady interfaces.old.files items.now places.now × IsIndexed interfaces.old }
+    ensures added { OnOk result (AppendsAll interfaces.old interfaces.new types.old types.new required.old required.new (interfaces_in items.now places.now)) }
+    ensures first { FindsAmong interfaces.old types.old items.now places.now result }
 {
     for place in places {
         let item = &items[*place];

@@ -1,7 +1,7 @@
 //! An interface, whether it is declared or written in a world.
-ghost use Rattle.std.specs.Prelude.{◌≡◌, ◌<◌, ◌++◌, length, IfErr, IfOk, map};
+ghost use Rattle.std.specs.Prelude.{◌≡◌, ◌<◌, ◌++◌, false, length, IfErr, IfOk, map};
 ghost use Rattle.wit_type_tree.specs.RefusalText.{IsAllocationFailure};
-ghost use Rattle.wit_syntax.specs.Source.{about};
+ghost use Rattle.wit_syntax.specs.Source.{about, is_world};
 ghost use Rattle.wit_entries.specs.Requiring.{IsExtended};
 ghost use Rattle.wit_rules.specs.BorrowedFunctions.{function_view};
 ghost use Rattle.wit_signatures.specs.ForeignName.{name_of_function, name_of_id};
@@ -9,9 +9,9 @@ ghost use Rattle.wit_items.specs.BorrowedItems.{declared_view, scope_item};
 ghost use Rattle.wit_first.specs.First.{Finds};
 ghost use Rattle.wit_arena.specs.Resolving.{env_of};
 ghost use Rattle.wit_externs.specs.AloneFaults.{FindsIn, lone_setters};
-ghost use Rattle.wit_contents.specs.InterfaceFaults.{rest_fault, FindsInterface};
+ghost use Rattle.wit_contents.specs.InterfaceFaults.{rest_fault, FindsInterface, IsLent};
 ghost use Rattle.wit_contents.specs.AddedInterfaces.{AddsAt, AddsTable, IsInterfaceWith};
-ghost use Rattle.wit_contents.specs.Ready.{IsInterfaceScope, IsNamedScope};
+ghost use Rattle.wit_contents.specs.Ready.{IsNamedScope};
 
 use std::alloc::{AllocError, Global};
 use wit_entries::entries::Entries;
@@ -117,7 +117,7 @@ pub fn interface_of<'f, 'a>(
     interfaces: &Interfaces<'_, '_, 'f, 'a>,
     place: InterfaceId,
 ) -> ParseResult<Interface>
-    requires { IsInterfaceScope interfaces.now.files item.now }
+    requires { (is_world (scope_item item.now) ≡ false) × IsLent item.now interfaces.now.files (scope_item item.now) }
     ensures adds { IfOk result (AddsAt interfaces.now place types.old types.new required.old.items required.new.items (scope_item item.now)) }
     ensures first { FindsInterface interfaces.now place types.old item.now result }
 {

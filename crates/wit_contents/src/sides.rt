@@ -1,21 +1,18 @@
 //! What a world has on its sides: the names of its scope, and after them what it imports and exports.
 ghost use Rattle.std.specs.Prelude.{◌≡◌, IfOk};
 ghost use Rattle.std.specs.List.{list_all};
-ghost use Rattle.wit_contents.specs.Walk.{puts_nothing};
-ghost use Rattle.wit_contents.specs.Worlds.{FindsSides, AddsSidesOf, IsFunctionScopeOf, IsScopeOfWorld};
+ghost use Rattle.wit_contents.specs.Walk.{AddsSidesOf, IsWalk, puts_nothing};
+ghost use Rattle.wit_contents.specs.Worlds.{FindsSides};
 
-use crate::walk::{Growing, Walk, Walked, walk_parts};
-use wit_item_entries::names::ResolvedNames;
+use crate::walk::{Growing, Walk, Walked, WorldScope, walk_parts};
 use wit_items::interfaces::Interfaces;
 use wit_items::items::Item;
 use wit_links::inside::{Seen, declared_world};
-use wit_maps::TextTable;
 use wit_notes::is_same_side;
 use wit_rules::borrowed::BorrowedFunction;
-use wit_rules::function_scope::FunctionScope;
 use wit_top_names::declaration::world_items;
 use wit_tree::ParseResult;
-use wit_tree::tree::{Extern, ExternKind, Type, TypeBody, World, WorldItem, WorldSide};
+use wit_tree::tree::{Extern, ExternKind, Id, TypeBody, World, WorldItem, WorldSide};
 use wit_world_sides::members::named_members;
 use wit_world_sides::sides_setters::check_closed;
 
@@ -75,28 +72,6 @@ pub(crate) fn put_nothing(parts: &[WorldItem<'_>]) -> bool
     parts.iter().all(|part| puts_nothing(part))
 }
 
-/// What the functions of a world are read in: its names, which are resolved, the definitions that are
-/// written as results, and its functions as they are written. Where it includes nothing, it is
-/// `closed`.
-#[derive(Drop)]
-pub struct WorldScope<'f, 'a> {
-    pub names: ResolvedNames<'a>,
-    pub results: TextTable<&'f Type<'a>>,
-    pub functions: Vec<BorrowedFunction<'f, 'a>>,
-    pub closed: bool,
-}
-
-/// What its functions are read in.
-fn function_scope<'s, 'f, 'a>(scope: &'s WorldScope<'f, 'a>) -> FunctionScope<'s, 'f, 'a>
-    ensures { IsFunctionScopeOf scope.now result }
-{
-    FunctionScope {
-        names: &scope.names.types,
-        results: &scope.results,
-        functions: &scope.functions,
-    }
-}
-
 /// What is on the sides of a world, after the names of its scope, which are resolved. Where it includes
 /// nothing, each setter has its getter on its side.
 ///
@@ -108,28 +83,24 @@ pub fn walk_sides<'f, 'a>(
     interfaces: &Interfaces<'_, '_, 'f, 'a>,
     growing: &mut Growing,
 ) -> ParseResult<Walked>
-    requires { IsScopeOfWorld interfaces.now item.now scope.now }
-    ensures adds { IfOk result (AddsSidesOf item.now interfaces.now scope.now.names growing.old growing.new) }
-    ensures first { FindsSides item.now interfaces.now scope.now.names growing.old result }
+    requires { IsWalk (record { item = item.now; scope = scope.now; interfaces = interfaces.now }) }
+    ensures adds { IfOk result (AddsSidesOf (record { item = item.now; scope = scope.now; interfaces = interfaces.now }) growing.old growing.new) }
+    ensures first { FindsSides (record { item = item.now; scope = scope.now; interfaces = interfaces.now }) growing.old result }
 {
-    let own = function_scope(scope);
-    let walk = Walk {
-        turn: &scope.names.turn,
-        scope: own,
-        interfaces,
-    };
-    let alloc = *walk.interfaces.by_name.allocator();
+    let walk = Walk { scope, interfaces };
+    let alloc = *interfaces.by_name.allocator();
+    let turn: &[Id<'_>] = &scope.names.turn;
     let world = declared_world(&item.declared);
-    let functions = walk.scope.functions;
+    let functions: &[BorrowedFunction<'_, '_>] = &scope.functions;
     let imports = side_room(world, functions, WorldSide::Imported);
     let exports = side_room(world, functions, WorldSide::Exported);
-    let members = named_members(alloc, walk.turn, walk.scope.names, imports, exports)?;
+    let members = named_members(alloc, turn, &scope.names.types, imports, exports)?;
     let mut walked = Walked {
         members,
         required: Vec::new(alloc),
         seen: Seen::none(),
     };
     walk_parts(item, &walk, growing, &mut walked)?;
-    check_closed(scope.closed, functions, &walked.members.in_use, walk.turn)?;
+    check_closed(scope.closed, functions, &walked.members.in_use, turn)?;
     Ok(walked)
 }

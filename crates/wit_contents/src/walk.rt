@@ -1,26 +1,27 @@
 //! What a world imports and exports, in source order: each is resolved, checked and put on its side.
-ghost use Rattle.std.specs.Prelude.{◌≡◌, ◌+◌, ◌∷◌, [], IfOk, List, OnOk, length};
-ghost use Rattle.wit_types.specs.declared.types.TypeDef.{TypeDef as TheType};
+ghost use Rattle.std.specs.Prelude.{◌≡◌, ◌+◌, ◌∷◌, [], IfOk, OnOk, false, length};
 ghost use Rattle.wit_syntax.specs.Function.{side_function};
-ghost use Rattle.wit_syntax.specs.Sides.{side_items, SideFunction, SideLink, part_items};
-ghost use Rattle.wit_syntax.specs.Source.{DefinitionPart};
+ghost use Rattle.wit_syntax.specs.Sides.{extern_items, side_items, SideFunction, SideLink, part_items};
+ghost use Rattle.wit_syntax.specs.Source.{DefinitionPart, is_world};
 ghost use Rattle.wit_rules.specs.BorrowedFunctions.{function_view};
 ghost use Rattle.wit_items.specs.BorrowedItems.{item_view, scope_item};
 ghost use Rattle.wit_world_sides.specs.Members.{path_link};
 ghost use Rattle.wit_links.specs.SideCounts.{inline_side};
-ghost use Rattle.wit_contents.specs.InterfaceFaults.{FindsInterface};
-ghost use Rattle.wit_contents.specs.MemberFaults.{FindsTyped, FindsItems};
-ghost use Rattle.wit_contents.specs.Walk.{AddsItems, AddsTyped, IsNext, items_of, next_place, resource_items, walk_of, IsInlineAt, IsNextInline, AddsInside};
-ghost use Rattle.wit_contents.specs.Ready.{IsInterfaceScope};
+ghost use Rattle.wit_contents.specs.InterfaceFaults.{FindsInterface, IsLent};
+ghost use Rattle.wit_contents.specs.declared.walk.Growing.{Growing};
+ghost use Rattle.wit_contents.specs.MemberFaults.{FindsMembers};
+ghost use Rattle.wit_contents.specs.Walk.{AddsItems, IsNext, next_place, resource_items, stage, walk_of, IsNextInline, AddsInside};
 
 use crate::interface::interface_of;
 use std::alloc::AllocError;
 use wit_entries::entries::Entries;
 use wit_entries::scope::Required;
+use wit_item_entries::names::ResolvedNames;
 use wit_items::interfaces::Interfaces;
 use wit_items::items::{InlineInterface, Item, ItemScope};
 use wit_links::inside::{Seen, declared_world, inside_scope};
 use wit_links::links::linked_id;
+use wit_maps::TextTable;
 use wit_model::Interface;
 use wit_notes::check_metadata;
 use wit_rules::borrowed::BorrowedFunction;
@@ -29,18 +30,26 @@ use wit_signatures::functions::resolve_function;
 use wit_top_names::declaration::world_items;
 use wit_tree::ParseResult;
 use wit_tree::tree::{
-    Extern, ExternKind, Func, Id, InterfaceItem, ResourceFunc, TypeBody, TypeDef, World, WorldItem,
+    Extern, ExternKind, Func, Id, ResourceFunc, Type, TypeBody, TypeDef, WorldItem,
 };
 use wit_types::{Arena, InterfaceId, InterfacePlace};
 use wit_world_sides::members::{Members, PathExtern, put_function, put_inline, put_link};
 
-/// What the imports and exports of an item are resolved in, which is a world.
+/// What the functions of a world are read in: its names, which are resolved, the definitions that are
+/// written as results, and its functions as they are written. Where it includes nothing, it is
+/// `closed`.
+#[derive(Drop)]
+pub struct WorldScope<'f, 'a> {
+    pub names: ResolvedNames<'a>,
+    pub results: TextTable<&'f Type<'a>>,
+    pub functions: Vec<BorrowedFunction<'f, 'a>>,
+    pub closed: bool,
+}
+
+/// What the imports and exports of a world are resolved in.
 #[derive(Clone, Copy)]
 pub struct Walk<'f, 'a, 'w, 'n, 'e> {
-    /// The names of its scope in the order in which they were resolved.
-    pub turn: &'w [Id<'a>],
-    /// What its functions are read in.
-    pub scope: FunctionScope<'w, 'f, 'a>,
+    pub scope: &'w WorldScope<'f, 'a>,
     pub interfaces: &'w Interfaces<'n, 'e, 'f, 'a>,
 }
 
@@ -83,7 +92,7 @@ fn resolve_inline<'f, 'a>(
     interfaces: &Interfaces<'_, '_, 'f, 'a>,
     inside: &mut Arena<Interface, InterfacePlace>,
 ) -> ParseResult<InterfaceId>
-    requires { IsInterfaceScope interfaces.now.files scope.now }
+    requires { (is_world (scope_item scope.now) ≡ false) × IsLent scope.now interfaces.now.files (scope_item scope.now) }
     ensures id { IfOk result (λ id. id ≡ next_place interfaces.now inside.old) }
     ensures adds { OnOk result (AddsInside interfaces.now types.old types.new inside.old inside.new required.old.items required.new.items (scope_item scope.now)) }
     ensures first { FindsInterface interfaces.now (next_place interfaces.now inside.old) types.old scope.now result }
@@ -101,16 +110,27 @@ fn walk_function<'f, 'a>(
     item: &Item<'f, 'a>,
     walk: &Walk<'f, 'a, '_, '_, '_>,
     borrowed: BorrowedFunction<'f, 'a>,
-    types: &mut Entries,
+    growing: &mut Growing,
     walked: &mut Walked,
 ) -> ParseResult<()>
     requires { IsNext (walk_of item.now walk.now) (SideFunction (function_view borrowed) ∷ []) walked.old }
-    ensures adds { OnOk result (AddsTyped item.now walk.now (SideFunction (function_view borrowed.entry) ∷ []) types.old types.new walked.old walked.new) }
-    ensures first { FindsTyped item.now walk.now (SideFunction (function_view borrowed.entry) ∷ []) types.old walked.old result }
+    ensures adds { OnOk result (AddsItems (walk_of item.now walk.now) (SideFunction (function_view borrowed.entry) ∷ []) growing.old walked.old growing.new walked.new) }
+    ensures first { FindsMembers (walk_of item.now walk.now) (SideFunction (function_view borrowed.entry) ∷ []) (stage growing.old walked.old) result }
 {
     let alloc = *walk.interfaces.by_name.allocator();
     let place = walked.seen.functions;
-    let function = resolve_function(alloc, walk.scope, types, &mut walked.required, place)?;
+    let scope = FunctionScope {
+        names: &walk.scope.names.types,
+        results: &walk.scope.results,
+        functions: &walk.scope.functions,
+    };
+    let function = resolve_function(
+        alloc,
+        scope,
+        &mut growing.types,
+        &mut walked.required,
+        place,
+    )?;
     put_function(&mut walked.members, borrowed, function)?;
     let seen = walked.seen.with_function()?;
     walked.seen = seen;
@@ -127,8 +147,8 @@ fn walk_link<'f, 'a>(
     walked: &mut Walked,
 ) -> ParseResult<()>
     requires { IsNext (walk_of item.now walk.now) (SideLink (path_link link) ∷ []) walked.old }
-    ensures adds { OnOk result ((ts : List TheType) → AddsTyped item.now walk.now (SideLink (path_link link.entry) ∷ []) ts ts walked.old walked.new) }
-    ensures first { (ts : List TheType) → FindsTyped item.now walk.now (SideLink (path_link link.entry) ∷ []) ts walked.old result }
+    ensures adds { OnOk result ((g : Growing) → AddsItems (walk_of item.now walk.now) (SideLink (path_link link.entry) ∷ []) g walked.old g walked.new) }
+    ensures first { (g : Growing) → FindsMembers (walk_of item.now walk.now) (SideLink (path_link link.entry) ∷ []) (stage g walked.old) result }
 {
     let alloc = *walk.interfaces.by_name.allocator();
     check_metadata(alloc, &link.written.attributes)?;
@@ -151,8 +171,8 @@ fn walk_inline<'f, 'a>(
     walked: &mut Walked,
 ) -> ParseResult<()>
     requires { IsNextInline (walk_of item.now walk.now) inline walked.old }
-    ensures adds { OnOk result (AddsItems item.now walk.now (inline_side inline.entry ∷ []) growing.old walked.old growing.new walked.new) }
-    ensures first { FindsItems item.now walk.now (inline_side inline.entry ∷ []) growing.old walked.old result }
+    ensures adds { OnOk result (AddsItems (walk_of item.now walk.now) (inline_side inline.entry ∷ []) growing.old walked.old growing.new walked.new) }
+    ensures first { FindsMembers (walk_of item.now walk.now) (inline_side inline.entry ∷ []) (stage growing.old walked.old) result }
 {
     let alloc = *walk.interfaces.by_name.allocator();
     let side = inline.written.side;
@@ -183,25 +203,6 @@ fn extern_part_function<'f, 'a>(
     BorrowedFunction::Across(written.side, &written.docs, &written.attributes, name, func)
 }
 
-/// An interface that is written in a world, where so many come before it on its side.
-fn inline_at<'f, 'a>(
-    world: &'f World<'a>,
-    place: usize,
-    written: &'f Extern<'a>,
-    name: Id<'a>,
-    items: &'f [InterfaceItem<'a>],
-) -> InlineInterface<'f, 'a>
-    ensures { IsInlineAt world.now place written.now name.entry items.now result }
-{
-    InlineInterface {
-        world: world.name.name,
-        place,
-        written,
-        name,
-        items,
-    }
-}
-
 /// Resolves what a world imports or exports next, by its kind.
 fn walk_extern<'f, 'a>(
     item: &Item<'f, 'a>,
@@ -210,20 +211,26 @@ fn walk_extern<'f, 'a>(
     growing: &mut Growing,
     walked: &mut Walked,
 ) -> ParseResult<()>
-    requires { IsNext (walk_of item.now walk.now) (items_of written.now) walked.old }
-    ensures adds { OnOk result (AddsItems item.now walk.now (items_of written.now) growing.old walked.old growing.new walked.new) }
-    ensures first { FindsItems item.now walk.now (items_of written.now) growing.old walked.old result }
+    requires { IsNext (walk_of item.now walk.now) (extern_items written.now written.now.kind) walked.old }
+    ensures adds { OnOk result (AddsItems (walk_of item.now walk.now) (extern_items written.now written.now.kind) growing.old walked.old growing.new walked.new) }
+    ensures first { FindsMembers (walk_of item.now walk.now) (extern_items written.now written.now.kind) (stage growing.old walked.old) result }
 {
     match &written.kind {
         ExternKind::Interface(name, items) => {
             let counts = walked.seen.on(written.side);
             let world = declared_world(&item.declared);
-            let inline = inline_at(world, counts.interfaces, written, *name, items);
+            let inline = InlineInterface {
+                world: world.name.name,
+                place: counts.interfaces,
+                written,
+                name: *name,
+                items,
+            };
             walk_inline(item, walk, inline, growing, walked)
         }
         ExternKind::Func(name, func) => {
             let borrowed = extern_part_function(written, *name, func);
-            walk_function(item, walk, borrowed, &mut growing.types, walked)
+            walk_function(item, walk, borrowed, growing, walked)
         }
         ExternKind::Path(path) => {
             let name = None;
@@ -261,21 +268,16 @@ fn walk_definition<'f, 'a>(
     item: &Item<'f, 'a>,
     walk: &Walk<'f, 'a, '_, '_, '_>,
     definition: &'f TypeDef<'a>,
-    types: &mut Entries,
+    growing: &mut Growing,
     walked: &mut Walked,
 ) -> ParseResult<()>
     requires { IsNext (walk_of item.now walk.now) (part_items (DefinitionPart definition.now)) walked.old }
-    ensures adds { OnOk result (AddsTyped item.now walk.now (part_items (DefinitionPart definition.now)) types.old types.new walked.old walked.new) }
-    ensures first { FindsTyped item.now walk.now (part_items (DefinitionPart definition.now)) types.old walked.old result }
+    ensures adds { OnOk result (AddsItems (walk_of item.now walk.now) (part_items (DefinitionPart definition.now)) growing.old walked.old growing.new walked.new) }
+    ensures first { FindsMembers (walk_of item.now walk.now) (part_items (DefinitionPart definition.now)) (stage growing.old walked.old) result }
 {
     for function in resource_functions(definition) {
-        walk_function(
-            item,
-            walk,
-            BorrowedFunction::Of(definition.name, function),
-            types,
-            walked,
-        )?;
+        let borrowed = BorrowedFunction::Of(definition.name, function);
+        walk_function(item, walk, borrowed, growing, walked)?;
     }
     Ok(())
 }
@@ -288,18 +290,14 @@ pub(crate) fn walk_parts<'f, 'a>(
     walked: &mut Walked,
 ) -> ParseResult<()>
     requires { IsNext (walk_of item.now walk.now) (side_items (item_view item.now)) walked.old }
-    ensures adds { OnOk result (AddsItems item.now walk.now (side_items (item_view item.now)) growing.old walked.old growing.new walked.new) }
-    ensures first { FindsItems item.now walk.now (side_items (item_view item.now)) growing.old walked.old result }
+    ensures adds { OnOk result (AddsItems (walk_of item.now walk.now) (side_items (item_view item.now)) growing.old walked.old growing.new walked.new) }
+    ensures first { FindsMembers (walk_of item.now walk.now) (side_items (item_view item.now)) (stage growing.old walked.old) result }
 {
     let world = declared_world(&item.declared);
     for part in world_items(world) {
         match part {
             WorldItem::TypeDef(definition) => walk_definition(
-                item,
-                walk,
-                definition,
-                &mut growing.types,
-                walked,
+                item, walk, definition, growing, walked,
             )?,
             WorldItem::Use(_) => {}
             WorldItem::Include(_) => {}

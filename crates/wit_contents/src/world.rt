@@ -15,11 +15,11 @@ ghost use Rattle.wit_items.specs.Gathered.{IsItemOf};
 ghost use Rattle.wit_item_entries.specs.NameOrder.{IsTurn};
 ghost use Rattle.wit_item_entries.specs.ReachedFaults.{item_stability, FindsNames};
 ghost use Rattle.wit_world_sides.specs.Members.{AreKeyed};
-ghost use Rattle.wit_contents.specs.Worlds.{AddsContent, AddsNamesOf, AddsWorldsAmong, AddsNextWorld, AddsWorldOf, AreIndexed, HasContent, FindsWorld, FindsWorlds, AddsNamesAlone, IsSettled, IsWorldOf};
-ghost use Rattle.wit_contents.specs.Ready.{AreReadyWorlds};
+ghost use Rattle.wit_contents.specs.Worlds.{AddsContent, AddsNamesOf, AddsWorldsAmong, AddsNextWorld, AddsWorldOf, AreIndexed, HasContent, FindsWorld, FindsWorlds, AddsNamesAlone, IsSettled};
+ghost use Rattle.wit_contents.specs.Ready.{AreOthers, AreReady, IsWorldOf};
 
-use crate::sides::{WorldScope, put_nothing, walk_sides};
-use crate::walk::{Growing, Walked};
+use crate::sides::{put_nothing, walk_sides};
+use crate::walk::{Growing, Walked, WorldScope};
 use std::alloc::{AllocError, Global};
 use std::mem::replace;
 use wit_entries::entries::Entries;
@@ -291,7 +291,7 @@ pub fn resolve_worlds<'f, 'a>(
     prefix: Arena<World, WorldPlace>,
     places: &[usize],
 ) -> ParseResult<ResolvedWorlds>
-    requires { AreReadyWorlds interfaces.now prefix items.now places.now }
+    requires { AreReady interfaces.now.files items.now places.now × AreOthers interfaces.now.files prefix }
     ensures added { IfOk result (AddsWorldsAmong interfaces.now prefix types.old types.new items.now places.now) }
     ensures first { FindsWorlds interfaces.now prefix types.old items.now places.now result }
 {

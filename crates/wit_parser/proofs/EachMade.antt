@@ -1,7 +1,8 @@
 -- What holds of each function of an item that is made holds of those of its interface, and of all that its world imports and exports.
 use Rattle.std.proofs.Common.{◌≡◌, ℕ, zero, suc, Bool, true, false, cond, List, [], ◌∷◌, ◌++◌, map, Some, None, inl, inr, refl, ap, ◌∙◌, subst}
-use Rattle.wit_syntax.proofs.Common.{Address, Exported, Extern, Id, Imported, Include, Item, Link, ScopeName, SideFunction, SideInline, SideItem, SideLink, SourceFunction, TopName, WorldSide, address, at_split, cons_option, flat_map, functions, functions_items, includes, inline_items, item_function, item_link, local_id, local_name, map_at, path_scope, role_side, same_side, side_items, slice_get}
-use Rattle.wit_arena.proofs.Common.{Def, Function, Key, WorldItem, WorldKey, entries_on, function_in, inline_entry, link_item, name_imports, pairs, placed, placed_at, scope_place, settled, settled_at, side_entries, world_entries}
+use Rattle.wit_items.proofs.Common.{Address, Def, Exported, Extern, Function, Id, Imported, Include, Key, Link, ScopeName, SideFunction, SideInline, SideItem, SideLink, SourceFunction, TopName, WorldItem, WorldKey, WorldSide, address, at_split, cons_option, entries_on, flat_map, function_in, functions, functions_items, includes, inline_entry, inline_items, item_function, item_link, link_item, local_id, local_name, map_at, name_imports, pairs, path_scope, placed, role_side, same_side, scope_place, settled, settled_at, side_entries, side_items, slice_get, world_entries}
+use Rattle.wit_arena.proofs.Common.{Item}
+use Rattle.wit_arena.proofs.Placed.{placed_at}
 use Rattle.wit_model.specs.declared.world.WorldItem.TheVariants as item
 use Rattle.wit_model.specs.declared.world.WorldKey.TheVariants as key
 

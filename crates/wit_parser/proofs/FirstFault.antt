@@ -1,8 +1,7 @@
 -- What is found of files that have a header is what the walk comes to; and where they have none, that is the fault.
 use Rattle.std.proofs.Common.{◌≡◌, ◌⊎◌, ℕ, ◌≤◌, List, Option, Some, None, inl, inr, refl, sym, ap, ◌∙◌, arith, is_none}
-use Rattle.wit_syntax.proofs.Common.{Err, Fault, IfErr, IsAllocationFailure, IsBroken, IsLegal, Ok, OnOk, OutOfMemory, PackageFile, ParseError, ParseErrorKind, Refused, Result, Row, Word, cases_lt, fault, fault_of, last_header, option_or, if◌then◌else◌, three_ways}
+use Rattle.wit_items.proofs.Common.{ComesTo, Err, Fault, FindsBy, IfErr, IsAllocationFailure, IsBroken, IsFaultless, IsFirst, IsLegal, IsOutcome, Known, Ok, OnOk, OutOfMemory, Outcome, PackageFile, ParseError, ParseErrorKind, Refused, Reports, Result, Row, Word, cases_lt, fault, fault_of, if◌then◌else◌, last_header, legal, option_or, three_ways}
 use Rattle.wit_tree.specs.declared.tree.PackageName.{PackageName as Header}
-use Rattle.wit_walk.proofs.Common.{IsOutcome, ComesTo, FindsBy, IsFaultless, IsFirst, Known, Outcome, Reports, legal}
 use Rattle.wit_walk.proofs.Broken.{broken}
 use Rattle.wit_walk.proofs.Outcomes.{outcome_of}
 use Rattle.wit_walk.proofs.ScopesLegal.{steps_more}

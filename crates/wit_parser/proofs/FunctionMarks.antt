@@ -1,8 +1,8 @@
 -- The functions of a package that files make have the marks of their kinds in their names.
 use Rattle.std.proofs.Common.{◌≡◌, ℕ, zero, suc, List, [], ◌∷◌, ◌++◌, map, Option, Some, None, inl, inr, refl, ap, subst}
-use Rattle.wit_syntax.proofs.Common.{Address, Docs, Exported, FunctionKey, Imported, Item, Link, PackageFile, SourceFunction, Span, Stability, TypeOwner, WorldSide, address, at_split, flat_map, flat_map_at, foreign_interfaces, foreign_worlds, functions, item_link, map_at, option_map_or, path_scope, side_items, slice_get, worlds_of}
+use Rattle.wit_items.proofs.Common.{Address, Def, Docs, Exported, Function, FunctionKey, HasMarkOf, Imported, Interface, Key, Link, Makes, PackageFile, SourceFunction, Span, Stability, TypeOwner, UnresolvedPackage, World, WorldKey, WorldSide, address, at_split, flat_map, flat_map_at, foreign_interface, foreign_interfaces, foreign_world, foreign_worlds, function_in, functions, functions_of, interface_functions, interface_scopes, item_functions, item_link, keyed, link_item, map_at, mark_of, names_in_turn, option_map_or, own_interface, own_interfaces, own_world, path_scope, scope_place, side_items, slice_get, world_functions, world_scopes, worlds_of}
+use Rattle.wit_arena.proofs.Common.{Item}
 use Rattle.wit_types.specs.declared.types.TypeOwner.TheVariants as owner
-use Rattle.wit_arena.proofs.Common.{Def, Function, HasMarkOf, Interface, Key, Makes, UnresolvedPackage, World, WorldKey, foreign_interface, foreign_world, function_in, functions_of, interface_functions, interface_scopes, item_functions, keyed, link_item, mark_of, names_in_turn, own_interface, own_interfaces, own_world, scope_place, world_functions, world_scopes}
 use Rattle.wit_model.specs.declared.world.WorldItem.TheVariants as item
 use Rattle.wit_model.specs.declared.world.WorldKey.TheVariants as key
 use Rattle.wit_parser.proofs.EachMade.{Each, Entry, exports_each, imports_each, members_each}

@@ -1,12 +1,10 @@
 -- The ids of a package that legal files make are places of entries of its arenas.
 use Rattle.std.proofs.Common.{◌≡◌, ◌<◌, ◌≤◌, ℕ, ◌+◌, List, ◌++◌, length, map, take, Option, Some, None, refl, sym, ap, ◌∙◌, subst, arith, inl, inr, length-append}
-use Rattle.wit_syntax.proofs.Common.{Address, Extern, ForeignVisit, Id, IsLegal, Item, Link, PackageFile, PackageName, SourceFunction, Stability, TypeDef, WorldNamed, address, filter, flat_map, foreign_interfaces, foreign_items, foreign_packages, foreign_worlds, functions, includes, inline_items, item_link, kept_at, leads, length-map, local_name, map_at, option_map, option_or, package_of, path_scope, position-Some, same_address, same_package, side_items, slice_get, slice_get_within, target_scope, unwrap_or, visited, worlds_of}
+use Rattle.wit_items.proofs.Common.{Address, AstItem, Def, Extern, ForeignVisit, GivesPlaces, Id, IsEntry, IsKeyed, IsLegal, IsSeen, Key, Link, Makes, Occurrence, PackageFile, PackageName, SourceFunction, Stability, TypeDef, UnresolvedPackage, Whole, WorldInclude, WorldNamed, address, all_at_untaken, declarations, dep, dep_item, entry_of_interface, entry_of_world, filter, flat_map, foreign_entry, foreign_interface, foreign_interfaces, foreign_items, foreign_packages, foreign_turned, foreign_world, foreign_worlds, function_in, functions, include_in, includes, inline_entry, inline_items, interface_scopes, interface_turn, item_link, item_sort, item_turns, kept_at, keys, kind_of, leads, length-map, link_item, link_key, local_name, map_at, name_exprs, names_in_turn, option_map, option_or, own_interface, own_interfaces, own_world, package_of, path_scope, place_at, position-Some, same_address, same_package, scope_place, side_items, slice_get, slice_get_within, target_scope, turn_handles, unwrap_or, visited, world_scopes, worlds_of}
+use Rattle.wit_arena.proofs.Common.{Item}
 use Rattle.wit_types.specs.declared.types.TypeOwner.TheVariants as owner
-use Rattle.wit_arena.proofs.Common.{AstItem, Def, GivesPlaces, IsEntry, IsKeyed, IsSeen, Key, Makes, Occurrence, UnresolvedPackage, Whole, WorldInclude, declarations, dep, dep_item, foreign_entry, foreign_interface, foreign_turned, foreign_world, function_in, include_in, inline_entry, interface_scopes, interface_turn, item_turns, keys, kind_of, link_item, link_key, name_exprs, names_in_turn, own_interface, own_interfaces, own_world, place_at, scope_place, turn_handles, world_scopes}
 use Rattle.wit_model.specs.declared.world.WorldItem.TheVariants as item
 use Rattle.wit_model.specs.declared.world.WorldKey.TheVariants as key
-use Rattle.wit_arena.proofs.Deps.{entry_of_interface, entry_of_world, item_sort}
-use Rattle.wit_arena.proofs.Places.{all_at_untaken}
 use Rattle.wit_arena.proofs.Shape.{key_of}
 use Rattle.wit_parser.proofs.EachMade.{Entry, exports_each, imports_each, members_each}
 use Rattle.wit_parser.proofs.Images.{images_at}

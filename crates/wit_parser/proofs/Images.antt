@@ -1,6 +1,6 @@
 -- Two lists of images, one after the other.
 use Rattle.std.proofs.Common.{◌≡◌, ℕ, ◌+◌, List, ◌++◌, length, Some, inl, inr, sym, ap, ◌∙◌, subst}
-use Rattle.wit_syntax.proofs.Common.{at_back, at_prefix, at_split, length-map, map, map_at, option_map, slice_get, slice_get-map}
+use Rattle.wit_items.proofs.Common.{at_back, at_prefix, at_split, length-map, map, map_at, option_map, slice_get, slice_get-map}
 
 module _ {X Y Z : Type 0} (f : X → Z) (g : Y → Z) (xs : List X) (ys : List Y) (all : List Z) (are : all ≡ map f xs ++ map g ys) where
   -- an image of the first is at its place, and one of the second after as many

@@ -1,21 +1,14 @@
 -- At each address of a package is a scope that it knows by its place.
 use Rattle.std.proofs.Common.{◌≡◌, ℕ, ◌+◌, List, length, Some, None, inl, inr, refl, sym, ap, ◌∙◌, eqb-true, eq-eqb, [], Option, subst, arith}
-use Rattle.wit_syntax.proofs.Common.{Address, InlineAt, IsLegal, Item, PackageFile, WorldSide, about, address, find_at, find_passes, find_some, flat_map, flat_map_at, flat_map_has, foreign_worlds, includes, inline_inside, inline_items, inline_items_at, interfaces_on, is_inside, item_name, map, nat_eq, option_map, side_items, slice_get, take, visited, worlds_of, SourceFunction, TypeOwner, at_back, at_prefix, at_split, foreign_interfaces, functions_items, inline_interface, interfaces_of, length-map, option_or, option_map_or}
-use Rattle.wit_arena.proofs.Common.{Makes, UnresolvedPackage, World, foreign_world, interface_scopes, names_in_turn, own_world, world_scopes, world_types, foreign_interface, interface_address, interfaces_sort, keys, own_interface, own_interfaces, world_address, world_functions, worlds_sort}
-use Rattle.wit_arena.specs.UnfoldedTypes.{world_interfaces, inline_owner}
+use Rattle.wit_items.proofs.Common.{Address, InlineAt, IsLegal, Makes, PackageFile, SourceFunction, TypeOwner, UnresolvedPackage, World, WorldSide, about, address, at_back, at_prefix, at_split, declared_called, find_at, find_passes, find_some, flat_map, flat_map_at, flat_map_has, foreign_interface, foreign_interface-none, foreign_interfaces, foreign_world, foreign_worlds, functions_apart, functions_are, functions_items, includes, inline_inside, inline_interface, inline_items, inline_items_at, inline_owner, interface_address, interface_scope, interface_scopes, interfaces_of, interfaces_on, interfaces_sort, is_inside, item_name, keys, laid_scope, length-map, map, names_in_turn, nat_eq, option_map, option_map_or, option_or, own_interface, own_interfaces, own_world, same_some, side_items, slice_get, take, turn_is, visited, world_address, world_functions, world_interfaces, world_owner_at, world_scope, world_scopes, world_types, worlds_of, worlds_sort}
+use Rattle.wit_arena.proofs.Common.{Item}
 use Rattle.wit_arena.proofs.InlineOwners.{IsInlineEntry, world_entries, world_entry}
 use Rattle.wit_parser.proofs.Images.{images_at}
 use Rattle.wit_parser.proofs.KnownScopes.{own_world_at, HasScope, named_world-label, interface_owner, world_owner, own_interface_at, foreign_interface_known, foreign_world_known, own_interface_known}
 use Rattle.wit_parser.proofs.PartsOrders.{no_two, are_interfaces, interface_listed, ord, world_item, world_listed}
 use Rattle.wit_parser.proofs.PartsWorlds.{world_sides, world_typed}
-use Rattle.wit_arena.proofs.Places.{same_some}
 use Rattle.wit_types.specs.declared.types.TypeOwner.TheVariants as owner
-use Rattle.wit_arena.proofs.Deps.{foreign_interface-none}
 use Rattle.wit_arena.proofs.FreeNames.{AreStated}
-use Rattle.wit_arena.proofs.Interfaces.{declared_called, world_owner_at}
-use Rattle.wit_arena.proofs.KnownItems.{functions_apart, functions_are, turn_is}
-use Rattle.wit_arena.proofs.Prefix.{interface_scope, world_scope}
-use Rattle.wit_arena.proofs.ScopesInTurn.{laid_scope}
 use Rattle.wit_arena.proofs.Stating.{stated_settled}
 
 -- it is written in a world at a place, and has no name

@@ -1,15 +1,11 @@
 -- The scopes of a package are those that its interfaces and worlds are resolved as, one after another.
 use Rattle.std.proofs.Common.{◌≡◌, ℕ, zero, suc, ◌+◌, List, [], ◌∷◌, ◌++◌, length, Some, inl, inr, refl, ap, ◌∙◌, subst}
-use Rattle.wit_syntax.proofs.Common.{Address, IsLegal, Item, PackageFile, ScopeName, SideFunction, SideInline, SideItem, SideLink, SourceFunction, TypeOwner, address, after_one, at_back, at_part, at_prefix, flat_map, flat_map_at, flat_map_has, foreign_interfaces, foreign_worlds, functions, functions_items, inline_items, interfaces_of, item_function, map, map_at, scope, side_items, slice_get, visited, worlds_of}
-use Rattle.wit_arena.proofs.Common.{IsItem, Makes, Turned, UnresolvedPackage, interface_scopes, interface_turn, item_turns, keys, names_in_turn, names_turn, own_interfaces, turns_of_world, turns_on_sides, world_scopes}
+use Rattle.wit_items.proofs.Common.{Address, DoneScope, IsItem, IsLegal, Makes, PackageFile, ScopeName, SideFunction, SideInline, SideItem, SideLink, SourceFunction, Turned, TypeOwner, UnresolvedPackage, address, after_one, at_back, at_part, at_prefix, flat_map, flat_map_at, flat_map_has, foreign_interfaces, foreign_worlds, function_turn, functions, functions_are, functions_at, functions_items, inline_items, interface_scopes, interface_turn, interfaces_of, item_function, item_turns, keys, map, map_at, names_in_turn, names_turn, own_interfaces, scope, side_items, slice_get, turn_is, turns_of_world, turns_on_sides, visited, world_scopes, worlds_of}
+use Rattle.wit_arena.proofs.Common.{Item}
 use Rattle.wit_types.specs.declared.types.TypeOwner.TheVariants as owner
-use Rattle.wit_arena.specs.Whole.{functions_at}
 use Rattle.wit_arena.proofs.Faithful.{IsOwnerOf}
-use Rattle.wit_arena.proofs.KnownItems.{functions_are, turn_is}
 use Rattle.wit_parser.proofs.KnownOwners.{has_interface, has_world}
 use Rattle.wit_parser.proofs.KnownScopes.{IsKnown}
-use Rattle.wit_arena.proofs.Members.{DoneScope}
-use Rattle.wit_arena.proofs.Turns.{function_turn}
 use Rattle.wit_parser.proofs.PartsOrders.{interface_item, interface_listed, ord, world_item, world_listed}
 
 -- an element for each of a list, so that this holds of the two and of their place

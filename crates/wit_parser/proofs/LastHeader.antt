@@ -1,9 +1,8 @@
 -- The place of the last file that has a header, one file more.
 use Rattle.std.proofs.Common.{◌≡◌, ℕ, true, false, List, [], ◌∷◌, ◌++◌, length, Option, Some, None, inl, inr, refl, sym, ap, ◌∙◌}
-use Rattle.wit_syntax.proofs.Common.{PackageFile, at_either, at_prefix, at_seam, is_some, last_header, last_header-append, option_and_then, option_or, slice_get}
+use Rattle.wit_items.proofs.Common.{PackageFile, at_either, at_prefix, at_seam, is_some, last_header, last_header-append, option_and_then, option_cases, option_or, slice_get}
 use Rattle.wit_tree.specs.declared.tree.PackageName.{PackageName as Header}
 use Rattle.wit_items.specs.FileHeaders.{header_at}
-use Rattle.wit_arena.proofs.Common.{option_cases}
 
 abbrev of_file : Option PackageFile → Option Header
 of_file o = option_and_then (λ (f : PackageFile). f.package_id) o

@@ -1,5 +1,4 @@
 mod LastHeader
-mod SamePackage
 mod Images
 mod EachMade
 mod WrittenMarks

@@ -1,7 +1,8 @@
 -- What occurs in all items of files occurs in an order in which the parts of each come before it.
 use Rattle.std.proofs.Common.{◌≡◌, ◌≤◌, ℕ, ◌+◌, zero, suc, Bool, true, false, not, List, [], ◌∷◌, ◌++◌, length, take, Option, Some, None, ◌⊎◌, inl, inr, refl, sym, ap, ◌∙◌, subst, arith, append-nil}
-use Rattle.wit_syntax.proofs.Common.{Address, AllDiffer, Attribute, Contains, ForeignNamed, InterfaceNamed, IsLegal, IsOrder, Item, MissingName, Names, OfFunction, OfNothing, PackageFile, ScopeName, SideFunction, SideInline, SideItem, SideLink, SourceFunction, UseName, Used, address, all_declared, all_items, all_scopes, at_contains, bytes_eq, find_at, find_passes, flat_map, flat_map-append, foreign_uses, function_used, functions, functions_items, in_order, in_order_at, inline_items, interfaces_of, is_foreign, is_world, item_at, item_function, item_name, item_rows, kept_at, kept_early, kept_has, local_name, map, meaning, missing_at, name_equal, name_word, option_map, role_names, scope, scope_item_at, scope_names, side_items, slice_get, slice_get-map, take_all, worlds_of, rows_of, not-true, flat_map-map}
-use Rattle.wit_arena.proofs.Common.{Def, Has, IsForeignUse, IsItem, Key, Occurrence, Ordered, Turned, all_function_occurrences, distinct_items, foreign_use_occurrence, interface_turn, item_index, item_turns, items_within, keys, name_exprs, name_occurrences, named_found, ordered_names, own_interface_address, scope_among, turn_occurrences, turns_of_world, turns_on_sides, used_before, used_interface, used_name_at, uses_lead}
+use Rattle.wit_items.proofs.Common.{Address, AllDiffer, Attribute, Contains, Def, ForeignNamed, Has, InterfaceNamed, IsForeignUse, IsItem, IsLegal, IsOrder, Key, MissingName, Occurrence, OfNothing, Ordered, PackageFile, ScopeName, SideFunction, SideInline, SideItem, SideLink, SourceFunction, Turned, UseName, Used, address, all_declared, all_function_occurrences, all_items, all_scopes, at_contains, bytes_eq, distinct_items, find_at, find_passes, flat_map, flat_map-append, flat_map-map, foreign_use_occurrence, foreign_uses, function_used, functions, functions_items, in_order, in_order_at, inline_items, interface_turn, interfaces_of, is_foreign, is_world, item_at, item_function, item_index, item_name, item_rows, item_turns, items_within, kept_at, kept_early, kept_has, keys, local_name, map, meaning, missing_at, name_equal, name_exprs, name_occurrences, name_word, named_found, not-true, option_map, ordered_names, own_interface_address, role_names, rows_of, scope, scope_among, scope_item_at, scope_names, side_items, slice_get, slice_get-map, take_all, turn_occurrences, turns_of_world, turns_on_sides, used_before, used_interface, used_name_at, uses_lead, worlds_of}
+use Rattle.wit_walk.proofs.Common.{Names, OfFunction}
+use Rattle.wit_arena.proofs.Common.{Item}
 use Rattle.wit_parser.proofs.PartsPlaces.{AllPresent}
 use Rattle.wit_parser.proofs.PartsReady.{After, Ready, has_prefix, has_of, ready_append, functions_ready}
 use Rattle.wit_parser.proofs.PartsTurns.{UsesPresent, NamesPresent, names_seen, names_ready, signature_known, turn_names, turn_ready, one_at, ready_kept}

@@ -1,12 +1,12 @@
 -- All that an item names occurs, and all that is taken from another package.
 use Rattle.std.proofs.Common.{◌≡◌, ℕ, zero, Some, refl, subst, suc, ◌+◌, List, [], ◌∷◌, length, inl, inr, sym, ap, ◌∙◌, arith}
-use Rattle.wit_syntax.proofs.Common.{Address, Defined, DefinitionPart, ExternPart, FunctionPart, Id, Item, Of, Part, Prim, ResourceFunc, ScopeName, Shape, SourceFunction, TypeBody, Unknown, Word, definition_functions, extern_at, flat_map, flat_map_at, flat_map_has, free_function, functions, local_name, map_at, part_functions, part_names, parts, resource_function, scope_names, signature, slice_get, words, ForeignVisit, IsLegal, PackageFile, SideFunction, SideInline, SideItem, SideLink, address, at_back, at_part, at_prefix, firsts_at, foreign_uses, functions_items, inline_items, interfaces_of, item_function, item_inline, length-inline_after, map, option_map, same_foreign_use, scope, side_items, slice_get-map, visited, worlds_of}
+use Rattle.wit_items.proofs.Common.{Address, Def, Defined, DefinitionPart, ExternPart, ForeignVisit, FunctionPart, Has, Id, IsItem, IsLegal, IsSeen, Key, Makes, PackageFile, Part, ResourceFunc, ScopeName, Shape, SideFunction, SideInline, SideItem, SideLink, SourceFunction, Turned, TypeBody, Unknown, UnresolvedPackage, Whole, Word, address, all_function_occurrences, all_occurrences, at_back, at_part, at_prefix, definition_functions, expr_of, exprs_of, extern_at, firsts_at, flat_map, flat_map_at, flat_map_has, foreign_use_occurrence, foreign_uses, free_function, function_turn as turn_of_function, functions, functions_items, inline_items, interface_turn, interfaces_of, item_function, item_inline, item_turns, keys, length-inline_after, local_name, map, map_at, name_occurrences, names_in_turn, names_turn, option_map, own_interfaces, part_functions, part_names, parts, resource_function, same_foreign_use, scope, scope_names, shape_occurrences, shapes_occurrences, side_items, signature, slice_get, slice_get-map, turn_occurrences, turns_of_world, turns_on_sides, used_name_at, visited, words, worlds_of}
+use Rattle.wit_arena.proofs.Common.{Item}
+use Rattle.wit_walk.proofs.Common.{Of, Prim}
 use Rattle.wit_type_tree.specs.declared.types.TypeBody.TheVariants as body
 use Rattle.wit_type_tree.specs.declared.types.ResourceFunc.TheVariants as resource
-use Rattle.wit_arena.proofs.Common.{Def, Has, Key, Whole, expr_of, exprs_of, keys, shape_occurrences, shapes_occurrences, IsItem, IsSeen, Makes, Turned, UnresolvedPackage, all_function_occurrences, all_occurrences, foreign_use_occurrence, interface_turn, item_turns, name_occurrences, names_in_turn, names_turn, own_interfaces, turn_occurrences, turns_of_world, turns_on_sides, used_name_at}
 use Rattle.wit_parser.proofs.PartsPlaces.{IsPresent, RolePresent, FunctionPresent}
 use Rattle.wit_parser.proofs.PartsReady.{has_last, has_of, has_back, has_prefix}
-use Rattle.wit_arena.proofs.Turns.{function_turn as turn_of_function}
 use Rattle.wit_parser.proofs.PartsItems.{has_at}
 use Rattle.wit_parser.proofs.PartsSeen.{collects, collects_has}
 use Rattle.wit_parser.proofs.PartsOrders.{ord, declared_item, inline_item, world_item}

@@ -1,19 +1,14 @@
 -- What else holds of a package, from its being the one that legal files make.
 use Rattle.std.proofs.Common.{◌≡◌, ℕ, List, length, Option, Some, None, refl, sym, ap, ◌∙◌, arith}
-use Rattle.wit_syntax.proofs.Common.{Address, AllDiffer, IsLegal, PackageFile, TypeOwner, at_within, first_foreign_uses, function_key, length-map, map, option_and_then, slice_get, slice_get_within}
-use Rattle.wit_arena.proofs.Common.{HasArena, Interface, IsFaithful, Makes, UnresolvedPackage, World, expr_of, interface_scopes, item_turns, keys, occurrences, owner_of, world_scopes}
+use Rattle.wit_items.proofs.Common.{Address, AllDiffer, DoneScope, HasArena, Interface, IsFaithful, IsLegal, Makes, PackageFile, TypeOwner, UnresolvedPackage, World, at-type_of, at_within, expr_of, first_foreign_uses, function_key, interface_scopes, item_turns, keys, length-map, map, named_interface, named_world, occurrences, option_and_then, owner_of, same_some, slice_get, slice_get_within, world_scopes}
 use Rattle.wit_types.specs.declared.types.TypeOwner.TheVariants as owner
-use Rattle.wit_arena.specs.UnfoldedTypes.{named_interface, named_world}
 use Rattle.wit_arena.proofs.Faithful.{IsOwnerOf, AreOwners, name_at, type_at, faithful}
-use Rattle.wit_arena.proofs.Members.{DoneScope}
-use Rattle.wit_arena.proofs.Placing.{at-type_of}
 use Rattle.wit_arena.proofs.Unknowns.{foreign_uses_prefix}
 use Rattle.wit_parser.proofs.Ids.{as_many_interfaces, as_many_types, as_many_worlds}
 use Rattle.wit_parser.proofs.KnownMembers.{decls, present, wholes, written}
 use Rattle.wit_parser.proofs.KnownTurns.{scopes, known_at, interface_resolved_scope, world_resolved_scope}
 use Rattle.wit_parser.proofs.PartsSeen.{collects, made_places}
 use Rattle.wit_parser.proofs.TypeIds.{type_within}
-use Rattle.wit_arena.proofs.Places.{same_some}
 
 module _ (files : List PackageFile) (p : UnresolvedPackage) (legal : IsLegal files) (m : Makes files p) where
   abbrev cs : List DoneScope

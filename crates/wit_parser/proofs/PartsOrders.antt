@@ -1,10 +1,8 @@
 -- The items of the package that files make: each is at its address, and no two are at one.
 use Rattle.std.proofs.Common.{◌≡◌, ℕ, ◌+◌, not, List, length, map, Some, inl, inr, refl, sym, subst}
-use Rattle.wit_syntax.proofs.Common.{IsLegal, Item, Names, PackageFile, address, at_part, flat_map, foreign_interfaces, foreign_worlds, inline_items, interfaces_of, is_world, slice_get, visited, worlds_of}
-use Rattle.wit_arena.proofs.Common.{AreItems, IsItem, Makes, Ordered, UnresolvedPackage, distinct_items, interface_scopes, interfaces_sort, item_scopes, own_interfaces, world_scopes, worlds_sort}
-use Rattle.wit_arena.proofs.Added.{all_addresses}
-use Rattle.wit_arena.proofs.Interfaces.{AreAddresses, inline_scopes, items_kept}
-use Rattle.wit_arena.proofs.Itemizing.{are_items}
+use Rattle.wit_items.proofs.Common.{AreAddresses, AreItems, IsItem, IsLegal, Makes, Ordered, PackageFile, UnresolvedPackage, address, all_addresses, are_items, at_part, distinct_items, flat_map, foreign_interfaces, foreign_worlds, inline_items, inline_scopes, interface_scopes, interfaces_of, interfaces_sort, is_world, item_scopes, items_kept, own_interfaces, slice_get, visited, world_scopes, worlds_of, worlds_sort}
+use Rattle.wit_walk.proofs.Common.{Names}
+use Rattle.wit_arena.proofs.Common.{Item}
 use Rattle.wit_parser.proofs.Images.{second_at}
 use Rattle.wit_parser.proofs.PartsItems.{found_item}
 

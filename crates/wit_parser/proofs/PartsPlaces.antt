@@ -1,9 +1,7 @@
 -- Where a function gives the place of each key, what it says of a key that occurs is there.
 use Rattle.std.proofs.Common.{◌≡◌, ℕ, List, [], ◌∷◌, ◌+◌, length, Option, Some, None, refl, sym, ap, ◌∙◌, subst}
-use Rattle.wit_syntax.proofs.Common.{Address, Constructor, Freestanding, Id, Method, OnSide, Role, ScopeName, Shape, SourceFunction, SourceParam, Static, all_params, at_back, at_prefix, length-map, local_name, map, map_at, map_map, option_map, option_to_list, signature, slice_get, slice_get-map}
+use Rattle.wit_items.proofs.Common.{Address, AreAt, Constructor, Def, End, Expr, Exprs, Freestanding, GivesPlaces, HasTypes, Id, IsAt, IsFunction, IsKind, IsParam, IsSeen, Key, Method, More, Of, OnSide, OneByOne, Param, Prim, Role, ScopeName, Shape, SourceFunction, SourceParam, Static, Turned, Use, Whole, all_params, at_back, at_prefix, expr_of, function_in, length-map, local_name, map, map_at, map_map, name_places, option_map, option_to_list, role_kind, same_some, signature, slice_get, slice_get-map, type_of, types_of}
 use Rattle.wit_types.specs.declared.types.«Type».{«Type» as Ty}
-use Rattle.wit_arena.proofs.Common.{AreAt, Def, End, Expr, Exprs, GivesPlaces, HasTypes, IsAt, IsFunction, IsKind, IsParam, IsSeen, Key, More, Of, OneByOne, Param, Prim, Turned, Use, Whole, expr_of, function_in, name_places, role_kind, type_of, types_of}
-use Rattle.wit_arena.proofs.Places.{same_some}
 
 -- what an expression means is among some keys, and so is each of these
 abbrev pub IsPresent : (Key → Type 0) → Expr → Type 0

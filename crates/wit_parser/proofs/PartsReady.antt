@@ -1,11 +1,10 @@
 -- Occurrences in an order in which the parts of each occur before it.
 use Rattle.std.proofs.Common.{◌≡◌, ◌≤◌, ℕ, ◌+◌, zero, suc, List, [], ◌∷◌, ◌++◌, length, take, Some, ◌⊎◌, inl, inr, refl, sym, ap, ◌∙◌, subst, arith, append_assoc, append-nil, length-append}
-use Rattle.wit_syntax.proofs.Common.{Address, Contains, Id, More, Of, Prim, ScopeName, Shape, Shapes, SourceFunction, Span, Stability, Unknown, Word, about_name, all_words, at_back, at_prefix, at_seam, flat_map, length-map, local_name, signature, slice_get, slice_get_within, take_seam, three_ways, unwrap_or, words}
+use Rattle.wit_items.proofs.Common.{Address, Collects, Contains, Def, Expr, Exprs, Has, Id, IsSeen, Key, Occurrence, ScopeName, Shape, Shapes, SourceFunction, Span, Stability, Unknown, Whole, Word, about_name, all_function_occurrences, all_words, at_back, at_prefix, at_seam, expr_of, exprs_of, flat_map, keys, keys-append, length-map, local_name, name_exprs, name_occurrences, parts_occurrences, same_some, shape_occurrences, shapes_occurrences, signature, slice_get, slice_get_within, take_seam, three_ways, unwrap_or, words}
+use Rattle.wit_walk.proofs.Common.{More, Of, Prim}
 use Rattle.wit_syntax.specs.Shape.{End}
-use Rattle.wit_arena.proofs.Common.{Collects, Def, Expr, Exprs, Has, IsSeen, Key, Occurrence, Whole, all_function_occurrences, expr_of, exprs_of, keys, keys-append, name_exprs, name_occurrences, parts_occurrences, shape_occurrences, shapes_occurrences}
 use Rattle.wit_arena.specs.Expr as expr
 use Rattle.wit_parser.proofs.PartsPlaces.{IsPresent, AllPresent}
-use Rattle.wit_arena.proofs.Places.{same_some}
 
 pub present_wider : (a b : Key → Type 0) → ((k : Key) → a k → b k) → (e : Expr) → IsPresent a e → IsPresent b e
 present_wider a b wider (expr.Prim p) h = tt

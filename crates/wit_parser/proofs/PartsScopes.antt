@@ -1,10 +1,11 @@
 -- Of a world of files that break no rule, the scope of each interface that is linked there, or written there, has its place among those of interfaces,
 -- and the scope of each include among those of worlds.
 use Rattle.std.proofs.Common.{◌≡◌, ℕ, zero, Bool, true, false, not, cond, List, [], ◌+◌, length, Some, None, ◌⊎◌, inl, inr, refl, sym, ap, ◌∙◌, subst, Contains}
-use Rattle.wit_syntax.proofs.Common.{Address, AllDiffer, DefinitionPart, Extern, ExternKind, ExternPart, Foreign, ForeignVisit, FunctionPart, Id, Include, IncludePart, InterfaceIncluded, InterfaceNamed, IsLegal, Item, Link, Local, MissingUse, Names, PackageFile, PackageName, Part, SideFunction, SideItem, SideLink, Target, Use as WrittenUse, UsePath, WorldNamed, WorldUsed, address, all_declared, all_items, at_back, at_prefix, at_side, bytes_eq, contains_at, definition_functions, extern_items, extern_link, extern_paths, extern_visits, find_at, find_passes, flat_map, flat_map_at, flat_map_has, foreign_at, foreign_interfaces, foreign_items, foreign_worlds, in_order_at, include_path, include_paths, includes, inline_items, inline_uses, interface_there, interfaces_of, is_world, is_world_at, item_link, item_name, item_named, item_word, kept_at, kept_has, leads, map, map_at, missing_at, name_equal, option_map, part_includes, part_items, part_visits, parts, path_id, path_scope, path_visits, side_items, side_itself, slice_get, slice_get-map, target_scope, use_path, use_paths, visited, walk, world_there, worlds_of, IsOrder, in_order, item_rows}
-use Rattle.wit_tree.specs.declared.tree.ExternKind.TheVariants as extern
+use Rattle.wit_items.proofs.Common.{Address, AllDiffer, DefinitionPart, Extern, ExternKind, ExternPart, Foreign, ForeignVisit, FunctionPart, Id, Include, IncludePart, InterfaceIncluded, InterfaceNamed, IsLegal, IsOrder, IsVisited, Link, Local, MissingUse, PackageFile, PackageName, Part, SideFunction, SideItem, SideLink, Target, UsePath, WorldNamed, WorldUsed, address, all_declared, all_items, at_back, at_prefix, at_side, bytes_eq, contains_at, definition_functions, distinct_items, extern_items, extern_link, extern_paths, extern_visits, find_at, find_passes, flat_map, flat_map_at, flat_map_has, foreign_at, foreign_at-visited, foreign_interfaces, foreign_items, foreign_worlds, in_order, in_order_at, include_path, include_paths, includes, inline_items, inline_uses, interface_scopes, interface_there, interfaces_of, is_world, is_world_at, item_index, item_link, item_name, item_named, item_rows, item_word, items_within, kept_at, kept_has, leads, map, map_at, missing_at, name_equal, named_at, needed_before, option_cases, option_map, own_interface_address, own_interfaces, part_includes, part_items, part_visits, parts, path_among, path_id, path_scope, path_visited, path_visits, paths_of_world, side_has, side_items, side_itself, slice_get, slice_get-map, target_scope, use_path, use_paths, visit_listed, visited, walk, world_address, world_scopes, world_there, worlds_of}
+use Rattle.wit_arena.proofs.Common.{Item}
+use Rattle.wit_walk.proofs.Common.{Names, Use as WrittenUse}
 use Rattle.wit_syntax.specs.Broken.{Use}
-use Rattle.wit_arena.proofs.Common.{IsVisited, distinct_items, foreign_at-visited, interface_scopes, item_index, items_within, named_at, needed_before, option_cases, own_interface_address, own_interfaces, path_among, path_visited, side_has, visit_listed, world_address, world_scopes, paths_of_world}
+use Rattle.wit_tree.specs.declared.tree.ExternKind.TheVariants as extern
 use Rattle.wit_arena.proofs.MadeScopes.{scope_place-found, interface_scopes-differ, world_scopes-differ}
 use Rattle.wit_parser.proofs.PartsSides.{HasPlace, HasPlaces}
 

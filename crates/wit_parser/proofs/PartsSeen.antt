@@ -1,14 +1,13 @@
 -- The arena of types that is given by places is the list of first occurrences.
 use Rattle.std.proofs.Common.{◌≡◌, ℕ, suc, true, List, [], ◌∷◌, ◌++◌, length, take, Some, None, inl, inr, refl, sym, ap, ◌∙◌, subst, arith}
-use Rattle.wit_syntax.proofs.Common.{Address, AllDiffer, Contains, ForeignNamed, ForeignUse, IsLegal, Item, PackageFile, ScopeName, Span, Stability, TypeDef, about_name, at_contains, at_prefix, at_seam, at_within, differ_at, first_foreign_uses, first_known, firsts_at, flat_map, foreign_uses, is_foreign, length-map, local_name, map, map_at, option_map, same_foreign_use, scope, slice_get, slice_get-map, three_ways}
+use Rattle.wit_items.proofs.Common.{Address, AllDiffer, AreAt, Collects, Contains, Def, Exprs, ForeignNamed, ForeignUse, GivesPlaces, Has, IsEntry, IsEntryOf, IsLegal, IsOccurrence, IsSeen, Key, Makes, Occurrence, PackageFile, ScopeName, Span, Stability, TypeDef, UnresolvedPackage, Whole, about_name, all_occurrences, at_contains, at_prefix, at_seam, at_within, collects_extended, collects_one, collects_split, declarations, differ_at, first_foreign_uses, first_known, firsts_at, flat_map, foreign_use_key, foreign_use_occurrence, foreign_uses, foreign_uses_differ, foreign_uses_seen, gives_places, gives_used, interface_scopes, is_foreign, item_turns, key_extended, keys, kind_of, length-map, local_name, map, map_at, name_exprs, option_map, owner_at, same_foreign_use, same_some, scope, slice_get, slice_get-map, stability_at, three_ways, turn_occurrences, types_of, used_at, used_name_at, world_scopes}
+use Rattle.wit_arena.proofs.Common.{Item}
 use Rattle.wit_types.specs.declared.types.«Type».{«Type» as Ty}
-use Rattle.wit_arena.proofs.Common.{AreAt, Collects, Def, Exprs, GivesPlaces, Has, IsEntry, IsEntryOf, IsOccurrence, IsSeen, Key, Makes, Occurrence, UnresolvedPackage, Whole, all_occurrences, collects_extended, declarations, firsts-collects, firsts-differ, foreign_use_key, foreign_use_occurrence, foreign_uses_differ, foreign_uses_seen, gives_places, gives_used, interface_scopes, item_turns, keys, kind_of, name_exprs, owner_at, stability_at, turn_occurrences, types_of, used_at, used_name_at, world_scopes}
 use Rattle.wit_arena.specs.Occurrences.{settled}
+use Rattle.wit_arena.proofs.FirstsOf.{firsts-collects, firsts-differ}
 use Rattle.wit_parser.proofs.PartsItems.{all_ready, no_parts}
 use Rattle.wit_parser.proofs.PartsPlaces.{AllPresent, types_of-at}
 use Rattle.wit_parser.proofs.PartsReady.{PartsPresent, Ready, collects_prefix, seen_ready, ready_wider}
-use Rattle.wit_arena.proofs.Places.{key_extended, same_some}
-use Rattle.wit_arena.proofs.Occurrence.{collects_split, collects_one}
 
 -- what occurs is in the end
 pub collects_has : (ls ms all : List Occurrence) → Collects ms ls all → (k : Key) → Has (keys ls) k → IsSeen (keys all) k

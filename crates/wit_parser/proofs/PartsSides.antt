@@ -1,7 +1,7 @@
 -- What is stated of a side of a world is there, where each interface that is named there has a place.
 use Rattle.std.proofs.Common.{◌≡◌, ℕ, suc, true, false, cond, List, [], ◌∷◌, length, Some, None, refl, sym, ap, ◌∙◌, arith}
-use Rattle.wit_syntax.proofs.Common.{Address, Include, Item, Link, SideFunction, SideInline, SideItem, SideLink, SourceFunction, TopName, WorldNamed, WorldSide, address, cons_option, flat_map, includes, inline_items, item_function, item_inline, item_link, leads, map, path_scope, role_side, same_side, side_items, slice_get, target_scope}
-use Rattle.wit_arena.proofs.Common.{AreSideItems, Function, WorldItem, WorldKey, entries_on, inline_entry, link_item, put_on, scope_place, side_entries}
+use Rattle.wit_items.proofs.Common.{Address, AreSideItems, Function, Include, Link, SideFunction, SideInline, SideItem, SideLink, SourceFunction, TopName, WorldItem, WorldKey, WorldNamed, WorldSide, address, cons_option, entries_on, flat_map, includes, inline_entry, inline_items, item_function, item_inline, item_link, leads, link_item, map, path_scope, put_on, role_side, same_side, scope_place, side_entries, side_items, slice_get, target_scope}
+use Rattle.wit_arena.proofs.Common.{Item}
 use Rattle.wit_model.specs.declared.world.WorldKey.TheVariants as key
 use Rattle.wit_model.specs.declared.world.WorldItem.TheVariants as item
 

@@ -1,10 +1,8 @@
 -- What occurs in a scope occurs in an order in which the parts of each come before it.
 use Rattle.std.proofs.Common.{◌≡◌, ◌<◌, ◌≤◌, ℕ, ◌+◌, zero, suc, List, [], ◌∷◌, ◌++◌, length, take, Option, Some, None, inl, inr, refl, sym, ap, ◌∙◌, subst, arith, append-nil, Bool, true}
-use Rattle.wit_syntax.proofs.Common.{Address, Attribute, Contains, Defined, ForeignName, Function, Id, IsEntered, IsLegal, IsOrder, MissingInSignature, OfFunction, OfNothing, PackageFile, Row, Scope, ScopeName, Shape, SourceFunction, UseName, Used, about_name, address, all_scopes, at_contains, at_within, bytes_eq, contains_at, defined, differ_at, find_at, find_passes, flat_map, flat_map-append, flat_map_has, function_as_type, functions, in_order, in_turn_has, is_defined, kept_early, kept_next, kept_past, length-map, local_name, meaning, missing_at, name_equal, name_word, names_within, needed_ids, option_map, place_of-Some, row_of, rows_of, scope, scope_names, signature, slice_get, slice_get-map, slice_get_within, take_all, target, used, used_at, used_has, used_is, words, cases_Bool, filter, append-nil}
-use Rattle.wit_arena.proofs.Common.{Def, Has, IsItem, Key, Occurrence, Ordered, all_function_occurrences, keys, name_occurrences, names_differ, ordered_names, own_names, parts_occurrences, scope_among, scope_is, turn_occurrences, turned}
+use Rattle.wit_items.proofs.Common.{Address, Attribute, Contains, Def, Defined, ForeignName, Has, Id, IsEntered, IsItem, IsLegal, IsOrder, Key, MissingInSignature, Occurrence, OfNothing, Ordered, PackageFile, Row, Scope, ScopeName, Shape, SourceFunction, UseName, Used, about_name, address, all_function_occurrences, all_scopes, append-nil, at_contains, at_within, bytes_eq, cases_Bool, contains_at, defined, differ_at, filter, find_at, find_passes, flat_map, flat_map-append, flat_map_has, function_as_type, functions, in_order, in_turn_has, is_defined, kept_early, kept_next, kept_past, keys, length-map, local_name, meaning, missing_at, name_equal, name_occurrences, name_word, names_differ, names_within, needed_ids, option_map, ordered_names, own_names, parts_occurrences, place_of-Some, row_before, row_of, rows_of, same_some, scope, scope_among, scope_is, scope_names, signature, slice_get, slice_get-map, slice_get_within, take_all, target, turn_occurrences, turned, used, used_has, used_is, words}
+use Rattle.wit_walk.proofs.Common.{Function, OfFunction, used_at}
 use Rattle.wit_parser.proofs.PartsReady.{After, Ready, has_prefix, has_last, has_of, ready_all, ready_append, name_ready, functions_ready}
-use Rattle.wit_arena.proofs.Scoping.{row_before}
-use Rattle.wit_arena.proofs.Places.{same_some}
 
 pub one_at : {X : Type 0} (x y : X) (k : ℕ) → slice_get (x ∷ []) k ≡ Some y → x ≡ y
 one_at x y zero at = cc

@@ -1,9 +1,8 @@
 -- A world of the package that files make has on its sides what is written there.
 use Rattle.std.proofs.Common.{◌≡◌, ℕ, List, [], ◌∷◌, ◌++◌, Some, refl, sym, ap, ◌∙◌, subst}
-use Rattle.wit_syntax.proofs.Common.{Address, Exported, Imported, IsLegal, Item, PackageFile, ScopeName, SourceFunction, WorldSide, address, functions, functions_items, includes, inline_items, length-inline_after, local_id, local_name, map, map_map, side_items, slice_get, worlds_of}
-use Rattle.wit_arena.proofs.Common.{AreSideItems, Def, HasTypes, Key, Makes, Type_, UnresolvedPackage, World, WorldItem, WorldKey, entries_on, function_in, import_types, interface_scopes, interface_turn, keys, name_imports, name_places, names_in_turn, own_types, own_world, settled, settled_none, settled_types, type_imports, world_entries, world_scopes, world_types}
+use Rattle.wit_items.proofs.Common.{Address, AreSideItems, Def, Exported, HasSides, HasTypes, Imported, IsLegal, Key, Makes, PackageFile, ScopeName, SourceFunction, Type_, UnresolvedPackage, World, WorldItem, WorldKey, WorldSide, address, entries_on, function_in, functions, functions_items, import_types, includes, inline_items, interface_scopes, interface_turn, keys, length-inline_after, local_id, local_name, map, map_map, name_imports, name_places, names_in_turn, own_types, own_world, settled, settled_none, settled_types, side_items, slice_get, type_imports, world_entries, world_scopes, world_types, worlds_of}
+use Rattle.wit_arena.proofs.Common.{Item}
 use Rattle.wit_model.specs.declared.world.WorldKey.TheVariants as key
-use Rattle.wit_arena.proofs.ByParts.{HasSides}
 use Rattle.wit_arena.proofs.SideItems.{side_types}
 use Rattle.wit_parser.proofs.PartsKeys.{world_seen}
 use Rattle.wit_parser.proofs.PartsOrders.{ord}

@@ -1,9 +1,8 @@
 -- The first fault of a source that is pushed after files is a broken rule; and where there is none, no rule is broken.
 use Rattle.std.proofs.Common.{◌≡◌, ℕ, Bool, true, false, List, [], ◌∷◌, Option, Some, None, inl, inr, ◌⊎◌, refl, sym, ap, ◌∙◌}
-use Rattle.wit_syntax.proofs.Common.{Fault, IsMismatch, IsSamePackage, NestedPackage, PackageFile, PackageName, Release, SourceFile, Version, at_contains, contains_at, false_from_ne_true, fault_in, headers, last_header, mismatch, option_map, option_or, package_of, parts_of, release_of, release_parts, same_package, same_package-equal, same_package-from, fault}
+use Rattle.wit_items.proofs.Common.{Agrees, Fault, IsMismatch, IsSamePackage, NestedPackage, PackageFile, PackageName, Release, SourceFile, Version, at_contains, contains_at, docs_agree, false_from_ne_true, fault, fault_in, headers, last_header, mismatch, nesting_fault, option_map, option_or, or_none_both, or_some, other_fault, package_of, parts_of, push_fault, release_of, same_package, same_package-equal, same_package-from}
+use Rattle.wit_values.specs.ReleaseText.{release_parts}
 use Rattle.wit_tree.specs.declared.tree.PackageName.{PackageName as Header}
-use Rattle.wit_walk.proofs.Common.{Agrees, nesting_fault, or_none_both, or_some, other_fault, push_fault}
-use Rattle.wit_items.proofs.Documented.{docs_agree}
 use Rattle.wit_parser.specs.Stray.{IsNesting, IsStray}
 
 -- a version by its parts

@@ -1,14 +1,12 @@
 -- Types, functions and names over the keys that occurred: their ids are places of types.
 use Rattle.std.proofs.Common.{◌≡◌, ◌<◌, ℕ, zero, suc, List, [], ◌∷◌, length, Option, Some, None, refl, sym, ap, ◌∙◌, subst, arith}
-use Rattle.wit_syntax.proofs.Common.{Address, Constructor, Freestanding, FuncForm, Id, Method, OnSide, PackageFile, Role, SourceFunction, Span, Static, at_within, filter_map, signature, slice_get, slice_get_within, AllZip}
+use Rattle.wit_items.proofs.Common.{Address, AllZip, AreAt, AreRequired, Constructor, Def, End, Expr, Exprs, Freestanding, FuncForm, Function, FunctionKind, HandleRequires, HasTypes, Id, IsAt, IsBelow, IsFunction, IsKind, Key, Method, More, Of, OnSide, PackageFile, Prim, Role, SourceFunction, Span, Static, Turned, UnresolvedPackage, Use, Whole, at_within, expr_of, filter_map, freestanding_kind, function_types, method_kind, same_some, signature, slice_get, slice_get_within, static_kind}
 use Rattle.wit_type_tree.specs.declared.types.FuncForm.TheVariants as form
 use Rattle.wit_types.specs.declared.types.«Type».{«Type» as Ty}
 use Rattle.wit_functions.specs.FunctionKinds.{resource_of}
-use Rattle.wit_arena.proofs.Common.{AreAt, AreRequired, Def, End, Expr, Exprs, Function, FunctionKind, HasTypes, IsAt, IsBelow, IsFunction, IsKind, Key, More, Of, Prim, Turned, UnresolvedPackage, Use, Whole, expr_of, freestanding_kind, function_types, method_kind, static_kind, HandleRequires}
 use Rattle.wit_arena.proofs.Primitives.{primitive_below}
 use Rattle.wit_arena.proofs.Signatures.{function_typed}
 use Rattle.wit_parser.specs.Ids.{AreTypesWithin, AreNamesWithin, IsFunctionWithin}
-use Rattle.wit_arena.proofs.Places.{same_some}
 
 -- the resource of a kind, by its form
 free_resource : (f : FuncForm) (id : ℕ) → resource_of (freestanding_kind f) ≡ Some id → ⊥

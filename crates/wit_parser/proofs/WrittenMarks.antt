@@ -1,11 +1,10 @@
 -- A written function has the mark of its role in its name.
 use Rattle.std.proofs.Common.{◌≡◌, ℕ, zero, ◌==◌, List, ◌++◌, Option, Some, refl, sym, ◌∙◌, subst}
-use Rattle.wit_syntax.proofs.Common.{DefinitionPart, ExternPart, FuncForm, FunctionPart, Id, Item, Part, ResourceFunc, SourceFunction, TypeBody, accessor, codes, definition_functions, extern_at, flat_map_at, functions, list_any, list_any-append, map_at, or_left, or_right, part_functions, parts, resource_function, slice_get}
+use Rattle.wit_items.proofs.Common.{DefinitionPart, ExternPart, FuncForm, FunctionPart, HasMark, HasMarkOf, Id, Part, ResourceFunc, SourceFunction, TypeBody, accessor, codes, definition_functions, extern_at, flat_map_at, freestanding_kind, functions, list_any, list_any-append, map_at, mark_of, method_kind, or_left, or_right, part_functions, parts, resource_function, role_kind, same_some, slice_get, static_kind}
+use Rattle.wit_arena.proofs.Common.{Item}
 use Rattle.wit_type_tree.specs.declared.types.FuncForm.TheVariants as form
 use Rattle.wit_type_tree.specs.declared.types.TypeBody.TheVariants as body
 use Rattle.wit_type_tree.specs.declared.types.ResourceFunc.TheVariants as resource
-use Rattle.wit_arena.proofs.Common.{HasMark, HasMarkOf, freestanding_kind, mark_of, method_kind, role_kind, static_kind}
-use Rattle.wit_arena.proofs.Places.{same_some}
 
 -- a mark in one of two texts is in both together
 mark_before : (mark : ℕ) (text more : List ℕ) → HasMark mark text → HasMark mark (text ++ more)

@@ -1,26 +1,11 @@
 -- Each id of a package is the place of an entry of its arena: of types, of interfaces or of worlds.
 use Rattle.std.specs.Prelude.{◌≡◌, ◌<◌, ℕ, List, length, Some, None, slice_get}
-use Rattle.wit_values.specs.declared.span.Span.{Span}
-use Rattle.wit_types.specs.declared.stability.Stability.{Stability}
-use Rattle.wit_types.specs.declared.types.«Type».{«Type» as Ty}
-use Rattle.wit_types.specs.declared.types.TypeDef.{TypeDef}
-use Rattle.wit_types.specs.declared.types.TypeOwner.{TypeOwner}
+use Rattle.wit_arena.specs.Common.{AstItem, Function, Interface, IsBelow, PackageName, Span, Stability, TypeDef, TypeOwner, UnresolvedPackage, World, WorldInclude, WorldItem, WorldKey, function_types, kind_of, «Type» as Ty}
 use Rattle.wit_types.specs.declared.types.TypeOwner.TheVariants as owner
-use Rattle.wit_package_names.specs.declared.package_name.PackageName.{PackageName}
 use Rattle.wit_functions.specs.FunctionKinds.{resource_of}
-use Rattle.wit_model.specs.declared.ast_item.AstItem.{AstItem}
 use Rattle.wit_model.specs.declared.ast_item.AstItem.TheVariants as entry
-use Rattle.wit_functions.specs.declared.function.Function.{Function}
-use Rattle.wit_model.specs.declared.interface.Interface.{Interface}
-use Rattle.wit_model.specs.declared.world.World.{World}
-use Rattle.wit_model.specs.declared.world.WorldInclude.{WorldInclude}
-use Rattle.wit_model.specs.declared.world.WorldItem.{WorldItem}
 use Rattle.wit_model.specs.declared.world.WorldItem.TheVariants as item
-use Rattle.wit_model.specs.declared.world.WorldKey.{WorldKey}
 use Rattle.wit_model.specs.declared.world.WorldKey.TheVariants as key
-use Rattle.wit_model.specs.declared.unresolved.UnresolvedPackage.{UnresolvedPackage}
-use Rattle.wit_arena.specs.Kind.{kind_of}
-use Rattle.wit_arena.specs.UnfoldedTypes.{IsBelow, function_types}
 
 -- each of these types is a primitive, or has the place of a type of the package
 abbrev pub AreTypesWithin : UnresolvedPackage → List Ty → Type 0

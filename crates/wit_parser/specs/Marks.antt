@@ -1,11 +1,7 @@
 -- The names of a package's functions have the marks of their kinds.
 use Rattle.std.specs.Prelude.{◌≡◌, ℕ, Some, slice_get}
-use Rattle.wit_types.specs.declared.types.TypeOwner.{TypeOwner}
+use Rattle.wit_arena.specs.Common.{Function, FunctionKey, TypeOwner, UnresolvedPackage, functions_of}
 use Rattle.wit_functions.specs.FunctionNames.{mark_of, HasMarkOf}
-use Rattle.wit_functions.specs.declared.function.Function.{Function}
-use Rattle.wit_model.specs.declared.unresolved.UnresolvedPackage.{UnresolvedPackage}
-use Rattle.wit_syntax.specs.Sides.{FunctionKey}
-use Rattle.wit_arena.specs.UnfoldedTypes.{functions_of}
 
 -- each function of each owner, of an interface or on a side of a world, has the mark of its kind in its name
 pub record HaveMarks (p : UnresolvedPackage) : Type 0 where

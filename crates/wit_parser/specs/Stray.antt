@@ -1,10 +1,8 @@
 -- Which sources cannot be after files.
 use Rattle.std.specs.Prelude.{◌≡◌, ◌⊎◌, List, Contains}
 use Rattle.wit_tree.specs.declared.tree.NestedPackage.{NestedPackage}
-use Rattle.wit_tree.specs.declared.tree.PackageFile.{PackageFile}
+use Rattle.wit_arena.specs.Common.{Fault, IsDocumentedTwice, IsOtherPackage, PackageFile, fault}
 use Rattle.wit_tree.specs.declared.tree.SourceFile.{SourceFile}
-use Rattle.wit_syntax.specs.Fault.{Fault, fault}
-use Rattle.wit_syntax.specs.Broken.{IsDocumentedTwice, IsOtherPackage}
 use Rattle.wit_first.specs.HeaderFaults.{push_fault}
 use Rattle.wit_first.specs.Laws.{Agrees}
 

@@ -1,4 +1,4 @@
-use Rattle.wit_syntax.proofs.Common.{err_from_is_err_and}
+use Rattle.wit_contents.proofs.Names.{err_from_is_err_and}
 use Rattle.wit_contents.proofs.contents.resolve_contents.Goals as goal
 
 pub returns-in_err-types-clause-first : goal.returns-in_err-types-clause-first

@@ -1,8 +1,5 @@
 use Rattle.std.proofs.Common.{[], ◌∷◌, refl, length}
-use Rattle.wit_arena.proofs.Common.{index_interface}
-use Rattle.wit_items.specs.ForeignAddresses.{prefix_of}
-use Rattle.wit_items.specs.Found.{interface_name}
-use Rattle.wit_items.proofs.Found.{found_put, found_wider, prefix_wider}
+use Rattle.wit_contents.proofs.Names.{found_put, found_wider, index_interface, interface_name, prefix_of, prefix_wider}
 use Rattle.wit_contents.proofs.declared.add_interface.Goals as goal
 
 pub invariant_of-interfaces : goal.invariant_of-interfaces

@@ -1,11 +1,6 @@
 use Rattle.std.proofs.Common.{◌≡◌, None, Option, map, take}
-use Rattle.wit_syntax.proofs.Common.{Fault, Item, in_order, interfaces_of, InterfaceNamed}
-use Rattle.wit_walk.proofs.Common.{first_in}
-use Rattle.wit_arena.proofs.Common.{AddsInterfaces, IsNameIndex, interfaces_at}
-use Rattle.wit_items.specs.ForeignAddresses.{prefix_of}
-use Rattle.wit_items.specs.BorrowedItems.{item_view}
-use Rattle.wit_item_entries.specs.NewRequirements.{Appends}
-use Rattle.wit_contents.specs.InterfaceFaults.{AreRightOf}
+use Rattle.wit_contents.proofs.Names.{AddsInterfaces, Appends, AreRightOf, Fault, InterfaceNamed, IsNameIndex, first_in, in_order, interfaces_at, interfaces_of, item_view, prefix_of}
+use Rattle.wit_arena.proofs.Common.{Item}
 use Rattle.wit_contents.proofs.declared.resolve_interfaces.Given as goal
 
 abbrev pub invariant-loop-place : goal.invariant-loop-place

@@ -1,14 +1,10 @@
 use Rattle.std.proofs.Common.{◌≡◌, List, ◌++◌, Option, map, refl, sym, ap, ◌∙◌, subst}
-use Rattle.wit_syntax.proofs.Common.{Fault, Imported, ScopeName, SideFunction, SourceFunction, err_from_is_err_and, functions, option_or, side_items_functions}
-use Rattle.wit_walk.proofs.Common.{none_both}
-use Rattle.wit_arena.proofs.Common.{env_of}
+use Rattle.wit_contents.proofs.Names.{Fault, Imported, IsTurn, ScopeName, SideFunction, SourceFunction, env_of, err_from_is_err_and, functions, none_both, option_or, scope_item, side_items_functions}
 use Rattle.wit_rules.specs.BorrowedFunctions.{function_view}
 use Rattle.wit_signatures.specs.ForeignName.{name_of_id, name_of_function}
 use Rattle.wit_externs.specs.AloneFaults.{lone_setters}
 use Rattle.wit_externs.proofs.AloneFaults.{safe_of}
 use Rattle.wit_externs.specs.Clash.{all_on}
-use Rattle.wit_items.specs.BorrowedItems.{scope_item}
-use Rattle.wit_item_entries.specs.NameOrder.{IsTurn}
 use Rattle.wit_item_entries.proofs.InterfaceSides.{all_imported, names_imported}
 use Rattle.wit_item_entries.proofs.ScopeFunctions.{turn_added, made_differ}
 use Rattle.wit_contents.proofs.FileFaults.{or_found}

@@ -1,23 +1,23 @@
 use Rattle.std.proofs.Common.{sym, ap, ◌∙◌, subst}
-use Rattle.wit_syntax.proofs.Common.{Id, IfOk-weaker, err_from_is_err_and}
+use Rattle.wit_contents.proofs.Names.{AddsAt, Id, IfOk-weaker, IsInterfaceWith, Names, err_from_is_err_and, finds_memory, interface_fault, reports_prefix, resolved_scopes_of, scope_item}
 use Rattle.wit_types.specs.declared.types.TypeOwner.TheVariants.{Interface as OfInterface}
-use Rattle.wit_walk.proofs.Common.{finds_memory, reports_prefix}
-use Rattle.wit_arena.proofs.Common.{Names}
 use Rattle.wit_entries.proofs.Requiring.{extended_then}
-use Rattle.wit_items.specs.BorrowedItems.{scope_item}
-use Rattle.wit_items.specs.ResolvedInterfaces.{resolved_scopes_of}
 use Rattle.wit_item_entries.specs.Body.{AddsBody}
 use Rattle.wit_item_entries.specs.declared.body.Head.{Head}
-use Rattle.wit_contents.specs.AddedInterfaces.{AddsAt, IsInterfaceWith}
-use Rattle.wit_contents.specs.InterfaceFaults.{interface_fault}
 use Rattle.wit_item_entries.proofs.ReachedFaults.{done, failed}
 use Rattle.wit_contents.proofs.InterfaceFaults.{rest_found}
 use Rattle.wit_contents.proofs.interface.interface_of.Goals as goal
 
+pub resolve_head-requires-clause-named : goal.resolve_head-requires-clause-named
+resolve_head-requires-clause-named c = c.requires.1.named
+
+pub resolve_head-requires-clause-placed : goal.resolve_head-requires-clause-placed
+resolve_head-requires-clause-placed c = c.requires.1.placed
+
 pub functions_of-requires : goal.functions_of-requires
 functions_of-requires c = record {
-  sort = c.requires.sort;
-  named = c.requires.named;
+  sort = c.requires.0;
+  named = c.requires.1.named;
   added = (c.args.types.now, resolved_scopes_of c.args.interfaces.now, OfInterface c.args.place, c.in_ok-head.ensures.adds);
 }
 
@@ -64,11 +64,11 @@ pub returns-in_err-functions-clause-first : goal.returns-in_err-functions-clause
 returns-in_err-functions-clause-first c =
     let p = err_from_is_err_and c.from_residual-in_err-functions.result c.from_residual-in_err-functions.ensures.1 in
     let e = c.in_ok-head.ensures in
-    rw (p.1, p.2) (λ outcome right handle ends. rest_found (failed _) c.args.interfaces.now (OfInterface c.args.place) c.args.types.now c.resolve_head.new.types c.functions_of.new.types c.args.item.now c.in_ok-head.head.names c.requires.named e.adds c.in_err-functions.ensures.extended outcome right handle ends (e.first outcome right handle ends) c.in_err-functions.ensures.first)
+    rw (p.1, p.2) (λ outcome right handle ends. rest_found (failed _) c.args.interfaces.now (OfInterface c.args.place) c.args.types.now c.resolve_head.new.types c.functions_of.new.types c.args.item.now c.in_ok-head.head.names c.requires.1.named e.adds c.in_err-functions.ensures.extended outcome right handle ends (e.first outcome right handle ends) c.in_err-functions.ensures.first)
 
 pub returns-clause-first : goal.returns-clause-first
 returns-clause-first c = λ outcome right handle ends.
     let is = c.args.interfaces.now in
     let item = c.args.item.now in
     let e = c.in_ok-head.ensures in
-    finds_memory (interface_fault is item outcome handle) c.interface_with.result (rest_found (done c.in_ok-functions.functions) is (OfInterface c.args.place) c.args.types.now c.resolve_head.new.types c.functions_of.new.types item c.in_ok-head.head.names c.requires.named e.adds c.in_ok-functions.ensures.extended outcome right handle ends (e.first outcome right handle ends) c.in_ok-functions.ensures.first) c.interface_with.ensures.refused
+    finds_memory (interface_fault is item outcome handle) c.interface_with.result (rest_found (done c.in_ok-functions.functions) is (OfInterface c.args.place) c.args.types.now c.resolve_head.new.types c.functions_of.new.types item c.in_ok-head.head.names c.requires.1.named e.adds c.in_ok-functions.ensures.extended outcome right handle ends (e.first outcome right handle ends) c.in_ok-functions.ensures.first) c.interface_with.ensures.refused

@@ -1,5 +1,5 @@
 use Rattle.std.proofs.Common.{◌++◌, List, refl, ap, ◌∙◌}
-use Rattle.wit_arena.proofs.Common.{Required}
+use Rattle.wit_contents.proofs.Names.{Required}
 use Rattle.wit_contents.proofs.interface.interface_with.Goals as goal
 
 pub returns-clause-has : goal.returns-clause-has

@@ -1,7 +1,5 @@
 use Rattle.std.proofs.Common.{ℕ, subst}
-use Rattle.wit_syntax.proofs.Common.{err_from_is_err_and}
-use Rattle.wit_items.specs.BorrowedItems.{scope_item}
-use Rattle.wit_contents.specs.AddedInterfaces.{AddsAt}
+use Rattle.wit_contents.proofs.Names.{AddsAt, err_from_is_err_and, scope_item}
 use Rattle.wit_contents.proofs.walk.resolve_inline.Goals as goal
 
 pub returns-clause-adds : goal.returns-clause-adds

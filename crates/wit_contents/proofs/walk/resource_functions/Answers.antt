@@ -1,6 +1,5 @@
 use Rattle.std.proofs.Common.{map, sym, ap, ◌∙◌}
-use Rattle.wit_syntax.proofs.Common.{SideFunction, TypeBody, definition_functions}
-use Rattle.wit_contents.specs.Walk.{resource_items}
+use Rattle.wit_contents.proofs.Names.{SideFunction, TypeBody, definition_functions, resource_items}
 use Rattle.wit_contents.proofs.MemberFaults.{no_functions}
 use Rattle.wit_contents.proofs.walk.resource_functions.Goals as goal
 

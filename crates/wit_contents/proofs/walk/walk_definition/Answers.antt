@@ -1,11 +1,10 @@
 use Rattle.std.proofs.Common.{◌≡◌, ◌+◌, ◌∷◌, [], Some, take, drop, refl, sym, ap, ◌∙◌}
-use Rattle.wit_syntax.proofs.Common.{DefinitionPart, SideFunction, err_from_is_err_and, part_items, resource_function, slice_get, slice_get_read, take_all}
-use Rattle.wit_contents.specs.Walk.{resource_items, stage, walk_of}
+use Rattle.wit_contents.proofs.Names.{DefinitionPart, SideFunction, err_from_is_err_and, part_items, resource_function, resource_items, slice_get, slice_get_read, stage, take_all, walk_of}
 use Rattle.wit_contents.proofs.MemberFaults.{done_later, first_later, next_of, nothing_done, resource_more, resource_split}
 use Rattle.wit_contents.proofs.walk.walk_definition.Goals as goal
 
 pub loop-function-init : goal.loop-function-init
-loop-function-init c = λ i. nothing_done (walk_of c.args.item.now c.args.walk.now) _ (stage c.args.types.now i c.args.walked.now)
+loop-function-init c = nothing_done (walk_of c.args.item.now c.args.walk.now) _ (stage c.args.growing.now c.args.walked.now)
 
 pub walk_function-requires : goal.walk_function-requires
 walk_function-requires c =
@@ -15,29 +14,29 @@ walk_function-requires c =
     let r = c.args.definition.now.name in
     let at : slice_get fs k ≡ Some f = slice_get_read fs _ k f refl c.loop-function-test.true c.function-item.is in
     let split = c.resource_functions-function-items.ensures ∙ resource_split r fs k f at in
-    next_of (walk_of c.args.item.now c.args.walk.now) (part_items (DefinitionPart c.args.definition.now)) (resource_items r (take k fs)) (SideFunction (resource_function r f) ∷ []) (resource_items r (drop (k + 1) fs)) _ _ split (c.loop-function.invariant []) c.requires
+    next_of (walk_of c.args.item.now c.args.walk.now) (part_items (DefinitionPart c.args.definition.now)) (resource_items r (take k fs)) (SideFunction (resource_function r f) ∷ []) (resource_items r (drop (k + 1) fs)) _ _ split c.loop-function.invariant c.requires
 
 pub loop-function-preserved : goal.loop-function-preserved
-loop-function-preserved c = λ i.
+loop-function-preserved c =
     let fs = c.resource_functions-function-items.result.now in
     let k = c.loop-function.function-index in
     let f = c.function-item.result in
     let r = c.args.definition.now.name in
     let at : slice_get fs k ≡ Some f = slice_get_read fs _ k f refl c.loop-function-test.true c.function-item.is in
     let split = c.resource_functions-function-items.ensures ∙ resource_split r fs k f at in
-    let now = done_later (walk_of c.args.item.now c.args.walk.now) (part_items (DefinitionPart c.args.definition.now)) (resource_items r (take k fs)) (SideFunction (resource_function r f) ∷ []) (resource_items r (drop (k + 1) fs)) _ _ split (c.loop-function.invariant i) _ (c.in_ok-walk_function.ensures.adds i) (c.in_ok-walk_function.ensures.first i) in
+    let now = done_later (walk_of c.args.item.now c.args.walk.now) (part_items (DefinitionPart c.args.definition.now)) (resource_items r (take k fs)) (SideFunction (resource_function r f) ∷ []) (resource_items r (drop (k + 1) fs)) _ _ split c.loop-function.invariant _ c.in_ok-walk_function.ensures.adds c.in_ok-walk_function.ensures.first in
     rw (resource_more r fs k f at) at now
 
 -- all functions were done
 pub returns-clause-adds : goal.returns-clause-adds
-returns-clause-adds c = λ i.
+returns-clause-adds c =
     let whole = ap (resource_items c.args.definition.now.name) (take_all c.loop-function.function-index _ c.loop-function-test.false) ∙ sym c.resource_functions-function-items.ensures in
-    (rw whole at (c.loop-function.invariant i)).adds
+    (rw whole at c.loop-function.invariant).adds
 
 pub returns-clause-first : goal.returns-clause-first
-returns-clause-first c = λ i.
+returns-clause-first c =
     let whole = ap (resource_items c.args.definition.now.name) (take_all c.loop-function.function-index _ c.loop-function-test.false) ∙ sym c.resource_functions-function-items.ensures in
-    (rw whole at (c.loop-function.invariant i)).none
+    (rw whole at c.loop-function.invariant).none
 
 pub returns-in_err-walk_function-clause-first : goal.returns-in_err-walk_function-clause-first
 returns-in_err-walk_function-clause-first c =
@@ -48,4 +47,4 @@ returns-in_err-walk_function-clause-first c =
     let r = c.args.definition.now.name in
     let at : slice_get fs k ≡ Some f = slice_get_read fs _ k f refl c.loop-function-test.true c.function-item.is in
     let split = c.resource_functions-function-items.ensures ∙ resource_split r fs k f at in
-    rw (p.1, p.2) (λ i. first_later (walk_of c.args.item.now c.args.walk.now) (part_items (DefinitionPart c.args.definition.now)) (resource_items r (take k fs)) (SideFunction (resource_function r f) ∷ []) (resource_items r (drop (k + 1) fs)) _ _ split (c.loop-function.invariant i) _ (c.in_err-walk_function.ensures.first i))
+    rw (p.1, p.2) (first_later (walk_of c.args.item.now c.args.walk.now) (part_items (DefinitionPart c.args.definition.now)) (resource_items r (take k fs)) (SideFunction (resource_function r f) ∷ []) (resource_items r (drop (k + 1) fs)) _ _ split c.loop-function.invariant _ c.in_err-walk_function.ensures.first)

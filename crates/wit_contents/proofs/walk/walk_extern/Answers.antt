@@ -1,21 +1,17 @@
-use Rattle.std.proofs.Common.{sym, ap, ◌≡◌, ◌∙◌}
-use Rattle.wit_syntax.proofs.Common.{Declared, WorldSide, about, item_side, on_ok_weaker}
+use Rattle.std.proofs.Common.{sym, ap}
+use Rattle.wit_contents.proofs.Names.{Declared, about, on_ok_weaker}
 use Rattle.wit_links.specs.declared.inside.Counts.{Counts}
-use Rattle.wit_links.specs.SideCounts.{seen_on}
 use Rattle.wit_contents.proofs.walk.walk_extern.Goals as goal
 
 pub declared_world-world-requires : goal.declared_world-world-requires
-declared_world-world-requires c = c.requires.walk.sort
+declared_world-world-requires c = c.requires.walk.world.sort
 
 pub walk_inline-requires : goal.walk_inline-requires
-walk_inline-requires c =
-    let at = c.inline_at-inline.ensures in
-    let side : c.inline_at-inline.result.written.now.side ≡ c.args.written.now.side = ap item_side at.side in
-    record {
-      next = rw (c.in-Interface.is, ← c.deref.ensures.value, ← c.inline_at-inline.ensures.side) at c.requires;
-      world = at.world ∙ ap (λ (d : Declared). (about d).id.name.now) (sym c.declared_world-world.ensures);
-      place = at.place ∙ ap (λ (k : Counts). k.interfaces) c.on-counts.ensures ∙ ap (λ (s : WorldSide). (seen_on s c.args.walked.now.seen).interfaces) (sym side);
-    }
+walk_inline-requires c = record {
+  next = rw (c.in-Interface.is, ← c.deref.ensures.value) at c.requires;
+  world = ap (λ (d : Declared). (about d).id.name.now) (sym c.declared_world-world.ensures);
+  place = ap (λ (k : Counts). k.interfaces) c.on-counts.ensures;
+}
 
 pub walk_function-requires : goal.walk_function-requires
 walk_function-requires c = rw (c.in-Func.is, ← c.extern_part_function-borrowed.ensures) at c.requires
@@ -27,25 +23,25 @@ pub walk_link-requires-in-NamedPath : goal.walk_link-requires-in-NamedPath
 walk_link-requires-in-NamedPath c = rw c.in-NamedPath.is at c.requires
 
 pub returns-in-Interface-clause-adds : goal.returns-in-Interface-clause-adds
-returns-in-Interface-clause-adds c = rw (c.in-Interface.is, ← c.deref.ensures.value, ← c.inline_at-inline.ensures.side) c.walk_inline.ensures.adds
+returns-in-Interface-clause-adds c = rw (c.in-Interface.is, ← c.deref.ensures.value) c.walk_inline.ensures.adds
 
 pub returns-in-Func-clause-adds : goal.returns-in-Func-clause-adds
-returns-in-Func-clause-adds c = rw (c.in-Func.is, ← c.extern_part_function-borrowed.ensures) (on_ok_weaker c.walk_function.result (λ adds. adds c.args.growing.now.inside) c.walk_function.ensures.adds)
+returns-in-Func-clause-adds c = rw (c.in-Func.is, ← c.extern_part_function-borrowed.ensures) c.walk_function.ensures.adds
 
 pub returns-in-Path-clause-adds : goal.returns-in-Path-clause-adds
-returns-in-Path-clause-adds c = rw c.in-Path.is (on_ok_weaker c.walk_link.result (λ adds. adds c.args.growing.now.types c.args.growing.now.inside) c.walk_link.ensures.adds)
+returns-in-Path-clause-adds c = rw c.in-Path.is (on_ok_weaker c.walk_link.result (λ adds. adds c.args.growing.now) c.walk_link.ensures.adds)
 
 pub returns-in-NamedPath-clause-adds : goal.returns-in-NamedPath-clause-adds
-returns-in-NamedPath-clause-adds c = rw c.in-NamedPath.is (on_ok_weaker c.walk_link-in-NamedPath.result (λ adds. adds c.args.growing.now.types c.args.growing.now.inside) c.walk_link-in-NamedPath.ensures.adds)
+returns-in-NamedPath-clause-adds c = rw c.in-NamedPath.is (on_ok_weaker c.walk_link-in-NamedPath.result (λ adds. adds c.args.growing.now) c.walk_link-in-NamedPath.ensures.adds)
 
 pub returns-in-Interface-clause-first : goal.returns-in-Interface-clause-first
-returns-in-Interface-clause-first c = rw (c.in-Interface.is, ← c.deref.ensures.value, ← c.inline_at-inline.ensures.side) c.walk_inline.ensures.first
+returns-in-Interface-clause-first c = rw (c.in-Interface.is, ← c.deref.ensures.value) c.walk_inline.ensures.first
 
 pub returns-in-Func-clause-first : goal.returns-in-Func-clause-first
-returns-in-Func-clause-first c = rw (c.in-Func.is, ← c.extern_part_function-borrowed.ensures) (c.walk_function.ensures.first c.args.growing.now.inside)
+returns-in-Func-clause-first c = rw (c.in-Func.is, ← c.extern_part_function-borrowed.ensures) c.walk_function.ensures.first
 
 pub returns-in-Path-clause-first : goal.returns-in-Path-clause-first
-returns-in-Path-clause-first c = rw c.in-Path.is (c.walk_link.ensures.first c.args.growing.now.types c.args.growing.now.inside)
+returns-in-Path-clause-first c = rw c.in-Path.is (c.walk_link.ensures.first c.args.growing.now)
 
 pub returns-in-NamedPath-clause-first : goal.returns-in-NamedPath-clause-first
-returns-in-NamedPath-clause-first c = rw c.in-NamedPath.is (c.walk_link-in-NamedPath.ensures.first c.args.growing.now.types c.args.growing.now.inside)
+returns-in-NamedPath-clause-first c = rw c.in-NamedPath.is (c.walk_link-in-NamedPath.ensures.first c.args.growing.now)

@@ -1,58 +1,57 @@
 use Rattle.std.proofs.Common.{sym, ◌∙◌}
-use Rattle.wit_syntax.proofs.Common.{err_from_is_err_and}
-use Rattle.wit_walk.proofs.Common.{none_both, reports_back, reports_prefix, reports_same}
-use Rattle.wit_arena.proofs.Common.{env_of}
+use Rattle.wit_contents.proofs.Names.{env_of, err_from_is_err_and, none_both, reports_back, reports_prefix, reports_same, scope_names, stage, walk_item, walk_of}
 use Rattle.wit_item_entries.proofs.ReachedFaults.{done, failed}
 use Rattle.wit_rules.specs.BorrowedFunctions.{function_view}
-use Rattle.wit_externs.proofs.DoneFunctions.{place_within, same_name}
-use Rattle.wit_contents.specs.Walk.{stage, walk_of}
+use Rattle.wit_externs.proofs.DoneFunctions.{same_name}
 use Rattle.wit_contents.proofs.FileFaults.{memory_found}
-use Rattle.wit_contents.proofs.MemberFaults.{function_next, function_ends, function_found, function_is}
+use Rattle.wit_contents.proofs.MemberFaults.{function_ends, function_found, function_is, function_next, function_owners, function_scoped, function_within}
 use Rattle.wit_contents.proofs.Members.{member_function}
 use Rattle.wit_contents.proofs.walk.walk_function.Goals as goal
 
 pub resolve_function-requires-clause-owners : goal.resolve_function-requires-clause-owners
-resolve_function-requires-clause-owners c = c.requires.walk.owners
+resolve_function-requires-clause-owners c = rw c.deref.ensures.value (function_owners c.requires)
 
 pub resolve_function-requires-clause-place : goal.resolve_function-requires-clause-place
-resolve_function-requires-clause-place c = place_within c.args.walk.now.scope _ _ (function_next c.requires)
+resolve_function-requires-clause-place c = rw c.deref.ensures.value (function_within c.requires)
 
 pub put_function-requires-clause-mangled : goal.put_function-requires-clause-mangled
 put_function-requires-clause-mangled c = c.in_ok-function.ensures.adds.mangled
 
 pub put_function-requires-clause-borrowed : goal.put_function-requires-clause-borrowed
-put_function-requires-clause-borrowed c = same_name c.in_ok-function.function (function_view c.args.borrowed) (c.in_ok-function.ensures.adds.named _ (function_next c.requires))
+put_function-requires-clause-borrowed c =
+    let e = rw c.deref.ensures.value at c.in_ok-function.ensures in
+    same_name c.in_ok-function.function (function_view c.args.borrowed) (e.adds.named _ (function_next c.requires))
 
 pub returns-clause-adds : goal.returns-clause-adds
-returns-clause-adds c = λ inside n.
+returns-clause-adds c = λ n.
     let there = function_next n in
-    let says = c.in_ok-function.ensures in
-    member_function (walk_of c.args.item.now c.args.walk.now) n.prefix (stage c.args.types.now inside c.args.walked.now) (function_view c.args.borrowed) c.in_ok-function.function c.resolve_function.new.types _ (says.adds.adds _ there) (says.adds.handled _ there) says.finds.extended (c.in_ok-put_function.ensures.puts n.keyed) (λ ys seen. c.in_ok-seen.ensures ys _ seen)
+    let says = rw c.deref.ensures.value at c.in_ok-function.ensures in
+    member_function (walk_of c.args.item.now c.args.walk.now) n.prefix (stage c.args.growing.now c.args.walked.now) (function_view c.args.borrowed) c.in_ok-function.function c.resolve_function.new.types _ (says.adds.adds _ there) (says.adds.handled _ there) says.finds.extended (c.in_ok-put_function.ensures.puts n.keyed) (λ ys seen. c.in_ok-seen.ensures ys _ seen)
 
 pub returns-in_err-function-clause-first : goal.returns-in_err-function-clause-first
 returns-in_err-function-clause-first c =
     let p = err_from_is_err_and c.from_residual.result c.from_residual.ensures.1 in
     let w = walk_of c.args.item.now c.args.walk.now in
-    let e = c.in_err-function.ensures in
-    rw (p.1, p.2) (λ inside n. function_found (failed _) w (function_view c.args.borrowed) (stage c.args.types.now inside c.args.walked.now) n (λ handle from.
-    reports_prefix _ (reports_same (function_is n c.resolve_function.new.types handle (function_ends (env_of w.walk.scope.names.now) c.args.types.now c.resolve_function.new.types handle from e.finds.extended)) (e.finds.first _ n.walk.scoped _ (function_next n)))))
+    let e = rw c.deref.ensures.value at c.in_err-function.ensures in
+    rw (p.1, p.2) (λ n. function_found (failed _) w (function_view c.args.borrowed) (stage c.args.growing.now c.args.walked.now) n (λ handle from.
+    reports_prefix _ (reports_same (function_is n c.resolve_function.new.types handle (function_ends (env_of w.scope.names.types) c.args.growing.now.types c.resolve_function.new.types handle from e.finds.extended)) (e.finds.first (scope_names (walk_item w)) (record { names = function_scoped n; results = n.walk.results }) _ (function_next n)))))
 
 pub returns-in_err-put_function-clause-first : goal.returns-in_err-put_function-clause-first
 returns-in_err-put_function-clause-first c =
     let p = err_from_is_err_and c.from_residual-in_err-put_function.result c.from_residual-in_err-put_function.ensures.1 in
     let w = walk_of c.args.item.now c.args.walk.now in
-    let e = c.in_ok-function.ensures in
-    rw (p.1, p.2) (λ inside n. function_found (failed _) w (function_view c.args.borrowed) (stage c.args.types.now inside c.args.walked.now) n (λ handle from. (
-    let is = function_is n c.resolve_function.new.types handle (function_ends (env_of w.walk.scope.names.now) c.args.types.now c.resolve_function.new.types handle from e.finds.extended) in
-    reports_back (sym is ∙ e.finds.first _ n.walk.scoped _ (function_next n)) c.in_err-put_function.ensures.first)))
+    let e = rw c.deref.ensures.value at c.in_ok-function.ensures in
+    rw (p.1, p.2) (λ n. function_found (failed _) w (function_view c.args.borrowed) (stage c.args.growing.now c.args.walked.now) n (λ handle from. (
+    let is = function_is n c.resolve_function.new.types handle (function_ends (env_of w.scope.names.types) c.args.growing.now.types c.resolve_function.new.types handle from e.finds.extended) in
+    reports_back (sym is ∙ e.finds.first (scope_names (walk_item w)) (record { names = function_scoped n; results = n.walk.results }) _ (function_next n)) c.in_err-put_function.ensures.first)))
 
 pub returns-in_err-seen-clause-first : goal.returns-in_err-seen-clause-first
-returns-in_err-seen-clause-first c = λ inside n test right. memory_found _ c.from_residual-in_err-seen.result c.from_residual-in_err-seen.ensures.1
+returns-in_err-seen-clause-first c = λ n test right. memory_found _ c.from_residual-in_err-seen.result c.from_residual-in_err-seen.ensures.1
 
 pub returns-clause-first : goal.returns-clause-first
-returns-clause-first c = λ inside n.
+returns-clause-first c = λ n.
     let w = walk_of c.args.item.now c.args.walk.now in
-    let e = c.in_ok-function.ensures in
-    function_found (done c.in_ok-function.function) w (function_view c.args.borrowed) (stage c.args.types.now inside c.args.walked.now) n (λ handle from. (
-    let is = function_is n c.resolve_function.new.types handle (function_ends (env_of w.walk.scope.names.now) c.args.types.now c.resolve_function.new.types handle from e.finds.extended) in
-    none_both (sym is ∙ e.finds.first _ n.walk.scoped _ (function_next n)) c.in_ok-put_function.ensures.first))
+    let e = rw c.deref.ensures.value at c.in_ok-function.ensures in
+    function_found (done c.in_ok-function.function) w (function_view c.args.borrowed) (stage c.args.growing.now c.args.walked.now) n (λ handle from. (
+    let is = function_is n c.resolve_function.new.types handle (function_ends (env_of w.scope.names.types) c.args.growing.now.types c.resolve_function.new.types handle from e.finds.extended) in
+    none_both (sym is ∙ e.finds.first (scope_names (walk_item w)) (record { names = function_scoped n; results = n.walk.results }) _ (function_next n)) c.in_ok-put_function.ensures.first))

@@ -1,19 +1,13 @@
 use Rattle.std.proofs.Common.{◌≡◌, List, None, Some, length, refl, ap, ◌∙◌}
-use Rattle.wit_syntax.proofs.Common.{SideItem, SideLink, err_from_is_err_and, path_scope, side_items, slice_get}
-use Rattle.wit_walk.proofs.Common.{metadata_fault}
+use Rattle.wit_contents.proofs.Names.{SideItem, SideLink, declared_view, err_from_is_err_and, filed_item, metadata_fault, path_link, path_scope, prefix_of, side_items, slice_get, stage, walk_item, walk_of}
 use Rattle.wit_externs.proofs.Steps.{at_middle}
 use Rattle.wit_item_entries.proofs.ReachedFaults.{done, failed}
-use Rattle.wit_items.specs.ForeignAddresses.{prefix_of}
-use Rattle.wit_items.specs.BorrowedItems.{declared_view}
-use Rattle.wit_items.proofs.Usable.{filed_item}
-use Rattle.wit_world_sides.specs.Members.{path_link}
 use Rattle.wit_links.proofs.Leading.{called_at}
-use Rattle.wit_contents.specs.Walk.{stage, walk_item, walk_of}
 use Rattle.wit_contents.proofs.FileFaults.{memory_found, or_found}
-use Rattle.wit_contents.proofs.Linking.{link_path}
 use Rattle.wit_contents.proofs.MemberFaults.{link_leads, link_lost, link_noted, link_put, link_found}
 use Rattle.wit_contents.proofs.Members.{member_link}
 use Rattle.wit_contents.proofs.walk.walk_link.Goals as goal
+use Rattle.wit_walk.proofs.MemberFaults.{path_among}
 
 pub linked_id-requires : goal.linked_id-requires
 linked_id-requires c =
@@ -21,40 +15,40 @@ linked_id-requires c =
     let n = c.requires in
     let link = path_link c.args.link in
     let at : slice_get (side_items (walk_item w)) (length n.prefix) ≡ Some (SideLink link) = ap (λ (l : List SideItem). slice_get l (length n.prefix)) n.sides ∙ at_middle n.prefix (SideLink link) n.rest in
-    record { path = record { declared = declared_view w.item.declared; item = filed_item w.walk.interfaces.now.files w.item n.walk.item.filed; among = link_path (walk_item w) (length n.prefix) link at } }
+    record { path = record { declared = declared_view w.item.declared; item = filed_item w.interfaces.files w.item n.walk.world.item.filed; among = path_among (walk_item w) (length n.prefix) link at } }
 
 pub returns-clause-adds : goal.returns-clause-adds
-returns-clause-adds c = λ ts inside n.
+returns-clause-adds c = λ g n.
     let w = walk_of c.args.item.now c.args.walk.now in
-    let is = w.walk.interfaces.now in
+    let is = w.interfaces in
     let link = path_link c.args.link in
     let id = c.in_ok-id.id in
     let leads = link_leads n id c.in_ok-id.ensures.leads in
     let present = called_at (prefix_of is.files) is.arena is.by_name (path_scope (walk_item w).top link.path) id is.prefix is.found leads.1 in
-    member_link w n.prefix (stage ts inside c.args.walked.now) link id _ leads.1 present refl (c.in_ok-put_link.ensures.puts n.keyed) (λ ys seen. c.in_ok-seen.ensures ys (SideLink link) (refl, refl, refl) seen)
+    member_link w n.prefix (stage g c.args.walked.now) link id _ leads.1 present refl (c.in_ok-put_link.ensures.puts n.keyed) (λ ys seen. c.in_ok-seen.ensures ys (SideLink link) (refl, refl, refl) seen)
 
 pub returns-in_err-check_metadata-clause-first : goal.returns-in_err-check_metadata-clause-first
 returns-in_err-check_metadata-clause-first c =
     let p = err_from_is_err_and c.from_residual.result c.from_residual.ensures.1 in
     let said = rw c.deref.ensures.value at c.in_err-check_metadata.ensures in
-    rw (p.1, p.2) (λ ts inside n. link_found (failed _) (walk_of c.args.item.now c.args.walk.now) (path_link c.args.link) (stage ts inside c.args.walked.now) n (or_found said (link_noted n _)))
+    rw (p.1, p.2) (λ g n. link_found (failed _) (walk_of c.args.item.now c.args.walk.now) (path_link c.args.link) (stage g c.args.walked.now) n (or_found said (link_noted n _)))
 
 pub returns-in_err-id-clause-first : goal.returns-in_err-id-clause-first
 returns-in_err-id-clause-first c =
     let p = err_from_is_err_and c.from_residual-in_err-id.result c.from_residual-in_err-id.ensures.1 in
     let noted : metadata_fault (path_link c.args.link).attributes ≡ None = rw c.deref.ensures.value at c.in_ok-check_metadata.ensures in
-    rw (p.1, p.2) (λ ts inside n. link_found (failed _) (walk_of c.args.item.now c.args.walk.now) (path_link c.args.link) (stage ts inside c.args.walked.now) n (or_found c.in_err-id.ensures.first (link_lost n _ noted)))
+    rw (p.1, p.2) (λ g n. link_found (failed _) (walk_of c.args.item.now c.args.walk.now) (path_link c.args.link) (stage g c.args.walked.now) n (or_found c.in_err-id.ensures.first (link_lost n _ noted)))
 
 pub returns-in_err-put_link-clause-first : goal.returns-in_err-put_link-clause-first
 returns-in_err-put_link-clause-first c =
     let p = err_from_is_err_and c.from_residual-in_err-put_link.result c.from_residual-in_err-put_link.ensures.1 in
     let noted : metadata_fault (path_link c.args.link).attributes ≡ None = rw c.deref.ensures.value at c.in_ok-check_metadata.ensures in
-    rw (p.1, p.2) (λ ts inside n. link_found (failed _) (walk_of c.args.item.now c.args.walk.now) (path_link c.args.link) (stage ts inside c.args.walked.now) n (or_found c.in_err-put_link.ensures.first (link_put n c.in_ok-id.id _ noted c.in_ok-id.ensures.first (link_leads n c.in_ok-id.id c.in_ok-id.ensures.leads).1)))
+    rw (p.1, p.2) (λ g n. link_found (failed _) (walk_of c.args.item.now c.args.walk.now) (path_link c.args.link) (stage g c.args.walked.now) n (or_found c.in_err-put_link.ensures.first (link_put n c.in_ok-id.id _ noted c.in_ok-id.ensures.first (link_leads n c.in_ok-id.id c.in_ok-id.ensures.leads).1)))
 
 pub returns-in_err-seen-clause-first : goal.returns-in_err-seen-clause-first
-returns-in_err-seen-clause-first c = λ ts inside n test right. memory_found _ c.from_residual-in_err-seen.result c.from_residual-in_err-seen.ensures.1
+returns-in_err-seen-clause-first c = λ g n test right. memory_found _ c.from_residual-in_err-seen.result c.from_residual-in_err-seen.ensures.1
 
 pub returns-clause-first : goal.returns-clause-first
-returns-clause-first c = λ ts inside n.
+returns-clause-first c = λ g n.
     let noted : metadata_fault (path_link c.args.link).attributes ≡ None = rw c.deref.ensures.value at c.in_ok-check_metadata.ensures in
-    link_found (done c.in_ok-id.id) (walk_of c.args.item.now c.args.walk.now) (path_link c.args.link) (stage ts inside c.args.walked.now) n (link_put n c.in_ok-id.id _ noted c.in_ok-id.ensures.first (link_leads n c.in_ok-id.id c.in_ok-id.ensures.leads).1 c.in_ok-put_link.ensures.first)
+    link_found (done c.in_ok-id.id) (walk_of c.args.item.now c.args.walk.now) (path_link c.args.link) (stage g c.args.walked.now) n (link_put n c.in_ok-id.id _ noted c.in_ok-id.ensures.first (link_leads n c.in_ok-id.id c.in_ok-id.ensures.leads).1 c.in_ok-put_link.ensures.first)

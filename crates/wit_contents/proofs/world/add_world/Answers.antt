@@ -1,8 +1,5 @@
 use Rattle.std.proofs.Common.{[], ◌∷◌, refl, length, Some, ap}
-use Rattle.wit_arena.proofs.Common.{index_world}
-use Rattle.wit_items.specs.BorrowedItems.{others_of}
-use Rattle.wit_items.specs.Found.{world_name}
-use Rattle.wit_items.proofs.Found.{found_put, found_wider, prefix_wider}
+use Rattle.wit_contents.proofs.Names.{found_put, found_wider, index_world, others_of, prefix_wider, world_name}
 use Rattle.wit_contents.proofs.world.add_world.Goals as goal
 
 pub invariant_of-worlds : goal.invariant_of-worlds

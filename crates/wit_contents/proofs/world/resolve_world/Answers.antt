@@ -1,9 +1,5 @@
 use Rattle.std.proofs.Common.{◌≡◌, ◌++◌, ◌∷◌, [], sym, ap, ◌∙◌, subst}
-use Rattle.wit_syntax.proofs.Common.{Id, List, err_from_is_err_and, on_ok_weaker}
-use Rattle.wit_walk.proofs.Common.{finds_memory}
-use Rattle.wit_arena.proofs.Common.{World}
-use Rattle.wit_items.specs.BorrowedItems.{item_view}
-use Rattle.wit_contents.specs.Worlds.{AddsNextWorld, AddsTo, AreIndexed}
+use Rattle.wit_contents.proofs.Names.{AddsNextWorld, AddsTo, AreIndexed, Id, List, World, err_from_is_err_and, finds_memory, item_view, on_ok_weaker}
 use Rattle.wit_contents.proofs.world.resolve_world.Goals as goal
 
 pub world_of-requires : goal.world_of-requires

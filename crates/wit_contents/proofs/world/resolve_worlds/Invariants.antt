@@ -1,10 +1,6 @@
 use Rattle.std.proofs.Common.{◌≡◌, [], None, Option, map, take}
-use Rattle.wit_syntax.proofs.Common.{Fault, Item, in_order, worlds_of, WorldNamed}
-use Rattle.wit_walk.proofs.Common.{first_in}
-use Rattle.wit_arena.proofs.Common.{IsNameIndex, worlds_at}
-use Rattle.wit_items.specs.ForeignAddresses.{prefix_of}
-use Rattle.wit_items.specs.BorrowedItems.{item_view, others_of}
-use Rattle.wit_contents.specs.Worlds.{AreRightOfWorlds}
+use Rattle.wit_contents.proofs.Names.{AreRightOfWorlds, Fault, IsNameIndex, WorldNamed, first_in, in_order, item_view, others_of, prefix_of, worlds_at, worlds_of}
+use Rattle.wit_arena.proofs.Common.{Item}
 use Rattle.wit_contents.proofs.WorldsMore.{AreWorldsTo}
 use Rattle.wit_contents.proofs.world.resolve_worlds.Given as goal
 

@@ -1,5 +1,5 @@
 use Rattle.std.proofs.Common.{◌++◌, List, refl, ap, ◌∙◌, append_assoc}
-use Rattle.wit_arena.proofs.Common.{Required}
+use Rattle.wit_contents.proofs.Names.{Required}
 use Rattle.wit_contents.proofs.world.settled_content.Goals as goal
 
 pub returns-clause-settled : goal.returns-clause-settled

@@ -1,6 +1,5 @@
 use Rattle.std.proofs.Common.{◌++◌, List, map, sym, ap, ◌∙◌, subst}
-use Rattle.wit_syntax.proofs.Common.{AllDiffer, Id}
-use Rattle.wit_arena.proofs.Common.{Required}
+use Rattle.wit_contents.proofs.Names.{AllDiffer, Id, Required}
 use Rattle.wit_contents.proofs.WorldParts.{texts_differ}
 use Rattle.wit_contents.proofs.world.sides_of_names.Goals as goal
 

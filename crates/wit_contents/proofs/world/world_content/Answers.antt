@@ -1,23 +1,13 @@
 use Rattle.std.proofs.Common.{◌++◌, Bool, List, length, map, sym, ap, ◌∙◌, subst}
-use Rattle.wit_syntax.proofs.Common.{AllDiffer, Declared, Exported, Id, IfOk-weaker, Imported, Item, about, err_from_is_err_and, flat_map, in_turn, includes as written_includes, is_ascii_uppercase, list_any, local_name, part_functions, scope_names}
-use Rattle.wit_types.specs.declared.types.TypeOwner.TheVariants.{World as OfWorld}
-use Rattle.wit_walk.proofs.Common.{finds_memory, reports_same}
-use Rattle.wit_arena.proofs.Common.{AreIncludes}
-use Rattle.wit_rules.specs.Signatures.{AreResults}
-use Rattle.wit_items.specs.BorrowedItems.{item_view, others_of}
-use Rattle.wit_items.specs.ItemPaths.{HasItem}
-use Rattle.wit_items.proofs.Usable.{filed_item}
-use Rattle.wit_links.specs.Includes.{addresses_of, includes_fault}
+use Rattle.wit_contents.proofs.Names.{AddsContent, AllDiffer, AreIncludes, Exported, HasItem, Id, IfOk-weaker, Imported, IsSettled, IsTurn, addresses_of, err_from_is_err_and, filed_item, finds_memory, in_turn, includes as written_includes, includes_fault, is_ascii_uppercase, item_view, list_any, local_name, name_view, others_of, reports_same, scope_names}
+use Rattle.wit_contents.specs.declared.walk.Growing.{Growing}
+use Rattle.wit_contents.specs.declared.walk.WorldScope.{WorldScope}
+use Rattle.wit_arena.proofs.Common.{Item}
 use Rattle.wit_item_entries.proofs.ScopeFunctions.{turn_added}
-use Rattle.wit_scopes.specs.BorrowedNames.{name_view}
-use Rattle.wit_item_entries.specs.NameOrder.{IsTurn}
 use Rattle.wit_item_entries.proofs.ReachedFaults.{done, failed}
-use Rattle.wit_contents.specs.Walk.{walk_of}
-use Rattle.wit_contents.specs.Worlds.{AddsContent, IsSettled, IsWalkOf}
-use Rattle.wit_contents.specs.declared.sides.WorldScope.{WorldScope}
 use Rattle.wit_contents.proofs.FileFaults.{memory_found}
-use Rattle.wit_contents.proofs.WorldParts.{alone_adds, alone_none, content_adds, none_there, turn_of}
-use Rattle.wit_contents.proofs.WorldFaults.{includes_first, item_here, names_first, world_found}
+use Rattle.wit_contents.proofs.WorldParts.{alone_adds, alone_none, content_adds, none_there, walk_there}
+use Rattle.wit_contents.proofs.WorldFaults.{includes_first, item_here, names_first, world_alone, world_found}
 use Rattle.wit_contents.proofs.world.world_content.Goals as goal
 
 -- whether a name has a letter in upper case
@@ -60,7 +50,7 @@ returns-then-not-have_upper_case-clause-first c = λ stable wrong right.
     let empty = none_there i c.declared_world-world.result.now c.world_items.result.now c.declared_world-world.ensures c.world_items.ensures (sym c.put_nothing.ensures ∙ c.if-put_nothing.true) in
     let lower = ap has_upper (sym c.deref.ensures.value) ∙ sym c.have_upper_case.ensures ∙ c.if-not-have_upper_case.true in
     let included = sym (ap (includes_fault c.args.worlds.now) (item_here c.args.item.now c.declared_world-world.result.now c.requires.item c.declared_world-world.ensures)) ∙ c.in_ok-includes.ensures.first in
-    world_found c.args.worlds.now i c.args.resolving.now.growing.types wrong c.args.resolving.now.growing.inside right c.requires.item.named stable names c.world_names.new.types n c.in_ok-names.ensures.first included (done names) (λ member sides. alone_none (item_view i) empty names.turn.items (turn_added _ _ _ _ _ _ _ _ n) lower member)
+    world_alone c.args.worlds.now i c.args.resolving.now.growing wrong right c.requires.item.named stable names c.world_names.new.types n c.in_ok-names.ensures.first included (done names) (alone_none (item_view i) empty names.turn.items (turn_added _ _ _ _ _ _ _ _ n) lower right.member)
 
 -- or something may
 pub written_functions-requires : goal.written_functions-requires
@@ -70,44 +60,35 @@ written_functions-requires c =
 
 pub walk_sides-requires : goal.walk_sides-requires
 walk_sides-requires c =
-    let item = item_view c.args.item.now in
     let are = subst (λ (w : Item). AreIncludes (addresses_of c.args.worlds.now) w c.in_ok-includes.includes) (item_here c.args.item.now c.declared_world-world.result.now c.requires.item c.declared_world-world.ensures) c.in_ok-includes.ensures.are in
-    record {
-      world = c.requires;
-      functions = c.in_ok-written.ensures.functions ∙ ap (λ (d : Declared). flat_map part_functions (about d).parts) (sym c.declared_world-world.ensures);
-      results = subst (AreResults c.in_ok-written.written.results) (ap (map name_view) c.deref-2.ensures.value ∙ c.requires.item.named) c.in_ok-written.ensures.results;
-      turn = turn_added _ _ _ _ _ _ _ _ c.in_ok-names.ensures.adds;
-      closed = c.is_closed-closed.ensures (written_includes item) (ap length c.as_slice.ensures ∙ are.count);
-    }
+    let scope : WorldScope = record { names = c.in_ok-names.names; results = c.in_ok-written.written.results; functions = c.in_ok-written.written.functions; closed = c.is_closed-closed.result } in
+    let closed = c.is_closed-closed.ensures (written_includes (item_view c.args.item.now)) (ap length c.as_slice.ensures ∙ are.count) in
+    let walks = walk_there c.args.worlds.now.interfaces.now c.args.item.now scope _ _ c.requires c.declared_world-world.ensures (turn_added _ _ _ _ _ _ _ _ c.in_ok-names.ensures.adds) c.in_ok-written.ensures.functions c.deref-2.ensures.value c.in_ok-written.ensures.results closed in
+    walks
 
 pub settled_content-requires : goal.settled_content-requires
-settled_content-requires c = c.in_ok-walked.ensures.adds.adds.keyed
+settled_content-requires c = c.in_ok-walked.ensures.adds.2.keyed
 
 pub returns-clause-adds : goal.returns-clause-adds
 returns-clause-adds c =
     let ws = c.args.worlds.now in
     let is = ws.interfaces.now in
     let item = item_view c.args.item.now in
-    let names = c.in_ok-names.names in
-    let o = OfWorld (length ws.arena) in
-    let old = c.args.resolving.now.growing.types in
-    let middle = c.world_names.new.types in
+    let required = c.in_ok-names.names.required.items in
     let m = c.in_ok-walked.walked in
     let h = c.in_ok-walked.ensures.adds in
-    let w = h.walk in
-    let of : IsWalkOf w c.args.item.now is names = h.of in
-    let added = turn_of w c.args.item.now is names of old middle o c.in_ok-names.ensures.adds in
     let are = subst (λ (w : Item). AreIncludes (addresses_of c.args.worlds.now) w c.in_ok-includes.includes) (item_here c.args.item.now c.declared_world-world.result.now c.requires.item c.declared_world-world.ensures) c.in_ok-includes.ensures.are in
-    let closed = c.is_closed-closed.ensures (written_includes item) (ap length c.as_slice.ensures ∙ are.count) in
+    let scope : WorldScope = record { names = c.in_ok-names.names; results = c.in_ok-written.written.results; functions = c.in_ok-written.written.functions; closed = c.is_closed-closed.result } in
+    let closed = c.is_closed-closed.ensures (written_includes (item_view c.args.item.now)) (ap length c.as_slice.ensures ∙ are.count) in
+    let walks = walk_there c.args.worlds.now.interfaces.now c.args.item.now scope _ _ c.requires c.declared_world-world.ensures (turn_added _ _ _ _ _ _ _ _ c.in_ok-names.ensures.adds) c.in_ok-written.ensures.functions c.deref-2.ensures.value c.in_ok-written.ensures.results closed in
     let before = c.args.resolving.now.required.items in
-    let after = c.settled_content.new.required.items in
-    let inside = c.args.resolving.now.growing.inside in
+    let after = c.settled_content.new.required in
+    let middle : Growing = record { types = c.world_names.new.types; inside = c.args.resolving.now.growing.inside } in
     let new = c.walk_sides.new.growing in
-    let scope : WorldScope = record { names = names; results = c.in_ok-written.written.results; functions = c.in_ok-written.written.functions; closed = c.is_closed-closed.result } in
-    IfOk-weaker c.settled_content.result (IsSettled scope m c.in_ok-includes.includes before after) (AddsContent ws c.args.item.now c.args.resolving.now (record { growing = new; required = c.settled_content.new.required })) (λ content made world has ss known. record {
-      own = names.required.items ++ m.required.items;
+    IfOk-weaker c.settled_content.result (IsSettled scope m c.in_ok-includes.includes before after.items) (AddsContent ws c.args.item.now c.args.resolving.now (record { growing = new; required = after })) (λ content made world has ss known. record {
+      own = required ++ m.required.items;
       list = made.required;
-      holds = rw of.interfaces at (content_adds (walk_of c.args.item.now w) (others_of is.files) ws.arena old middle new.types inside new.inside names.required.items m of.walk added h.start h.begun h.adds world ss known has.says (has.imports ∙ made.sides Imported (written_includes item) closed) (has.exports ∙ made.sides Exported (written_includes item) closed) (rw (has.includes ∙ made.included) are));
+      holds = content_adds (record { item = c.args.item.now; scope = scope; interfaces = is }) (others_of is.files) ws.arena c.args.resolving.now.growing.types middle new required m walks c.in_ok-names.ensures.adds h.0 h.1 h.2 world ss known has.says (has.imports ∙ made.sides Imported (written_includes item) closed) (has.exports ∙ made.sides Exported (written_includes item) closed) (rw (has.includes ∙ made.included) are);
     }) c.settled_content.ensures.settled
 
 -- the first fault: of its names, of its includes, or of what is on its sides
@@ -116,31 +97,37 @@ returns-in_err-names-clause-first c =
     let p = err_from_is_err_and c.from_residual.result c.from_residual.ensures.1 in
     let ws = c.args.worlds.now in
     let i = c.args.item.now in
-    let old = c.args.resolving.now.growing.types in
-    rw (p.1, p.2) (λ stable wrong right. names_first ws i old wrong c.args.resolving.now.growing.inside right c.requires.item.named stable _ c.in_err-names.ensures.first)
+    rw (p.1, p.2) (λ stable wrong right. names_first ws i c.args.resolving.now.growing wrong right c.requires.item.named stable _ c.in_err-names.ensures.first)
 
 pub returns-in_err-includes-clause-first : goal.returns-in_err-includes-clause-first
 returns-in_err-includes-clause-first c =
     let p = err_from_is_err_and c.from_residual-in_err-includes.result c.from_residual-in_err-includes.ensures.1 in
     let ws = c.args.worlds.now in
     let i = c.args.item.now in
-    let old = c.args.resolving.now.growing.types in
     let e = c.in_ok-names.ensures in
     let found = reports_same (ap (includes_fault c.args.worlds.now) (item_here c.args.item.now c.declared_world-world.result.now c.requires.item c.declared_world-world.ensures)) c.in_err-includes.ensures.first in
-    rw (p.1, p.2) (λ stable wrong right. includes_first ws i old wrong c.args.resolving.now.growing.inside right c.requires.item.named stable c.in_ok-names.names c.world_names.new.types e.adds e.first _ found)
+    rw (p.1, p.2) (λ stable wrong right. includes_first ws i c.args.resolving.now.growing wrong right c.requires.item.named stable c.in_ok-names.names c.world_names.new.types e.adds e.first _ found)
 
 pub returns-in_err-walked-clause-first : goal.returns-in_err-walked-clause-first
 returns-in_err-walked-clause-first c =
     let p = err_from_is_err_and c.from_residual-in_err-walked.result c.from_residual-in_err-walked.ensures.1 in
     let e = c.in_ok-names.ensures in
     let included = sym (ap (includes_fault c.args.worlds.now) (item_here c.args.item.now c.declared_world-world.result.now c.requires.item c.declared_world-world.ensures)) ∙ c.in_ok-includes.ensures.first in
-    rw (p.1, p.2) (λ stable wrong right. world_found c.args.worlds.now c.args.item.now c.args.resolving.now.growing.types wrong c.args.resolving.now.growing.inside right c.requires.item.named stable c.in_ok-names.names c.world_names.new.types e.adds e.first included (failed _) c.in_err-walked.ensures.first)
+    let are = subst (λ (w : Item). AreIncludes (addresses_of c.args.worlds.now) w c.in_ok-includes.includes) (item_here c.args.item.now c.declared_world-world.result.now c.requires.item c.declared_world-world.ensures) c.in_ok-includes.ensures.are in
+    let scope : WorldScope = record { names = c.in_ok-names.names; results = c.in_ok-written.written.results; functions = c.in_ok-written.written.functions; closed = c.is_closed-closed.result } in
+    let closed = c.is_closed-closed.ensures (written_includes (item_view c.args.item.now)) (ap length c.as_slice.ensures ∙ are.count) in
+    let walks = walk_there c.args.worlds.now.interfaces.now c.args.item.now scope _ _ c.requires c.declared_world-world.ensures (turn_added _ _ _ _ _ _ _ _ c.in_ok-names.ensures.adds) c.in_ok-written.ensures.functions c.deref-2.ensures.value c.in_ok-written.ensures.results closed in
+    rw (p.1, p.2) (λ stable wrong right. world_found c.args.worlds.now c.args.item.now c.args.resolving.now.growing wrong right c.requires.item.named stable scope c.world_names.new.types e.adds e.first included (failed _) walks c.in_err-walked.ensures.first)
 
 pub returns-clause-first : goal.returns-clause-first
 returns-clause-first c = λ stable wrong right.
     let e = c.in_ok-names.ensures in
     let included = sym (ap (includes_fault c.args.worlds.now) (item_here c.args.item.now c.declared_world-world.result.now c.requires.item c.declared_world-world.ensures)) ∙ c.in_ok-includes.ensures.first in
-    finds_memory (wrong (item_view c.args.item.now)) c.settled_content.result (world_found c.args.worlds.now c.args.item.now c.args.resolving.now.growing.types wrong c.args.resolving.now.growing.inside right c.requires.item.named stable c.in_ok-names.names c.world_names.new.types e.adds e.first included (done c.in_ok-walked.walked) c.in_ok-walked.ensures.first) c.settled_content.ensures.refused
+    let are = subst (λ (w : Item). AreIncludes (addresses_of c.args.worlds.now) w c.in_ok-includes.includes) (item_here c.args.item.now c.declared_world-world.result.now c.requires.item c.declared_world-world.ensures) c.in_ok-includes.ensures.are in
+    let scope : WorldScope = record { names = c.in_ok-names.names; results = c.in_ok-written.written.results; functions = c.in_ok-written.written.functions; closed = c.is_closed-closed.result } in
+    let closed = c.is_closed-closed.ensures (written_includes (item_view c.args.item.now)) (ap length c.as_slice.ensures ∙ are.count) in
+    let walks = walk_there c.args.worlds.now.interfaces.now c.args.item.now scope _ _ c.requires c.declared_world-world.ensures (turn_added _ _ _ _ _ _ _ _ c.in_ok-names.ensures.adds) c.in_ok-written.ensures.functions c.deref-2.ensures.value c.in_ok-written.ensures.results closed in
+    finds_memory (wrong (item_view c.args.item.now)) c.settled_content.result (world_found c.args.worlds.now c.args.item.now c.args.resolving.now.growing wrong right c.requires.item.named stable scope c.world_names.new.types e.adds e.first included (done c.in_ok-walked.walked) walks c.in_ok-walked.ensures.first) c.settled_content.ensures.refused
 
 -- or memory failed
 pub returns-in_err-sides-clause-first : goal.returns-in_err-sides-clause-first

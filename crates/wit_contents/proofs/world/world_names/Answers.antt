@@ -1,9 +1,5 @@
 use Rattle.std.proofs.Common.{◌≡◌, map, sym, ap, ◌∙◌, subst}
-use Rattle.wit_syntax.proofs.Common.{scope_names}
-use Rattle.wit_scopes.specs.BorrowedNames.{name_view}
-use Rattle.wit_scopes.specs.PlacedNames.{AreNamesPlaced}
-use Rattle.wit_items.specs.ForeignAddresses.{prefix_of}
-use Rattle.wit_items.specs.BorrowedItems.{item_view}
+use Rattle.wit_contents.proofs.Names.{AreNamesPlaced, item_view, name_view, prefix_of, scope_names}
 use Rattle.wit_contents.proofs.world.world_names.Goals as goal
 
 pub resolve_names-requires : goal.resolve_names-requires

@@ -1,9 +1,6 @@
-use Rattle.wit_syntax.proofs.Common.{about, declared_metadata, err_from_is_err_and}
-use Rattle.wit_arena.proofs.Common.{IsWorld}
-use Rattle.wit_items.specs.BorrowedItems.{item_view}
+use Rattle.wit_contents.proofs.Names.{HasContent, IsWorld, about, declared_metadata, err_from_is_err_and, item_view}
 use Rattle.wit_item_entries.proofs.Telling.{world_stated}
 use Rattle.wit_items.specs.SourceItems.{metadata_view}
-use Rattle.wit_contents.specs.Worlds.{HasContent}
 use Rattle.wit_contents.proofs.WorldFaults.{unstable_first}
 use Rattle.wit_contents.proofs.FileFaults.{memory_found}
 use Rattle.wit_contents.proofs.world.world_of.Goals as goal
@@ -28,7 +25,7 @@ returns-in_err-as_stated-clause-first c =
     let p = err_from_is_err_and c.from_residual.result c.from_residual.ensures.1 in
     let ws = c.args.worlds.now in
     let i = c.args.item.now in
-    rw (p.1, p.2) (λ wrong right. unstable_first ws i c.args.resolving.now.growing.types wrong c.args.resolving.now.growing.inside right _ c.in_err-as_stated.ensures.first)
+    rw (p.1, p.2) (λ wrong right. unstable_first ws i c.args.resolving.now.growing wrong right _ c.in_err-as_stated.ensures.first)
 
 pub returns-in_err-metadata-clause-first : goal.returns-in_err-metadata-clause-first
 returns-in_err-metadata-clause-first c =

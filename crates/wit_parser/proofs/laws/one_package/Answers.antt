@@ -1,4 +1,4 @@
-use Rattle.wit_arena.proofs.Common.{one_made}
+use Rattle.wit_items.proofs.Common.{one_made}
 use Rattle.wit_parser.proofs.laws.one_package.Goals as goal
 
 pub returns : goal.returns

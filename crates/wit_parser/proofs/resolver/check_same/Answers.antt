@@ -1,5 +1,5 @@
 use Rattle.std.proofs.Common.{Some, inl, inr, sym, ap, ◌∙◌}
-use Rattle.wit_syntax.proofs.Common.{mismatch, not_both, package_of}
+use Rattle.wit_items.proofs.Common.{mismatch, not_both, package_of}
 use Rattle.wit_parser.proofs.Pushing.{other_here, same_here}
 use Rattle.wit_parser.proofs.resolver.check_same.Goals as goal
 

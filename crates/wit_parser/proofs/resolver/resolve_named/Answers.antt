@@ -1,10 +1,8 @@
-use Rattle.std.proofs.Common.{inl, ◌∙◌, subst}
-use Rattle.wit_syntax.proofs.Common.{err_from_is_err_and}
-use Rattle.wit_arena.proofs.Common.{Makes}
-use Rattle.wit_walk.proofs.Common.{legal}
-use Rattle.wit_contents.specs.AddedFiles.{MakeContents, package_with}
+use Rattle.std.proofs.Common.{inl, sym, ap₂, ◌∙◌, subst}
+use Rattle.wit_items.proofs.Common.{Docs, Makes, PackageName, err_from_is_err_and, legal}
+use Rattle.wit_model.specs.Packages.{package_of_parts}
+use Rattle.wit_contents.specs.AddedFiles.{MakeContents}
 use Rattle.wit_parser.proofs.FirstFault.{faultless, reported}
-use Rattle.wit_parser.proofs.SamePackage.{same_package}
 use Rattle.wit_parser.proofs.resolver.resolve_named.Goals as goal
 
 pub returns-clause-made : goal.returns-clause-made
@@ -15,10 +13,7 @@ returns-clause-made c =
     let made : MakeContents files of.arenas.types of.arenas.interfaces of.arenas.worlds of.foreign = rw c.in_ok-contents.ensures.both.0 c.in_ok-made.ensures.made in
     let n = rw c.in_ok-contents.ensures.both.1 at c.package_heading.ensures in
     let right = legal files (faultless files header c.requires.header c.in_ok-made.ensures.first) in
-    let p = c.new.result in
-    let e = c.new.ensures in
-    let q = package_with files header of.arenas.types of.arenas.interfaces of.arenas.worlds of.foreign in
-    let same = same_package p q (e.name ∙ n.name) e.name_span (e.docs ∙ n.docs) e.types e.interfaces e.worlds e.foreign_deps e.foreign_dep_spans e.unknown_type_spans e.required_resource_types in
+    let same = ap₂ (λ (name : PackageName) (docs : Docs). package_of_parts name of.arenas docs header.span of.foreign) (sym n.name) (sym n.docs) ∙ sym c.new.ensures in
     record { legal = right; whole = subst (Makes files) same (made.made header c.requires.header right) }
 
 pub returns-in_err-made-clause-first : goal.returns-in_err-made-clause-first

@@ -1,8 +1,7 @@
 use Rattle.std.proofs.Common.{◌≡◌, sym, subst, ◌∙◌}
-use Rattle.wit_syntax.proofs.Common.{headers, last_header}
+use Rattle.wit_items.proofs.Common.{headers, headers-append, last_header}
 use Rattle.wit_items.specs.FileHeaders.{header_at}
 use Rattle.wit_parser.proofs.LastHeader.{some_is, none_is, header_more, header_kept}
-use Rattle.wit_items.proofs.Documented.{headers-append}
 use Rattle.wit_parser.proofs.resolver.Resolver.keep.Goals as goal
 
 pub invariant_of-self-then-has_header : goal.invariant_of-self-then-has_header

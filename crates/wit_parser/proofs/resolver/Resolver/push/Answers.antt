@@ -1,5 +1,4 @@
-use Rattle.wit_syntax.proofs.Common.{err_from_is_err_and, headers, option_or}
-use Rattle.wit_walk.proofs.Common.{finds_memory, nesting_fault, none_both, push_fault, reports_back, reports_prefix, second_docs_fault}
+use Rattle.wit_items.proofs.Common.{err_from_is_err_and, finds_memory, headers, nesting_fault, none_both, option_or, push_fault, reports_back, reports_prefix, second_docs_fault}
 use Rattle.wit_parser.proofs.resolver.Resolver.push.Goals as goal
 
 pub returns-in_err-check_header-clause-first : goal.returns-in_err-check_header-clause-first

@@ -1,5 +1,4 @@
-use Rattle.wit_syntax.proofs.Common.{IfOk-weaker}
-use Rattle.wit_arena.proofs.Common.{HasArena, IsFaithful, IsMadeOf, Makes}
+use Rattle.wit_items.proofs.Common.{HasArena, IfOk-weaker, IsFaithful, IsMadeOf, Makes}
 use Rattle.wit_parser.proofs.FirstFault.{found_broken, found_legal}
 use Rattle.wit_parser.proofs.PartsMade.{arena_of_made, faithful_of_made}
 use Rattle.wit_parser.proofs.resolver.Resolver.resolve.Goals as goal

@@ -1,6 +1,5 @@
 use Rattle.std.proofs.Common.{◌≡◌, List, None, inl, inr, sym, ap, ◌∙◌, subst}
-use Rattle.wit_syntax.proofs.Common.{Fault, PackageFile, fault, last_header, option_copied, span_of_ends}
-use Rattle.wit_walk.proofs.Common.{IsFirst}
+use Rattle.wit_items.proofs.Common.{Fault, IsFirst, PackageFile, fault, last_header, option_copied, span_of_ends}
 use Rattle.wit_parser.proofs.FirstFault.{headerless}
 use Rattle.wit_parser.proofs.resolver.Resolver.resolve_pushed.Goals as goal
 
