@@ -1,6 +1,7 @@
 -- Sources that are stated alike come to one first fault, whatever is read of them: what is read is one but for addresses, and alike trees come to one fault.
 use Rattle.std.proofs.Common.{◌≡◌, ℕ, suc, Bool, not, cond, ◌&&◌, ◌||◌, ◌==◌, List, [], ◌∷◌, ◌++◌, map, length, Bor, Option, Some, None, refl, sym, ap, ap₂, ◌∙◌, subst}
-use Rattle.wit_syntax.proofs.Common.{AllZip, AstItem, Fault, NestedPackage, PackageFile, PackageName, SourceFile, Span, fault, fault_in, headers, last_header, list_any, mismatch, option_map, option_or, package_of, package_words, same_package}
+use Rattle.wit_items.proofs.Common.{AllZip, Fault, IsOr, NestedPackage, PackageFile, PackageName, SourceFile, Span, earliest, fault, fault_in, have_docs, headers, is_documented, last_header, list_any, mismatch, option_map, option_or, other_fault, package_of, package_words, same_package, second_docs_fault}
+use Rattle.wit_walk.proofs.Common.{AstItem}
 use Rattle.wit_tree.specs.declared.tree.PackageName.{PackageName as Header}
 use Rattle.wit_lex.specs.declared.fault.ReadFault.{ReadFault}
 use Rattle.wit_lex.specs.declared.source.Source.{Source}
@@ -8,7 +9,6 @@ use Rattle.wit_lex.specs.Sources.{stated_of}
 use Rattle.wit_grammar.specs.Laws.{IsSpelled, StopsAt}
 use Rattle.wit_grammar.specs.Trees.{File, Nested, PackageId}
 use Rattle.wit_grammar.specs.Seen.{see_declaration, see_file, see_nested, see_package_id}
-use Rattle.wit_walk.proofs.Common.{IsOr, earliest, have_docs, is_documented, other_fault, second_docs_fault}
 use Rattle.wit_alike.proofs.Lists.{zip_after, zip_any, zip_append, zip_first, zip_flat, zip_map, zip_of}
 use Rattle.wit_alike.proofs.Paths.{SameAst, SameHeader, ast_of, same_package_of}
 use Rattle.wit_alike.proofs.Items.{SameFile}

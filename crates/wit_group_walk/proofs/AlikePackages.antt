@@ -1,8 +1,8 @@
 -- Files that are alike make one package.
 use Rattle.std.proofs.Common.{◌≡◌, List, sym}
-use Rattle.wit_syntax.proofs.Common.{AllZip, AstItem, IsLegal, PackageFile}
+use Rattle.wit_items.proofs.Common.{AllZip, IsLegal, Makes, PackageFile, UnresolvedPackage, one_made}
+use Rattle.wit_walk.proofs.Common.{AstItem}
 use Rattle.wit_tree.specs.declared.tree.AstItem.TheVariants as ast
-use Rattle.wit_arena.proofs.Common.{Makes, UnresolvedPackage, one_made}
 use Rattle.wit_alike.proofs.Paths.{SameAst}
 use Rattle.wit_alike.proofs.Items.{SameFile}
 use Rattle.wit_alike.proofs.Tables.{turned}

@@ -1,7 +1,7 @@
 -- Sources have one order by their paths, and so have those that are stated alike.
 use Rattle.std.proofs.Common.{◌≡◌, ℕ, suc, ◌<◌, ◌≤◌, Bool, true, false, List, [], ◌∷◌, length, map, get_or, string_bytes, refl, sym, ap, ap₂, ◌∙◌, subst, true≢false, arith}
 use Rattle.std.specs.Cmp.{IsStrictWeakOrder}
-use Rattle.wit_syntax.proofs.Common.{AllZip, false_from_ne_true, filter, is_lt, nat_cmp, ranks_by, slice_cmp, sorted_far, ties}
+use Rattle.wit_items.proofs.Common.{AllZip, false_from_ne_true, filter, is_lt, nat_cmp, ranks_by, slice_cmp, sorted_far, ties}
 use Rattle.std.proofs.lemmas.Cmp.{nat_list_cmp_total}
 use Rattle.wit_lex.specs.declared.source.Source.{Source}
 use Rattle.wit_lex.specs.Sources.{stated_of}

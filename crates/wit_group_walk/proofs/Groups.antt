@@ -1,10 +1,8 @@
 -- Sources that make a group have no fault.
 use Rattle.std.proofs.Common.{◌≡◌, ◌⊎◌, List, [], ◌∷◌, ◌++◌, Option, Some, None, inl, inr, refl, sym, ap, ◌∙◌, subst, append_assoc}
-use Rattle.wit_syntax.proofs.Common.{AllZip, Fault, PackageFile, SourceFile, append-nil, last_header, map-append}
+use Rattle.wit_items.proofs.Common.{AllZip, Fault, IsMadeOf, PackageFile, SourceFile, UnresolvedPackage, append-nil, earliest, first_after, last_header, map-append, or_none, or_none_both}
 use Rattle.wit_lex.specs.declared.source.Source.{Source}
 use Rattle.wit_bundle.specs.SourcePaths.{IsByPath}
-use Rattle.wit_arena.proofs.Common.{IsMadeOf, UnresolvedPackage}
-use Rattle.wit_walk.proofs.Common.{earliest, first_after, or_none, or_none_both}
 use Rattle.wit_nested.specs.Nested.{GrowByNested, IsMadeByNested}
 use Rattle.wit_groups.specs.Groups.{AreUsed, IsGroup, IsTree}
 use Rattle.wit_groups.specs.Groups.AreUsed.{None as NoneUsed, More}

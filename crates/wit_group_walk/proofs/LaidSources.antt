@@ -1,6 +1,6 @@
 -- Sources of the same paths and texts have one first fault, whatever is read of them.
 use Rattle.std.proofs.Common.{◌≡◌, ℕ, List, [], ◌∷◌, Option, string_bytes, refl, sym, ap, ◌∙◌, subst}
-use Rattle.wit_syntax.proofs.Common.{AllZip, Fault, PackageFile}
+use Rattle.wit_items.proofs.Common.{AllZip, Fault, PackageFile}
 use Rattle.wit_lex.specs.declared.source.Source.{Source}
 use Rattle.wit_lex.specs.Sources.{as_stated, stated_of}
 use Rattle.wit_bundle.specs.Laid.{AreLaid}

@@ -1,6 +1,6 @@
 -- The line of a refusal is a function of its fault, and of the paths and texts of the sources.
 use Rattle.std.proofs.Common.{◌≡◌, ℕ, ◌+◌, ◌-◌, ◌≤◌, zero, suc, false, List, [], ◌∷◌, ◌++◌, length, string_bytes, Option, Some, None, refl, sym, ap, ◌∙◌, subst, true≢false, arith}
-use Rattle.wit_syntax.proofs.Common.{Fault, IsCharBoundary, ItemNotFound, OutOfMemory, ParseError, ParseErrorKind, Span, Syntax, TypeCycle, as_stated, codes, fault_of, map_at, option_map, slice_get, slice_get-map, slice_range}
+use Rattle.wit_items.proofs.Common.{Fault, IsCharBoundary, ItemNotFound, OutOfMemory, ParseError, ParseErrorKind, Span, Syntax, TypeCycle, as_stated, codes, fault_of, map_at, option_map, slice_get, slice_get-map, slice_range}
 use Rattle.std.specs.Fmt.{decimal}
 use Rattle.wit_lex.specs.declared.source.Source.{Source}
 use Rattle.wit_lex.specs.Sources.{IsLocated, IsTooLarge, LiesIn, ReportsTooLarge, stated_of}

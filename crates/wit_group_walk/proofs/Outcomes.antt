@@ -1,11 +1,10 @@
 -- Sources of the same paths and texts have one outcome, and that has one JSON.
 use Rattle.std.proofs.Common.{◌≡◌, ◌⊎◌, inl, inr, ℕ, ◌+◌, List, [], ◌∷◌, map, length, Some, None, string_bytes, refl, sym, ap, ap₂, ◌∙◌, arith}
-use Rattle.wit_syntax.proofs.Common.{Fault, IsAllocationFailure, ItemNotFound, OutOfMemory, ParseErrorKind, Span, Syntax, TypeCycle, as_stated as fault_stated, codes, fault_in, fault_of}
+use Rattle.wit_items.proofs.Common.{Fault, IsAllocationFailure, ItemNotFound, OutOfMemory, ParseErrorKind, Span, Syntax, TypeCycle, UnresolvedPackage, as_stated as fault_stated, codes, fault_in, fault_of}
 use Rattle.json.specs.Json.{Json, string}
 use Rattle.wit_lex.specs.declared.source.Source.{Source}
 use Rattle.wit_lex.specs.Sources.{ReportsTooLarge, as_stated}
 use Rattle.wit_bundle.specs.Laid.{AreLaid}
-use Rattle.wit_arena.proofs.Common.{UnresolvedPackage}
 use Rattle.wit_groups.specs.SourceFaults.{HaveFirst}
 use Rattle.wit_groups.specs.declared.group.UnresolvedPackageGroup.{UnresolvedPackageGroup}
 use Rattle.wit_json.specs.declared.member_words.Word.TheVariants as w

@@ -1,15 +1,13 @@
 -- The output of a text is one.
 use Rattle.std.proofs.Common.{◌≡◌, ℕ, List, [], ◌∷◌, ◌++◌, Option, Some, None, refl, sym, ap₂, ◌∙◌, subst, arith}
-use Rattle.wit_syntax.proofs.Common.{AllZip, Fault, IsLegal, NestedPackage, PackageFile, SourceFile, last_header}
+use Rattle.wit_items.proofs.Common.{AllZip, Fault, IsLegal, Makes, NestedPackage, PackageFile, SourceFile, UnresolvedPackage, earliest, first_after, first_in, in-append, last_header, none_both, or_none_both}
 use Rattle.wit_lex.specs.declared.source.Source.{Source}
 use Rattle.wit_lex.specs.Sources.{stated_of}
 use Rattle.wit_bundle.specs.Bundle.{sources_of}
 use Rattle.wit_bundle.specs.Laid.{AreLaid}
 use Rattle.wit_grammar.specs.Laws.{IsSpelled}
 use Rattle.wit_grammar.specs.Seen.{see_file}
-use Rattle.wit_arena.proofs.Common.{Makes, UnresolvedPackage}
 use Rattle.wit_alike.proofs.Lists.{zip_flat}
-use Rattle.wit_walk.proofs.Common.{earliest, first_after, first_in, in-append, none_both, or_none_both}
 use Rattle.wit_nested.specs.GroupFaults.{joined_faults, names_fault, nested_names}
 use Rattle.wit_nested.specs.Nested.{file_of}
 use Rattle.wit_nested.specs.PushFaults.{IsWalk, file_fault, files_of, inner_fault, nested_fault, nested_of}

@@ -1,6 +1,6 @@
 -- A refusal in plain values is a function of its fault, and of the paths and texts of the sources.
 use Rattle.std.proofs.Common.{◌≡◌, ℕ, ◌+◌, ◌-◌, ◌≤◌, Bool, List, length, string_bytes, refl, sym, ap, ◌∙◌, subst, arith}
-use Rattle.wit_syntax.proofs.Common.{Fault, IsCharBoundary, ItemNotFound, OutOfMemory, ParseError, ParseErrorKind, Span, Syntax, TypeCycle, as_stated, fault_of, kind_text, span_of}
+use Rattle.wit_items.proofs.Common.{Fault, IsCharBoundary, ItemNotFound, OutOfMemory, ParseError, ParseErrorKind, Span, Syntax, TypeCycle, as_stated, fault_of, kind_text, span_of}
 use Rattle.wit_lex.specs.declared.source.Source.{Source}
 use Rattle.wit_lex.specs.Sources.{LiesIn, stated_of}
 use Rattle.wit_bundle.specs.Laid.{AreLaid}

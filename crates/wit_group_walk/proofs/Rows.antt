@@ -1,13 +1,13 @@
 -- Sources with two faults, and the one that is first.
 use Rattle.std.proofs.Common.{◌≡◌, ℕ, suc, ◌+◌, ◌-◌, ◌<◌, ◌^◌, true, List, [], ◌∷◌, length, Option, Some, None, refl, lit<, arith}
-use Rattle.wit_syntax.proofs.Common.{AstItem, Attribute, Fault, Global, Id, NestedPackage, PackageFile, Row, SourceFile, Span, Vec, codes, fault, fault_in, is_label}
+use Rattle.wit_walk.proofs.Common.{AstItem}
+use Rattle.wit_items.proofs.Common.{Attribute, Fault, Global, Id, InOrder, NestedPackage, Outcome, PackageFile, Row, SourceFile, Span, Vec, codes, fault, fault_in, first_fault, is_label}
 use denote.RawPtr.{Ptr}
 use Rattle.wit_type_tree.specs.declared.leaves.Docs.{Docs as Comments}
 use Rattle.wit_type_tree.specs.declared.types.TypeBody.TheVariants as body
 use Rattle.wit_tree.specs.declared.tree.AstItem.TheVariants as ast
 use Rattle.wit_tree.specs.declared.tree.InterfaceItem.TheVariants as interface_item
 use Rattle.wit_tree.specs.declared.tree.PackageName.{PackageName as Header}
-use Rattle.wit_walk.proofs.Common.{InOrder, Outcome, first_fault}
 use Rattle.wit_nested.specs.GroupFaults.{group_fault}
 
 abbrev at : ℕ → ℕ → Span

@@ -1,6 +1,6 @@
 -- What is read of a source is one, but for addresses.
 use Rattle.std.proofs.Common.{◌≡◌, sym, ◌∙◌, string_bytes}
-use Rattle.wit_syntax.proofs.Common.{Err}
+use Rattle.wit_items.proofs.Common.{Err}
 use Rattle.wit_lex.specs.declared.fault.ReadError.TheVariants.{Fault as Stopped}
 use Rattle.wit_lex.specs.declared.source.Source.{Source}
 use Rattle.wit_grammar.specs.Seen.{see_file}

@@ -1,6 +1,6 @@
 -- Sources that are refused come to the refusal, and those that make a group to none.
 use Rattle.std.proofs.Common.{◌≡◌, ◌⊎◌, ℕ, ◌+◌, ◌<◌, ◌≤◌, suc, true, false, arith, lt-ltb, le-ltb, List, [], ◌∷◌, ◌++◌, Bor, length, get_or, map, take, drop, Option, Some, None, inl, inr, refl, sym, ap, ◌∙◌, subst}
-use Rattle.wit_syntax.proofs.Common.{AllZip, Err, Fault, IfOk, IsAllocationFailure, ItemNotFound, Ok, OutOfMemory, PackageFile, ParseError, ParseErrorKind, Result, SourceFile, Span, Syntax, TypeCycle, append-nil, as_stated, codes, fault_in, fault_of, nat_lt, string_bytes}
+use Rattle.wit_arena.proofs.Common.{AllZip, Err, Fault, IfOk, IsAllocationFailure, ItemNotFound, Ok, OutOfMemory, PackageFile, ParseError, ParseErrorKind, Result, SourceFile, Span, Syntax, TypeCycle, UnresolvedPackage, append-nil, as_stated, codes, fault_in, fault_of, nat_lt, span_of_ends, string_bytes}
 use Rattle.wit_lex.specs.declared.fault.ReadFault.{ReadFault}
 use Rattle.wit_lex.specs.declared.fault.ReadError.TheVariants.{Fault as Stopped, OutOfMemory as Wanting}
 use Rattle.wit_lex.specs.TextFaults.{ReportsFault, rule_of, words_of}
@@ -10,7 +10,6 @@ use Rattle.wit_lex.specs.declared.source_map.SourceMap.{SourceMap}
 use Rattle.wit_bundle.specs.SourcePaths.{IsByPath}
 use Rattle.wit_text.specs.Files.{IsFaultOf}
 use Rattle.wit_text.specs.Files.IsFaultOf.{At, Wanted as FaultWanted}
-use Rattle.wit_arena.proofs.Common.{UnresolvedPackage}
 use Rattle.wit_walk.proofs.Common.{Finds, FindsBy, Reports, earliest}
 use Rattle.wit_nested.specs.GroupFaults.{FindsJoined, joined_faults}
 use Rattle.wit_nested.specs.PushFaults.{IsWalk, files_of, pushes_fault, source_fault}
@@ -23,16 +22,12 @@ use Rattle.wit_groups.proofs.Outcome.{now_of}
 use Rattle.wit_groups.proofs.Sequences.{or_at, or_here, sequence_prefix}
 use Rattle.wit_groups.proofs.Used.{used_trees}
 
--- a span by its ends
-span_is : (s : Span) (from to : ℕ) → s.start ≡ from → s.end ≡ to → s ≡ record { start = from; end = to }
-span_is s from to start end = ap (λ (n : ℕ). record { start = n; end = s.end }) start ∙ ap (λ (n : ℕ). record { start = from; end = n }) end
-
 -- a refusal for the fault at which reading stops, or a failed allocation
 stop_said : (stop : ReadFault) (offset from to number : ℕ) (kind : ParseErrorKind) → ReportsFault stop (offset + from) (offset + to) number kind → ((kind ≡ OutOfMemory) × (number ≡ 45)) ⊎ (stop_fault offset stop from to ≡ as_stated number kind)
 stop_said stop offset from to number (Syntax span message) it = inr (sym (
     ap (λ (n : ℕ). fault_in n span (string_bytes message)) it.rule
     ∙ ap (λ (words : List ℕ). fault_in (rule_of stop) span words) it.words
-    ∙ ap (λ (at : Span). fault_in (rule_of stop) at (words_of stop)) (span_is span (offset + from) (offset + to) it.start it.end)))
+    ∙ ap (λ (at : Span). fault_in (rule_of stop) at (words_of stop)) (span_of_ends span (offset + from) (offset + to) it.start it.end)))
 stop_said stop offset from to number (ItemNotFound span name sort hint) it = absurd it
 stop_said stop offset from to number (TypeCycle span name sort) it = absurd it
 stop_said stop offset from to number OutOfMemory it = inl (refl, it)
@@ -124,7 +119,7 @@ size_stops path text e (Syntax span message) is h =
     let past : nat_lt 4294967295 (length text + 1) ≡ true = lt-ltb 4294967295 (length text + 1) h.1 in
     let large : size_fault text ≡ Some (fault_in 52 none too_large) = rw past refl in
     let words = string_bytes message in
-    let said : fault_of e ≡ fault_in 52 none too_large = ap (as_stated e.rule) is ∙ ap (λ (n : ℕ). fault_in n span words) h.0 ∙ ap (λ (w : List ℕ). fault_in 52 span w) h.4 ∙ ap (λ (at : Span). fault_in 52 at too_large) (span_is span 0 0 h.2 h.3) in
+    let said : fault_of e ≡ fault_in 52 none too_large = ap (as_stated e.rule) is ∙ ap (λ (n : ℕ). fault_in n span words) h.0 ∙ ap (λ (w : List ℕ). fault_in 52 span w) h.4 ∙ ap (λ (at : Span). fault_in 52 at too_large) (span_of_ends span 0 0 h.2 h.3) in
     inr ([], or_here (size_fault text) _ (fault_of e) (large ∙ ap Some (sym said)))
 size_stops path text e (ItemNotFound span name sort hint) is h = absurd h
 size_stops path text e (TypeCycle span name sort) is h = absurd h

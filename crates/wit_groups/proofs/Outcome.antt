@@ -1,6 +1,6 @@
 -- What sources come to, one more at a time.
 use Rattle.std.proofs.Common.{◌≡◌, ℕ, ◌+◌, ◌<◌, suc, List, [], ◌∷◌, ◌++◌, Bor, length, get_or, map, take, drop, inl, inr, ap, sym, subst, ◌∙◌}
-use Rattle.wit_syntax.proofs.Common.{Err, Fault, IfErr, IfOk, Ok, PackageFile, ParseError, Refused, Result, SourceFile, string_bytes}
+use Rattle.wit_arena.proofs.Common.{Err, Fault, IfErr, IfOk, Ok, PackageFile, ParseError, Refused, Result, SourceFile, UnresolvedPackage, string_bytes}
 use Rattle.wit_lex.specs.declared.source.Source.{Source}
 use Rattle.wit_lex.specs.declared.source_map.SourceMap.{SourceMap}
 use Rattle.wit_lex.specs.Sources.{IsSource, space}
@@ -8,7 +8,6 @@ use Rattle.wit_grammar.specs.Trees.{File}
 use Rattle.wit_grammar.specs.Laws.{IsSpelled}
 use Rattle.wit_text.specs.Files.{Gives, IsFaultOf}
 use Rattle.wit_bundle.specs.SourcePaths.{IsByPath}
-use Rattle.wit_arena.proofs.Common.{UnresolvedPackage}
 use Rattle.wit_nested.specs.Nested.{GrowByNested, IsUnfit}
 use Rattle.wit_nested.specs.PackageNames.{IsUnjoined}
 use Rattle.wit_nested.specs.PackageNames.IsUnjoined.{Broken, Repeated as RepeatedName}

@@ -1,6 +1,6 @@
 -- What sources come to, one after another.
 use Rattle.std.proofs.Common.{◌≡◌, ◌⊎◌, List, [], ◌∷◌, ◌++◌, Option, Some, None, inl, inr, refl, sym, ap, ◌∙◌, subst, append_assoc, map}
-use Rattle.wit_syntax.proofs.Common.{AllZip, Fault, IsBroken, PackageFile, SourceFile, append-nil, last_header}
+use Rattle.wit_arena.proofs.Common.{AllZip, Fault, IsBroken, PackageFile, SourceFile, append-nil, last_header}
 use Rattle.wit_lex.specs.declared.source.Source.{Source}
 use Rattle.wit_walk.proofs.Common.{IsOr, earliest, first_after, none_both, or_none_both}
 use Rattle.wit_groups.specs.Groups.{IsTree}

@@ -1,8 +1,7 @@
 -- Sources that are read and pushed, by their trees.
 use Rattle.std.proofs.Common.{◌≡◌, List, [], ◌∷◌, ◌++◌, Option, None, refl, sym, ap, ◌∙◌, subst, map}
-use Rattle.wit_syntax.proofs.Common.{AllZip, Fault, NestedPackage, PackageFile, SourceFile, append-nil, flat_map-append, last_header, map-append}
+use Rattle.wit_arena.proofs.Common.{AllZip, Fault, IsMadeOf, NestedPackage, PackageFile, SourceFile, UnresolvedPackage, append-nil, flat_map-append, last_header, map-append, zip_both}
 use Rattle.wit_lex.specs.declared.source.Source.{Source}
-use Rattle.wit_arena.proofs.Common.{IsMadeOf, UnresolvedPackage}
 use Rattle.wit_walk.proofs.Common.{after-more, earliest, none_both, or_none}
 use Rattle.wit_nested.specs.Nested.{IsMadeByNested, IsUnfit}
 use Rattle.wit_nested.specs.PackageNames.{AreNamedApart}
@@ -15,12 +14,6 @@ use Rattle.wit_groups.specs.Groups.{AreUsed, IsTree}
 use Rattle.wit_groups.specs.Groups.AreUsed.{None as NoneUsed, More}
 use Rattle.wit_groups.specs.SourceFaults.{Read, Tree, SequenceComesTo}
 use Rattle.wit_groups.proofs.Sequences.{pushed, sequence_prefix}
-
-zip_append : {A B : Type 0} (R : A → B → Type 0) (xs us : List A) (ys vs : List B) → AllZip R xs ys → AllZip R us vs → AllZip R (xs ++ us) (ys ++ vs)
-zip_append R [] us [] vs a b = b
-zip_append R [] us (y ∷ ys) vs a b = absurd a
-zip_append R (x ∷ xs) us [] vs a b = absurd a
-zip_append R (x ∷ xs) us (y ∷ ys) vs a b = (a.0, zip_append R xs us ys vs a.1 b)
 
 -- the trees of sources that are used: they can be pushed, and the nested packages are made of what is nested in them
 pub record HasTrees (walk : List PackageFile → Option Fault) (ordered : List Source) (files : List PackageFile) (packages : List UnresolvedPackage) : Type 0 where
@@ -39,7 +32,7 @@ module _ (walk : List PackageFile → Option Fault) (walks : IsWalk walk) where
   used_trees _ _ _ (More sources files packages kept s read used tree fit grow) =
       let it = used_trees sources files packages used in
       let nested : nested_of (it.trees ++ read ∷ []) ≡ nested_of it.trees ++ read.nested.items = flat_map-append (λ (s : SourceFile). s.nested.items) it.trees (read ∷ []) ∙ ap (λ (l : List NestedPackage). nested_of it.trees ++ l) (append-nil read.nested.items) in
-      let all = zip_append IsMadeByNested (nested_of it.trees) read.nested.items packages grow.made it.made grow.each in
+      let all = zip_both IsMadeByNested (nested_of it.trees) read.nested.items packages grow.made it.made grow.each in
       record {
         trees = it.trees ++ read ∷ [];
         each = zip_more IsTree sources it.trees s read it.each tree;

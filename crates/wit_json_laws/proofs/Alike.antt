@@ -1,8 +1,7 @@
 -- Groups that are equal but for the texts of their sources have one JSON.
 use Rattle.std.proofs.Common.{◌≡◌, ℕ, List, [], ◌∷◌, map, sym, ap, ◌∙◌}
 use Rattle.json.specs.Json.{Json, string}
-use Rattle.wit_arena.proofs.Common.{UnresolvedPackage}
-use Rattle.wit_syntax.proofs.Common.{map_map}
+use Rattle.wit_arena.proofs.Common.{UnresolvedPackage, map_map}
 use Rattle.wit_json.specs.Group.{packages_of}
 use Rattle.wit_json.specs.Laws.{Group, json_of, place_of, stated_of}
 use Rattle.wit_json.specs.Values.{at, fields, list, number_json}

@@ -1,7 +1,6 @@
 -- The map of other packages has no key twice, and none of its maps has.
 use Rattle.std.proofs.Common.{◌≡◌, ℕ, List, map, sym, ap, ◌∙◌, subst}
-use Rattle.wit_syntax.proofs.Common.{All, AllDiffer, ForeignNamed, ForeignVisit, PackageFile, PackageName, Stability, differ_at, differ_by, filter, firsts_differ, foreign_items, foreign_packages, foreign_visits, kept_at, kept_differ, map_map, package_of, same_address, same_package, same_package-equal, same_package-from, stability_of, visited}
-use Rattle.wit_arena.proofs.Common.{AstItem, dep, foreign_entry, visits_differ}
+use Rattle.wit_arena.proofs.Common.{All, AllDiffer, AstItem, ForeignNamed, ForeignVisit, PackageFile, PackageName, Stability, dep, differ_at, differ_by, filter, firsts_differ, foreign_entry, foreign_items, foreign_packages, foreign_visits, kept_at, kept_differ, map_map, package_of, same_address, same_package, same_package-equal, same_package-from, stability_of, visited, visits_differ}
 use Rattle.wit_json.specs.DistinctKeys.{HasOwnKeys}
 use Rattle.wit_json_laws.proofs.Lists.{all_map, own_keys}
 

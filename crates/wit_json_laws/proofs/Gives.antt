@@ -1,6 +1,6 @@
 -- What is spelled by a grammar has a property, where what is spelled by its parts has theirs.
 use Rattle.std.proofs.Common.{◌≡◌, ℕ, ◌+◌, ◌==◌, ◌&&◌, cond, Bool, true, false, not, List, [], ◌∷◌, Option, Some, None, inl, inr, sym, ◌∙◌, refl, subst}
-use Rattle.wit_syntax.proofs.Common.{All, Err, IfSome, IsValid, Ok, Result, Span, and_from, and_parts, eqb-true, is_ascii_alphanumeric, is_label, slice_range, ⊤}
+use Rattle.wit_arena.proofs.Common.{All, Err, IfSome, IsValid, Ok, Result, Span, and_from, and_parts, eqb-true, is_ascii_alphanumeric, is_label, slice_range, ⊤}
 use Rattle.semver.specs.declared.error.Error.{Error}
 use Rattle.semver.specs.Parse.{version_parts}
 use Rattle.semver.proofs.Grammar.{version_parts-sound}

@@ -1,6 +1,6 @@
 -- Lists in which something holds of each element, and lists whose elements differ.
 use Rattle.std.proofs.Common.{◌≡◌, ℕ, zero, suc, ◌+◌, List, [], ◌∷◌, ◌++◌, map, take, Some, inl, inr, sym, ap, ◌∙◌, subst, arith}
-use Rattle.wit_syntax.proofs.Common.{All, AllDiffer, AllPairs, at_split, differ_none, get_or_from_slice_get, map_at, slice_get, slice_get-get_or, slice_get_within, slice_index_or, take_next, ◌≢◌}
+use Rattle.wit_arena.proofs.Common.{All, AllDiffer, AllPairs, at_split, differ_none, get_or_from_slice_get, map_at, slice_get, slice_get-get_or, slice_get_within, slice_index_or, take_next, ◌≢◌}
 use Rattle.wit_json.specs.DistinctKeys.{HasOwnKeys}
 
 pub all_at : {X : Type 0} (P : X → Type 0) (xs : List X) → ((i : ℕ) (x : X) → slice_get xs i ≡ Some x → P x) → All P xs

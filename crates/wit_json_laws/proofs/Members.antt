@@ -1,7 +1,6 @@
 -- The maps of interfaces that legal files make have no key twice.
 use Rattle.std.proofs.Common.{◌≡◌, ℕ, false, not, List, ◌++◌, map, Some, Contains, inl, inr, refl, sym, ap, ◌∙◌, subst}
-use Rattle.wit_syntax.proofs.Common.{Address, All, AllDiffer, AreDistinct, Called, FoldedTwice, ForeignVisit, Imported, IsLegal, IsOrder, Item, PackageFile, ScopeName, SideItem, Sides, SourceFunction, WorldSide, address, all_items, all_scopes, at_split, called_key, contains_at, fault, flat_map, flat_map_at, foreign_interfaces, function_name, functions, functions_imported, in_order_at, in_turn_distinct, inline_interface, inline_items, interfaces_of, is_world, items_on, kept_all, kept_at, local_name, map_at, map_map, not-true, on_side, role_side, rows_of, same_side, scope, scope_names, scopes_declared, scopes_inline, side_called, side_items, side_items_functions, slice_get, visited, words_of, worlds_of, in_order, item_rows}
-use Rattle.wit_arena.proofs.Common.{Def, Function, Key, all_differ, foreign_interface, function_in, items_within, name_places, names_differ, names_in_turn, own_interface, own_interfaces, placed, scope_differs}
+use Rattle.wit_arena.proofs.Common.{Address, All, AllDiffer, AreDistinct, Called, Def, FoldedTwice, ForeignVisit, Function, Imported, IsLegal, IsOrder, Item, Key, PackageFile, ScopeName, SideItem, Sides, SourceFunction, WorldSide, address, all_differ, all_items, all_scopes, at_split, called_key, contains_at, fault, flat_map, flat_map_at, foreign_interface, foreign_interfaces, function_in, function_name, functions, functions_imported, in_order, in_order_at, in_turn_distinct, inline_interface, inline_items, interfaces_of, is_world, item_rows, items_on, items_within, kept_all, kept_at, local_name, map_at, map_map, name_places, names_differ, names_in_turn, not-true, on_side, own_interface, own_interfaces, placed, role_side, rows_of, same_side, scope, scope_differs, scope_names, scopes_declared, scopes_inline, side_called, side_items, side_items_functions, slice_get, visited, words_of, worlds_of}
 use Rattle.wit_arena.proofs.FunctionNames.{names_differ as function_names_differ}
 use Rattle.wit_json.specs.DistinctKeys.{HasOwnKeys, HasOwnMembers}
 use Rattle.wit_json_laws.proofs.Lists.{all_both, all_map, no_keys, own_keys}

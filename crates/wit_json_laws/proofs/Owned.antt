@@ -1,8 +1,7 @@
 -- No map of a package that legal files make has a key twice.
 use Rattle.std.proofs.Common.{List, sym, subst}
-use Rattle.wit_syntax.proofs.Common.{All, IsLegal, PackageFile}
+use Rattle.wit_arena.proofs.Common.{All, IsLegal, Makes, PackageFile, UnresolvedPackage, world_scopes}
 use Rattle.wit_lex.specs.declared.source.Source.{Source}
-use Rattle.wit_arena.proofs.Common.{Makes, UnresolvedPackage, world_scopes}
 use Rattle.wit_groups.specs.Groups.{IsGroup}
 use Rattle.wit_json.specs.DistinctKeys.{HasOwnEntries, HasOwnKeys, HasOwnMembers, HasOwnSides}
 use Rattle.wit_json.specs.Laws.{HasOwnMaps}

@@ -1,8 +1,7 @@
 -- The keys of functions still differ once setters are placed.
 use Rattle.std.proofs.Common.{◌≡◌, ℕ, suc, List, [], ◌∷◌, Option, Some, map, refl, sym, ap, ◌∙◌, subst}
-use Rattle.wit_syntax.proofs.Common.{AllDiffer, HasNot, differ_head, differ_tail, slice_get}
+use Rattle.wit_arena.proofs.Common.{AllDiffer, Function, HasNot, differ_head, differ_tail, pairs, placed, slice_get}
 use Rattle.std.specs.List.{IsDistinct}
-use Rattle.wit_arena.proofs.Common.{Function, pairs, placed}
 use Rattle.wit_functions.specs.MaybeFunction.{HaveOwnNames}
 use Rattle.wit_functions.proofs.OwnNames.{Differs, differs_more, names, own_more}
 use Rattle.wit_functions.proofs.Pairs.{in_turn-placed}

@@ -1,9 +1,8 @@
 -- Plain files make the packages of a group that sources make.
 use Rattle.std.proofs.Common.{◌≡◌, ℕ, zero, suc, List, [], ◌∷◌, Some, inl, inr, refl, sym, ap, ◌∙◌, subst}
-use Rattle.wit_syntax.proofs.Common.{All, AllZip, NestedPackage, PackageFile, SourceFile, at_split, slice_get, string_bytes}
+use Rattle.wit_arena.proofs.Common.{All, AllZip, IsMadeOf, NestedPackage, PackageFile, SourceFile, UnresolvedPackage, at_split, slice_get, string_bytes}
 use Rattle.wit_lex.specs.declared.source.Source.{Source}
 use Rattle.wit_grammar.specs.Seen.{see_file, see_nested}
-use Rattle.wit_arena.proofs.Common.{IsMadeOf, UnresolvedPackage}
 use Rattle.wit_nested.specs.Nested.{GrowByNested, IsMadeByNested, file_of}
 use Rattle.wit_groups.specs.Groups.{AreUsed, IsGroup, IsTree}
 use Rattle.wit_groups.specs.Groups.AreUsed.{None, More}

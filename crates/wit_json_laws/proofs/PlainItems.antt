@@ -1,12 +1,12 @@
 -- The items of plain trees, and what they name of other packages.
 use Rattle.std.proofs.Common.{ℕ, Bool, true, false, cond, List, [], ◌∷◌, ◌++◌, Option, Some, None, Contains, inl, inr, refl, sym, subst}
-use Rattle.wit_syntax.proofs.Common.{All, AstItem, Attribute, DefinitionPart, Exported, Extern, ExternKind, ExternPart, ForeignUse, ForeignVisit, FunctionPart, IfSome, Imported, IncludePart, IsWritten, Item, PackageFile, Part, SideInline, TheInterface, TheWorld, TopName, Use, UsePart, UsePath, WorldSide, about, all_items, all_scopes, at_contains, at_side, declaration_visits, declared_items, extern_paths, extern_visits, file_items, flat_map, foreign_uses, foreign_visits, functions, inline_items, inline_items_at, inline_uses, last_header, option_map, option_or, part_functions, part_items, part_names, part_uses, part_visits, parts, path_visits, same_side, scope_names, scopes_either, side_items, top_names, uses, walk}
+use Rattle.wit_arena.proofs.Common.{All, Attribute, DefinitionPart, Exported, Extern, ExternKind, ExternPart, ForeignUse, ForeignVisit, FunctionPart, IfSome, Imported, IncludePart, IsUsedAt, IsWritten, Item, PackageFile, Part, SideInline, TheInterface, TheWorld, TopName, UsePart, UsePath, WorldSide, about, all_items, all_scopes, at_contains, at_side, declaration_visits, declared_items, extern_paths, extern_visits, file_items, flat_map, foreign_uses, foreign_visits, functions, inline_items, inline_items_at, inline_uses, last_header, option_map, option_or, part_functions, part_items, part_names, part_uses, part_visits, parts, path_visits, same_side, scope_names, scopes_either, side_items, top_names, used_at, uses, walk}
+use Rattle.wit_syntax.proofs.Common.{AstItem, Use}
 use Rattle.wit_tree.specs.declared.tree.AstItem.TheVariants as ast
 use Rattle.wit_tree.specs.declared.tree.ExternKind.TheVariants as extern
 use Rattle.wit_tree.specs.declared.tree.PackageName.{PackageName as Header}
 use Rattle.wit_tree.specs.declared.tree.UsePath.TheVariants as path
 use Rattle.wit_grammar.specs.Seen.{see_declaration, see_kind, see_package_id, see_path}
-use Rattle.wit_arena.proofs.Common.{IsUsedAt, used_at}
 use Rattle.wit_json_laws.specs.PlainTrees.{HasPlainNames, IsPlainDeclaration, IsPlainKind, IsPlainPackageId, IsPlainPath}
 use Rattle.wit_json_laws.proofs.Lists.{all_at, all_both, all_more, all_none, all_tail, at_all}
 use Rattle.wit_json_laws.proofs.PlainMetadata.{ArePlain, all_flat, all_seen}

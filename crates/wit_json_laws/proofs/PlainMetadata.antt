@@ -1,6 +1,6 @@
 -- What plain trees say of things: stabilities whose versions are by SemVer, and packages with plain names.
 use Rattle.std.proofs.Common.{◌≡◌, ℕ, ◌==◌, ◌&&◌, true, false, not, List, ◌++◌, map, Option, Some, None, get_or, refl, sym, ap, ◌∙◌}
-use Rattle.wit_syntax.proofs.Common.{All, Attribute, AttributeKind, Contains, Id, IfSome, IsValid, Release, Version, and_from, attribute_version, deprecation, find_at, first_of, flat_map, flat_map_at, is_of, list_all, list_all-append, list_all_at, option_and_then, option_map, option_map_or, package_of, parts_of, release_of, slice_get, slice_get-map, stability_of, stated_text, stated_version, unwrap_or}
+use Rattle.wit_arena.proofs.Common.{All, Attribute, AttributeKind, Contains, Id, IfSome, IsValid, Release, Version, and_from, attribute_version, deprecation, find_at, first_of, flat_map, flat_map_at, is_of, list_all, list_all-append, list_all_at, option_and_then, option_map, option_map_or, package_of, parts_of, release_of, slice_get, slice_get-map, stability_of, stated_text, stated_version, unwrap_or}
 use Rattle.wit_type_tree.specs.declared.attribute_kind.AttributeKind.TheVariants as as_stated
 use Rattle.wit_type_tree.specs.declared.leaves.Attribute.TheVariants as attribute
 use Rattle.wit_tree.specs.declared.tree.PackageName.{PackageName as Written}

@@ -1,6 +1,7 @@
 -- The parts of items that plain trees declare: their functions, their names and what is on their sides.
 use Rattle.std.proofs.Common.{ℕ, List, [], ◌++◌, map, Option, Some, None, refl}
-use Rattle.wit_syntax.proofs.Common.{Address, All, Attribute, Defined, DefinitionPart, Extern, ExternKind, ExternPart, FuncForm, FunctionPart, Id, IfSome, IncludePart, InterfaceItem, NamedFunc, Part, ResourceFunc, ScopeName, SideFunction, SideInline, SideItem, SideLink, SourceFunction, TopName, TypeBody, Use, UseName, UsePart, Used, WorldItem, about_name, accessor, codes, definition_functions, extern_functions, extern_items, extern_link, free_function, inline_uses, interface_part, item_uses, local_name, part_functions, part_items, part_names, part_uses, path_scope, resource_function, side_function, world_part}
+use Rattle.wit_arena.proofs.Common.{Address, All, Attribute, Defined, DefinitionPart, Extern, ExternKind, ExternPart, FuncForm, FunctionPart, Id, IfSome, IncludePart, InterfaceItem, NamedFunc, Part, ResourceFunc, ScopeName, SideFunction, SideInline, SideItem, SideLink, SourceFunction, TopName, TypeBody, UseName, UsePart, Used, about_name, accessor, codes, definition_functions, extern_functions, extern_items, extern_link, free_function, inline_uses, interface_part, item_uses, local_name, part_functions, part_items, part_names, part_uses, path_scope, resource_function, side_function, world_part}
+use Rattle.wit_syntax.proofs.Common.{Use, WorldItem}
 use Rattle.wit_type_tree.specs.declared.types.TypeBody.TheVariants as body
 use Rattle.wit_type_tree.specs.declared.types.FuncForm.TheVariants as form
 use Rattle.wit_type_tree.specs.declared.types.ResourceFunc.TheVariants as resource

@@ -1,10 +1,9 @@
 -- The versions of the types that plain trees make are by SemVer.
 use Rattle.std.proofs.Common.{◌≡◌, ℕ, zero, suc, ◌<◌, List, [], ◌∷◌, length, map, take, Option, Some, None, Contains, refl, sym, ap, ◌∙◌, subst, arith}
-use Rattle.wit_syntax.proofs.Common.{Address, All, ForeignName, ForeignNamed, ForeignUse, InlineAt, InterfaceNamed, IsLegal, Item, PackageFile, ScopeName, Shape, Shapes, SideFunction, SideInline, SideItem, SideLink, SourceFunction, Span, Stability, TypeDef, TypeOwner, WorldNamed, about_name, address, all_scopes, at_contains, at_prefix, at_take, at_within, contains_at, filter, find_among, first_foreign_uses, first_known, firsts_at, flat_map, foreign_uses, in_turn_among, inline_items, interfaces_of, item_at, kept_at, map_at, option_map_or, same_address, same_foreign_use, scope, scope_names, scopes_declared, scopes_inline, side_items, signature, slice_get, slice_get_within, stability_of, unwrap_or, used_names, worlds_of, IsOrder, all_items, in_order, item_rows, rows_of}
+use Rattle.wit_arena.proofs.Common.{Address, All, Def, ForeignName, ForeignNamed, ForeignUse, InlineAt, InterfaceNamed, IsEntryOf, IsLegal, IsOrder, Item, Key, Makes, Occurrence, PackageFile, ScopeName, Shape, Shapes, SideFunction, SideInline, SideItem, SideLink, SourceFunction, Span, Stability, Turned, TypeDef, TypeOwner, UnresolvedPackage, Whole, WorldNamed, about_name, address, all_function_occurrences, all_items, all_occurrences, all_scopes, at_contains, at_prefix, at_take, at_within, contains_at, exprs_of, filter, find_among, first_foreign_uses, first_known, firsts_at, flat_map, foreign_use_occurrence, foreign_uses, in_order, in_turn_among, inline_items, interface_scopes, interface_turn, interfaces_of, item_at, item_rows, item_turns, kept_at, map_at, name_occurrences, names_in_turn, option_map_or, owner_at, rows_of, same_address, same_foreign_use, scope, scope_names, scopes_declared, scopes_inline, shape_occurrences, shapes_occurrences, side_items, signature, slice_get, slice_get_within, stability_at, stability_of, turn_occurrences, turns_of_world, turns_on_sides, types_of, unwrap_or, used_names, world_scopes, worlds_of}
 use Rattle.wit_types.specs.declared.stability.Stability.TheVariants as stability
 use Rattle.wit_types.specs.declared.types.«Type».{«Type» as Ty}
 use Rattle.wit_types.specs.declared.types.«Type».TheVariants as ty
-use Rattle.wit_arena.proofs.Common.{Def, IsEntryOf, Key, Makes, Occurrence, Turned, UnresolvedPackage, Whole, all_function_occurrences, all_occurrences, exprs_of, foreign_use_occurrence, interface_scopes, interface_turn, item_turns, name_occurrences, names_in_turn, owner_at, shape_occurrences, shapes_occurrences, stability_at, turn_occurrences, turns_of_world, turns_on_sides, types_of, world_scopes}
 use Rattle.wit_syntax.specs.Shape as shape
 use Rattle.wit_json.specs.PlainPackages.{HasVersions}
 use Rattle.wit_json_laws.specs.PlainTrees.{HasPlainNames}

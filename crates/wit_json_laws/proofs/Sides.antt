@@ -1,7 +1,6 @@
 -- The keys of what a world has on a side: names, and places of interfaces without one.
 use Rattle.std.proofs.Common.{◌≡◌, ℕ, zero, suc, ◌<◌, Bool, true, false, cond, List, [], ◌∷◌, ◌++◌, length, map, Option, Some, None, inl, inr, refl, sym, ap, ◌∙◌, subst, arith}
-use Rattle.wit_syntax.proofs.Common.{Address, AllDiffer, Called, Id, Item, Link, ScopeName, SideFunction, SideInline, SideItem, SideLink, TopName, WorldSide, address, at_split, cons_option, differ_none, flat_map, flat_map_at, flat_map_has, item_called, item_inline, items_on, local_id, local_name, map-append, name_called, option_map_or, path_scope, role_side, same_side, slice_get}
-use Rattle.wit_arena.proofs.Common.{Def, Function, Key, WorldItem, WorldKey, entries_on, function_in, function_of, inline_entry, link_item, link_key, name_imports, scope_place, side_entries}
+use Rattle.wit_arena.proofs.Common.{Address, AllDiffer, Called, Def, Function, Id, Item, Key, Link, ScopeName, SideFunction, SideInline, SideItem, SideLink, TopName, WorldItem, WorldKey, WorldSide, address, at_split, cons_option, differ_none, entries_on, flat_map, flat_map_at, flat_map_has, function_in, function_of, inline_entry, item_called, item_inline, items_on, link_item, link_key, local_id, local_name, map-append, name_called, name_imports, option_map_or, path_scope, role_side, same_side, scope_place, side_entries, slice_get}
 use Rattle.wit_model.specs.declared.world.WorldItem.TheVariants as item
 use Rattle.wit_model.specs.declared.world.WorldKey.TheVariants as key
 use Rattle.wit_json_laws.proofs.Placed.{IsAtName}

@@ -1,7 +1,7 @@
 -- So has what it spells from interfaces up to files.
 use Rattle.std.proofs.Common.{ℕ, zero, suc, List, [], ◌∷◌, Option, Some, None, refl}
-use Rattle.wit_syntax.proofs.Common.{All, FuncForm, IfSome, Span, WorldSide, codes, flat_map, ⊤}
-use Rattle.wit_type_tree.specs.declared.types.FuncForm.TheVariants.{Plain, Async, Getter, Setter}
+use Rattle.wit_arena.proofs.Common.{All, Async, FuncForm, Getter, IfSome, Span, WorldSide, codes, flat_map, ⊤}
+use Rattle.wit_type_tree.specs.declared.types.FuncForm.TheVariants.{Plain, Setter}
 use Rattle.wit_lex.specs.declared.kind.Kind.TheVariants.{Colon, Semicolon, OpenBrace, CloseBrace, End, Word}
 use Rattle.wit_lex.specs.declared.word.Word.TheVariants as word
 use Rattle.wit_grammar.specs.Grammar.{Gram, mark, name, name_but, docs, never, both, act, either, opt, until, seq, applied, ◌▸◌, ◌◂◌}

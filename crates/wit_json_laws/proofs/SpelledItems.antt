@@ -1,6 +1,6 @@
 -- What the grammar spells from attributes up to definitions has plain names and versions by SemVer.
 use Rattle.std.proofs.Common.{Bool, true, false, List, [], Option, Some, None}
-use Rattle.wit_syntax.proofs.Common.{All, IfSome, IsValid, Span, codes, ⊤}
+use Rattle.wit_arena.proofs.Common.{All, IfSome, IsValid, Span, codes, ⊤}
 use Rattle.wit_lex.specs.declared.kind.Kind.TheVariants.{Colon, Semicolon, Equals, OpenParen, CloseParen, OpenBrace, CloseBrace, Dot, Slash, At, Word}
 use Rattle.wit_lex.specs.declared.word.Word.TheVariants as word
 use Rattle.wit_grammar.specs.Grammar.{mark, spanned, says, name, version, docs, both, act, either, until, listed, seq, applied, ◌▸◌, ◌◂◌}

@@ -1,7 +1,6 @@
 -- The maps of worlds that legal files make have no key twice.
 use Rattle.std.proofs.Common.{◌≡◌, ℕ, false, List, [], ◌∷◌, ◌++◌, length, map, take, Some, Contains, refl, sym, ap, ◌∙◌, subst}
-use Rattle.wit_syntax.proofs.Common.{Address, All, AllDiffer, Called, Exported, ForeignVisit, Imported, Include, IsLegal, IsOrder, Item, Link, LinkedTwice, PackageFile, ScopeName, SideItem, SideLink, WorldSide, address, all_items, all_scopes, called_key, contains_at, differ_at, differ_by, flat_map, flat_map-append, folded_key, foreign_worlds, includes, inline_items, is_world_at, item_called, item_inline, item_side, items_on, kept_at, leads, length-inline_after, linked_twice, map-append, name_called, path_id, path_scope, rows_of, same_side, scope_names, scopes_declared, side_called, side_items, slice_get, slice_get-take, worlds_of, in_order, item_rows}
-use Rattle.wit_arena.proofs.Common.{Key, WorldItem, WorldKey, entries_on, foreign_world, function_of, interface_scopes, name_imports, names_in_turn, own_world, placed, scope_place, settled, world_entries}
+use Rattle.wit_arena.proofs.Common.{Address, All, AllDiffer, Called, Exported, ForeignVisit, Imported, Include, IsLegal, IsOrder, Item, Key, Link, LinkedTwice, PackageFile, ScopeName, SideItem, SideLink, WorldItem, WorldKey, WorldSide, address, all_items, all_scopes, called_key, contains_at, differ_at, differ_by, entries_on, flat_map, flat_map-append, folded_key, foreign_world, foreign_worlds, function_of, in_order, includes, inline_items, interface_scopes, is_world_at, item_called, item_inline, item_rows, item_side, items_on, kept_at, leads, length-inline_after, linked_twice, map-append, name_called, name_imports, names_in_turn, own_world, path_id, path_scope, placed, rows_of, same_side, scope_names, scope_place, scopes_declared, settled, side_called, side_items, slice_get, slice_get-take, world_entries, worlds_of}
 use Rattle.wit_model.specs.declared.world.WorldKey.TheVariants as key
 use Rattle.wit_json.specs.DistinctKeys.{HasOwnKeys, HasOwnSides}
 use Rattle.wit_parser.proofs.PartsScopes.{link_leads}

@@ -1,9 +1,7 @@
 -- The first fault of a nested package, of several, of a source, and of what was pushed.
 use Rattle.std.proofs.Common.{◌≡◌, ◌⊎◌, List, [], ◌∷◌, ◌++◌, Option, Some, None, inl, inr, refl, sym, ap, ◌∙◌, subst, map}
-use Rattle.wit_syntax.proofs.Common.{AllZip, Err, Fault, IsAllocationFailure, NestedPackage, Ok, PackageFile, ParseError, Refused, Result, SourceFile, fault_of, headers, last_header, option_or}
+use Rattle.wit_items.proofs.Common.{AllZip, ComesTo, Err, Fault, Finds, FindsBy, IsAllocationFailure, IsMadeOf, NestedPackage, Ok, PackageFile, ParseError, Refused, Reports, Result, SourceFile, UnresolvedPackage, earliest, fault_of, first_in, headers, in-append, last_header, nesting_fault, one_first, option_or, or_none, other_fault, push_fault, second_docs_fault}
 use Rattle.wit_tree.specs.declared.tree.PackageName.{PackageName as Header}
-use Rattle.wit_arena.proofs.Common.{IsMadeOf, UnresolvedPackage}
-use Rattle.wit_walk.proofs.Common.{ComesTo, Finds, FindsBy, Reports, earliest, first_in, in-append, nesting_fault, one_first, or_none, other_fault, push_fault, second_docs_fault}
 use Rattle.wit_nested.specs.Nested.{IsMadeByNested, file_of}
 use Rattle.wit_nested.specs.NestedSources.{IsSourceOf}
 use Rattle.wit_nested.specs.PackageNames.{AreNamedApart, IsRepeatedPackage}

@@ -1,7 +1,6 @@
 -- What was taken is not unfit.
 use Rattle.std.proofs.Common.{◌≡◌, ℕ, zero, suc, List, [], ◌∷◌, Some, inl, inr, sym, subst}
-use Rattle.wit_syntax.proofs.Common.{AllZip, Contains, Fault, IsDocumentedTwice, IsOtherPackage, NestedPackage, PackageFile, SourceFile, at_contains, slice_get}
-use Rattle.wit_arena.proofs.Common.{UnresolvedPackage}
+use Rattle.wit_items.proofs.Common.{AllZip, Contains, Fault, IsDocumentedTwice, IsOtherPackage, NestedPackage, PackageFile, SourceFile, UnresolvedPackage, at_contains, slice_get}
 use Rattle.wit_parser.specs.Stray.{IsStray}
 use Rattle.wit_nested.specs.Nested.{IsBrokenAmong, IsBrokenNested, IsMadeByNested, IsUnfit}
 use Rattle.wit_nested.specs.Nested.IsBrokenNested.{Inner, Alone}

@@ -1,7 +1,6 @@
 -- The first fault of a group: it is one, and something that is wrong with it.
 use Rattle.std.proofs.Common.{◌≡◌, ◌⊎◌, List, Option, Some, None, inl, inr, refl, sym, ap, ◌∙◌, subst}
-use Rattle.wit_syntax.proofs.Common.{Fault, IsBroken, PackageFile, SourceFile, last_header}
-use Rattle.wit_walk.proofs.Common.{Agrees, earliest, or_none}
+use Rattle.wit_items.proofs.Common.{Agrees, Fault, IsBroken, PackageFile, SourceFile, earliest, last_header, or_none}
 use Rattle.wit_nested.specs.PushFaults.{IsWalk, files_of}
 use Rattle.wit_nested.specs.GroupFaults.{names_fault, nested_names, joined_faults, group_fault, GroupComesTo, IsFirstOfGroup, IsFaultlessGroup, IsUnfitAmong, IsNamedTwice, IsBrokenGroup, IsLegalGroup}
 use Rattle.wit_nested.specs.GroupFaults.IsBrokenGroup.{Unfit, Broken, NamedTwice}

@@ -1,7 +1,6 @@
 -- Why files and the packages that were nested in them make no group.
 use Rattle.std.proofs.Common.{List}
-use Rattle.wit_syntax.proofs.Common.{IsBroken, PackageFile, ParseError, Refused, refused_weaker}
-use Rattle.wit_arena.proofs.Common.{IsMadeOf, UnresolvedPackage}
+use Rattle.wit_items.proofs.Common.{IsBroken, IsMadeOf, PackageFile, ParseError, Refused, UnresolvedPackage, refused_weaker}
 use Rattle.wit_nested.specs.PackageNames.{IsRepeatedPackage, IsUnjoined}
 use Rattle.wit_nested.specs.PackageNames.IsUnjoined.{Broken, Repeated}
 

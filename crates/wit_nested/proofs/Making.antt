@@ -1,8 +1,7 @@
 -- Nested packages, one more at a time, and what a source with them comes to.
 use Rattle.std.proofs.Common.{◌≡◌, ◌⊎◌, List, [], ◌∷◌, ◌++◌, Some, None, inl, inr, ap, sym, subst, ◌∙◌, append_assoc, map}
-use Rattle.wit_syntax.proofs.Common.{AllZip, Contains, Contains-append_left, Contains-push, Err, Fault, IfErr, IfOk, IsBroken, IsDocumentedTwice, IsLegal, IsOtherPackage, NestedPackage, Ok, OnOk, PackageFile, ParseError, Refused, Result, SourceFile, map-append, refused_weaker}
+use Rattle.wit_items.proofs.Common.{AllZip, Contains, Contains-append_left, Contains-push, Err, Fault, IfErr, IfOk, IsBroken, IsDocumentedTwice, IsLegal, IsMadeOf, IsOtherPackage, Makes, NestedPackage, Ok, OnOk, PackageFile, ParseError, Refused, Result, SourceFile, UnresolvedPackage, map-append, refused_weaker}
 use Rattle.wit_tree.specs.declared.tree.PackageName.{PackageName as Header}
-use Rattle.wit_arena.proofs.Common.{IsMadeOf, Makes, UnresolvedPackage}
 use Rattle.wit_parser.specs.Stray.{IsNesting, IsStray}
 use Rattle.wit_nested.specs.Nested.{GrowByNested, IsBrokenAmong, IsBrokenNested, IsMadeByNested, IsUnfit, file_of}
 use Rattle.wit_nested.specs.Nested.IsBrokenNested.{Inner, Alone}

@@ -1,9 +1,7 @@
 -- The names of the packages of a group: E53 is what is refused where the packages are made.
 use Rattle.std.proofs.Common.{◌≡◌, ℕ, zero, suc, Bool, true, false, List, [], ◌∷◌, ◌++◌, take, Option, Some, None, inl, inr, refl, sym, ap, ◌∙◌, subst, append_assoc, map, arith}
-use Rattle.wit_syntax.proofs.Common.{AllDiffer, AllZip, Contains, Fault, IsSamePackage, NestedPackage, PackageName, SourceFile, Span, append-nil, at_contains, at_take, contains_at, differ_at, differ_more, differ_none, fault_in, last_header, list_any, map-append, map_at, option_map, package_of, package_words, same_package, same_package-equal, same_package-from, slice_get, slice_get-map, take-map}
+use Rattle.wit_items.proofs.Common.{Agrees, AllDiffer, AllZip, Contains, Fault, IsMadeOf, IsSamePackage, NestedPackage, PackageName, SourceFile, Span, UnresolvedPackage, after-at, after_only, after_some, any_found, any_some, append-nil, at_contains, at_take, contains_at, differ_at, differ_more, differ_none, fault_in, first_after, last_header, list_any, map-append, map_at, none_both, option_map, or_none_both, or_some, package_of, package_words, same_package, same_package-equal, same_package-from, slice_get, slice_get-map, take-map}
 use Rattle.wit_tree.specs.declared.tree.PackageName.{PackageName as Header}
-use Rattle.wit_arena.proofs.Common.{IsMadeOf, UnresolvedPackage}
-use Rattle.wit_walk.proofs.Common.{Agrees, after-at, after_only, after_some, any_found, any_some, first_after, none_both, or_none_both, or_some}
 use Rattle.wit_parser.proofs.Pushing.{package_same, same_by}
 use Rattle.wit_nested.specs.Nested.{IsMadeByNested}
 use Rattle.wit_nested.specs.PackageNames.{IsRepeatedPackage, package_names}

@@ -1,7 +1,6 @@
 -- Names that occur one by one, and which of them occurs again.
 use Rattle.std.proofs.Common.{◌≡◌, ℕ, ◌<◌, ◌+◌, suc, Bool, true, false, not, List, [], ◌∷◌, ◌++◌, length, take, get_or, map, Some, Contains, inl, inr, sym, ap, subst, ◌∙◌, true≢false}
-use Rattle.wit_syntax.proofs.Common.{AllDiffer, MatchBool, PackageName, any_passes_from_place, at_contains, cases_Bool, cond-false, contains_at, differ_more, differ_none, insert_key, list_any, map-append, map_at, not-false, not-true}
-use Rattle.wit_arena.proofs.Common.{UnresolvedPackage}
+use Rattle.wit_items.proofs.Common.{AllDiffer, MatchBool, PackageName, UnresolvedPackage, any_passes_from_place, at_contains, cases_Bool, cond-false, contains_at, differ_more, differ_none, insert_key, list_any, map-append, map_at, not-false, not-true}
 use Rattle.wit_nested.specs.PackageNames.{package_names}
 use Rattle.wit_nested.proofs.Prefixes.{prefix_more}
 use Rattle.wit_nested.proofs.PackageNames.{none_among}

@@ -1,7 +1,6 @@
 -- The same files make the same packages.
 use Rattle.std.proofs.Common.{◌≡◌, List, [], ◌∷◌, refl}
-use Rattle.wit_syntax.proofs.Common.{AllZip, NestedPackage, PackageFile}
-use Rattle.wit_arena.proofs.Common.{IsMadeOf, UnresolvedPackage, one_made}
+use Rattle.wit_items.proofs.Common.{AllZip, IsMadeOf, NestedPackage, PackageFile, UnresolvedPackage, one_made}
 use Rattle.wit_nested.specs.Nested.{file_of, IsMadeByNested}
 
 pub one_main : (files : List PackageFile) (p q : UnresolvedPackage) → IsMadeOf files p → IsMadeOf files q → p ≡ q

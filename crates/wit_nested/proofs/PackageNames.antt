@@ -1,6 +1,6 @@
 -- Nested packages and their names.
 use Rattle.std.proofs.Common.{◌≡◌, List, [], ◌∷◌, Some, None, refl, ap, sym, ◌∙◌, map}
-use Rattle.wit_syntax.proofs.Common.{Contains, Fault, NestedPackage, at_contains, contains_at, fault, option_map, slice_get, slice_get-map}
+use Rattle.wit_items.proofs.Common.{Contains, Fault, NestedPackage, at_contains, contains_at, fault, option_map, slice_get, slice_get-map}
 use Rattle.wit_tree.specs.declared.tree.PackageName.{PackageName as Header}
 use Rattle.wit_parser.specs.Stray.{IsNesting}
 use Rattle.wit_nested.specs.Nested.{IsInner}

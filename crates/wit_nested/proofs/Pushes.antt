@@ -1,10 +1,8 @@
 -- The first fault of sources is a reason why one of them cannot be pushed; and where there is none, each of them can.
 use Rattle.std.proofs.Common.{◌≡◌, ◌⊎◌, List, [], ◌∷◌, take, Option, Some, None, inl, inr, refl, sym, subst}
-use Rattle.wit_syntax.proofs.Common.{Contains, Fault, IsBroken, IsDocumentedTwice, IsOtherPackage, NestedPackage, PackageFile, SourceFile, at_contains, contains_at, fault, headers, last_header}
+use Rattle.wit_items.proofs.Common.{Agrees, ComesTo, Contains, Fault, IsBroken, IsDocumentedTwice, IsOtherPackage, NestedPackage, PackageFile, SourceFile, after_only, after_some, at_contains, contains_at, docs_agree, fault, faultless, first_in, headers, in_agrees, last_header, legal, one_first}
 use mathlib.Core.Path.{fun_ext}
 use Rattle.wit_tree.specs.declared.tree.PackageName.{PackageName as Header}
-use Rattle.wit_walk.proofs.Common.{Agrees, ComesTo, after_only, after_some, faultless, first_in, in_agrees, legal, one_first}
-use Rattle.wit_items.proofs.Documented.{docs_agree}
 use Rattle.wit_parser.proofs.Pushing.{or_agrees, other_agrees}
 use Rattle.wit_nested.specs.Nested.{IsBrokenAmong, IsBrokenNested, IsInner, IsUnfit, file_of}
 use Rattle.wit_nested.specs.Nested.IsBrokenNested.{Inner, Alone}

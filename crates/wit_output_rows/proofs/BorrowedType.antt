@@ -1,7 +1,7 @@
 -- A package with a handle of another package's type, and its listing.
 use Rattle.std.proofs.Common.{◌≡◌, ℕ, zero, suc, List, [], ◌∷◌, None, Some, refl, lit<, lit≤}
 use Rattle.std.specs.Fmt.{digits}
-use Rattle.wit_syntax.proofs.Common.{Borrow, ForeignName, Global, SourceFile, TypeDef, Unknown, Used, codes, contains_at, no_docs, rows_of, scope, scope_names, slice_get, take}
+use Rattle.wit_arena.proofs.Common.{Borrow, ForeignName, Function, Global, Interface, IsEntryOf, Makes, Occurrence, SourceFile, TypeDef, Unknown, UnresolvedPackage, Used, codes, contains_at, interface_scopes, no_docs, owner_at, rows_of, same_key, same_key_determines, scope, scope_names, slice_get, take, world_scopes}
 use denote.RawPtr.{Ptr}
 use Rattle.wit_lex.specs.declared.source.Source.{Source}
 use Rattle.wit_grammar.specs.Laws.{IsReadAs}
@@ -10,7 +10,6 @@ use Rattle.wit_grammar.proofs.Opened.{all_rules, reading}
 use Rattle.wit_grammar.proofs.Whole.{read_is_spelled}
 use Rattle.wit_types.specs.declared.types.«Type».TheVariants as type
 use Rattle.wit_types.specs.declared.types.TypeDefKind.TheVariants as kind
-use Rattle.wit_arena.proofs.Common.{Function, Interface, IsEntryOf, Makes, Occurrence, UnresolvedPackage, interface_scopes, owner_at, same_key, same_key_determines, world_scopes}
 use Rattle.wit_functions.specs.declared.function.FunctionKind.TheVariants.{Freestanding}
 use Rattle.wit_model.specs.declared.ast_item.AstItem.TheVariants as entry
 use Rattle.wit_listing.specs.Listing.{listing_text}

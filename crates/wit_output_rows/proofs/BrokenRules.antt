@@ -1,7 +1,8 @@
 -- Texts that break a rule, each with the line that is printed of it.
 use Rattle.std.proofs.Common.{◌≡◌, ℕ, true, List, [], ◌∷◌, None, Some, refl, lit<, lit≤}
 use Rattle.std.specs.Fmt.{digits}
-use Rattle.wit_syntax.proofs.Common.{AstItem, Global, Id, Imported, InterfaceItem, Plain, Record, Resource, SourceFile, Span, TypeBody, Vec, codes, fault_in, function_as_type, is_label, name_twice, param_twice}
+use Rattle.wit_walk.proofs.Common.{AstItem}
+use Rattle.wit_arena.proofs.Common.{Global, Id, Imported, InterfaceItem, Plain, Record, Resource, SourceFile, Span, TypeBody, Vec, codes, fault_in, function_as_type, is_label, name_twice, param_twice}
 use denote.RawPtr.{Ptr}
 use Rattle.wit_type_tree.specs.declared.types.FuncForm.TheVariants as form
 use Rattle.wit_type_tree.specs.declared.types.Primitive.TheVariants as primitive

@@ -1,6 +1,6 @@
 -- First faults of sources, and the places of their lines.
 use Rattle.std.proofs.Common.{◌≡◌, ℕ, ◌+◌, ◌-◌, ◌≤◌, true, List, [], ◌∷◌, length, None, Some, string_bytes, refl, arith}
-use Rattle.wit_syntax.proofs.Common.{Fault, IsCharBoundary-from_ascii, SourceFile, Span, slice_get, slice_range}
+use Rattle.wit_arena.proofs.Common.{Fault, IsCharBoundary-from_ascii, SourceFile, Span, slice_get, slice_range}
 use Rattle.wit_lex.specs.declared.fault.ReadFault.{ReadFault}
 use Rattle.wit_lex.specs.declared.source.Source.{Source}
 use Rattle.wit_lex.specs.Sources.{IsLocated}

@@ -1,7 +1,6 @@
 -- Parts of what files make, where their tables have orders.
 use Rattle.std.proofs.Common.{◌≡◌, ℕ, zero, suc, true, List, [], ◌∷◌, Option, Some, None, refl, ap, subst, subst₂, Contains}
-use Rattle.wit_syntax.proofs.Common.{IsOrder, Item, PackageFile, address, all_items, all_scopes, at_contains, in_order, item_rows, position_or_len, rows_of, same_Some, scope, scope_names, slice_get}
-use Rattle.wit_arena.proofs.Common.{AreRequired, Key, Occurrence, same_key}
+use Rattle.wit_arena.proofs.Common.{IsOrder, Item, Key, Occurrence, PackageFile, address, all_items, all_scopes, at_contains, in_order, item_rows, position_or_len, rows_of, same_Some, same_key, scope, scope_names, slice_get}
 use Rattle.wit_output_rows.proofs.Sorting.{is_sorted, sorted, sorted_order}
 
 -- the items of files, and the names of each scope, in their orders
@@ -42,7 +41,3 @@ AtPlace Holds n None y = Unit {0}
 
 pub by_places : {X Y : Type 0} (Holds : ℕ → X → Y → Type 0) (xs : List X) (ys : List Y) → ((n : ℕ) → AtPlace Holds n (slice_get xs n) (slice_get ys n)) → (n : ℕ) (x : X) (y : Y) → slice_get xs n ≡ Some x → slice_get ys n ≡ Some y → Holds n x y
 by_places Holds xs ys each n x y there here = subst₂ (AtPlace Holds n) there here (each n)
-
--- no name in a handle requires anything
-pub none_required : (files : List PackageFile) (ks : List Key) → AreRequired files ks [] []
-none_required files ks = ([], tt, refl)

@@ -1,6 +1,6 @@
 -- Outcomes of tables that compute: where there is an order, and where the only name that is needed is missing.
 use Rattle.std.proofs.Common.{◌≡◌, ℕ, Bool, true, false, List, [], ◌∷◌, Option, Some, None, inl, inr, refl, ap, arith}
-use Rattle.wit_syntax.proofs.Common.{Id, Row, slice_get, target}
+use Rattle.wit_arena.proofs.Common.{Id, Row, slice_get, target}
 use Rattle.wit_walk.proofs.Common.{AtMissing, InOrder, IsOutcome, Outcome}
 use Rattle.wit_walk.proofs.Outcomes.{outcome_of}
 use Rattle.wit_output_rows.proofs.Sorting.{is_sorted, sorted, sorted_order}

@@ -1,7 +1,8 @@
 -- Texts that are refused, each with the line that is printed of it.
 use Rattle.std.proofs.Common.{ℕ, List, [], ◌∷◌, Option, Some, None, refl, lit<, lit≤}
 use Rattle.std.specs.Fmt.{digits}
-use Rattle.wit_syntax.proofs.Common.{AstItem, Fault, Global, Id, InterfaceItem, Plain, SourceFile, Span, Vec, Version, codes, fault, fault_in, mismatch, missing_type_at, package_of}
+use Rattle.wit_walk.proofs.Common.{AstItem}
+use Rattle.wit_arena.proofs.Common.{Fault, Global, Id, InterfaceItem, Plain, SourceFile, Span, Vec, Version, codes, fault, fault_in, mismatch, missing_type_at, package_of}
 use denote.RawPtr.{Ptr}
 use Rattle.wit_type_tree.specs.declared.types.«Type».TheVariants as written
 use Rattle.wit_tree.specs.declared.tree.AstItem.TheVariants as ast

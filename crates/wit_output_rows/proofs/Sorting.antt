@@ -1,6 +1,6 @@
 -- The least order of a table, computed: the least place that is ready comes next.
 use Rattle.std.proofs.Common.{◌≡◌, ℕ, zero, suc, ◌+◌, ◌<◌, ◌≤◌, Bool, true, false, not, ◌&&◌, ◌||◌, List, [], ◌∷◌, ◌++◌, length, nat_eq, if◌then◌else◌, Option, Some, None, IsSome, is_some, inl, inr, refl, sym, ap, ◌∙◌, arith, eqb-true, eq-eqb}
-use Rattle.wit_syntax.proofs.Common.{Id, IsBefore, IsEdge, IsGreedy, IsOrder, Leads, Row, and_parts, cases_Bool, cases_lt, greedy_least, greedy_nil, greedy_push, greedy_sorted, list_all, list_any, slice_get, slice_index, target}
+use Rattle.wit_arena.proofs.Common.{Id, IsBefore, IsEdge, IsGreedy, IsOrder, Leads, Row, and_parts, cases_Bool, cases_lt, greedy_least, greedy_nil, greedy_push, greedy_sorted, list_all, list_any, slice_get, slice_index, target}
 
 -- what passes at each place
 all_get : {X : Type 0} (test : X → Bool) (xs : List X) (i : ℕ) (x : X) → list_all test xs ≡ true → slice_get xs i ≡ Some x → test x ≡ true

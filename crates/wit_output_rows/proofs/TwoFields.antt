@@ -1,7 +1,7 @@
 -- A package with two fields of one type, and its listing.
 use Rattle.std.proofs.Common.{◌≡◌, ℕ, zero, suc, List, [], ◌∷◌, Some, None, refl, lit<, lit≤}
 use Rattle.std.specs.Fmt.{digits}
-use Rattle.wit_syntax.proofs.Common.{Defined, Global, SourceFile, TypeDef, codes, contains_at, rows_of, scope, scope_names, slice_get, take}
+use Rattle.wit_arena.proofs.Common.{Defined, Global, IsEntryOf, Makes, Occurrence, SourceFile, TypeDef, UnresolvedPackage, codes, contains_at, interface_scopes, keys, owner_at, required_none, rows_of, same_key, same_key_determines, scope, scope_names, slice_get, take, world_scopes}
 use denote.RawPtr.{Ptr}
 use Rattle.wit_lex.specs.declared.source.Source.{Source}
 use Rattle.wit_grammar.specs.Laws.{IsReadAs}
@@ -10,13 +10,12 @@ use Rattle.wit_grammar.proofs.Opened.{all_rules, reading}
 use Rattle.wit_grammar.proofs.Whole.{read_is_spelled}
 use Rattle.wit_types.specs.declared.types.«Type».TheVariants as type
 use Rattle.wit_types.specs.declared.types.TypeDefKind.TheVariants as kind
-use Rattle.wit_arena.proofs.Common.{IsEntryOf, Makes, Occurrence, UnresolvedPackage, interface_scopes, keys, owner_at, same_key, same_key_determines, world_scopes}
 use Rattle.wit_listing.specs.Listing.{listing_text}
 use Rattle.wit_groups.specs.SourceFaults.{AreFaultless, Tree}
 use Rattle.wit_nested.proofs.Pushes.{a_walk}
 use Rattle.wit_tool.specs.Output.{IsOutput, OfSources, Listing}
 use Rattle.wit_meaning_examples.proofs.Examples.{at, vec, file, files, item, p, list_seen, p_seen, list_entry, p_entry, i_entry, package_with}
-use Rattle.wit_output_rows.proofs.Making.{items_sorted, items_in_order, names_sorted, names_by_address, names_in, place_among, AtPlace, by_places, none_required}
+use Rattle.wit_output_rows.proofs.Making.{items_sorted, items_in_order, names_sorted, names_by_address, names_in, place_among, AtPlace, by_places}
 use Rattle.wit_output_rows.proofs.Sorting.{sorted_order}
 use Rattle.wit_output_rows.proofs.Values.{source}
 use Rattle.wit_output_rows.proofs.Walks.{one_by_path, walks_to, joined_none}
@@ -90,7 +89,7 @@ module _ (ptr : Ptr) (alloc : Global) where
     types = fields_entries;
     interfaces = refl;
     worlds = refl;
-    required = none_required (files ptr alloc) (keys fields_seen);
+    required = required_none (files ptr alloc) (keys fields_seen);
   }
 
   abbrev fields_listing : List ℕ

@@ -1,7 +1,8 @@
 -- A package with another one that is nested in its file, and their listings.
 use Rattle.std.proofs.Common.{◌≡◌, ℕ, List, [], ◌∷◌, Option, Some, None, refl, ap, lit<, lit≤}
 use Rattle.std.specs.Fmt.{digits}
-use Rattle.wit_syntax.proofs.Common.{AstItem, Fault, Global, Id, Interface as WrittenInterface, Item, NestedPackage, PackageFile, SourceFile, TheInterface, Unknown, Vec, codes, no_docs, option_or, package_of, rows_of, scope_names, top_names}
+use Rattle.wit_walk.proofs.Common.{AstItem, Interface as WrittenInterface}
+use Rattle.wit_arena.proofs.Common.{Fault, Global, Id, Item, Makes, NestedPackage, PackageFile, SourceFile, TheInterface, Unknown, UnresolvedPackage, Vec, codes, no_docs, option_or, package_of, required_none, rows_of, same_key, same_key_determines, scope_names, top_names}
 use denote.RawPtr.{Ptr}
 use Rattle.wit_tree.specs.declared.tree.AstItem.TheVariants as ast
 use Rattle.wit_tree.specs.declared.tree.PackageName.{PackageName as Header}
@@ -10,7 +11,6 @@ use Rattle.wit_grammar.specs.Laws.{IsReadAs}
 use Rattle.wit_grammar.specs.Seen.{see_file}
 use Rattle.wit_grammar.proofs.Opened.{all_rules, reading}
 use Rattle.wit_grammar.proofs.Whole.{read_is_spelled}
-use Rattle.wit_arena.proofs.Common.{Makes, UnresolvedPackage, same_key, same_key_determines}
 use Rattle.wit_listing.specs.Listing.{listing_text}
 use Rattle.wit_nested.specs.Nested.{file_of}
 use Rattle.wit_nested.specs.PushFaults.{source_fault}
@@ -18,7 +18,7 @@ use Rattle.wit_nested.proofs.Pushes.{a_walk}
 use Rattle.wit_groups.specs.SourceFaults.{AreFaultless, SequenceComesTo, Tree}
 use Rattle.wit_tool.specs.Output.{IsOutput, OfSources, Listing}
 use Rattle.wit_meaning_examples.proofs.Examples.{at, id, vec, no_comments, unstated}
-use Rattle.wit_output_rows.proofs.Making.{items_sorted, items_in_order, names_sorted, names_by_address, names_in, place_among, none_required}
+use Rattle.wit_output_rows.proofs.Making.{items_sorted, items_in_order, names_sorted, names_by_address, names_in, place_among}
 use Rattle.wit_output_rows.proofs.Sorting.{sorted_order}
 use Rattle.wit_output_rows.proofs.Values.{source}
 use Rattle.wit_output_rows.proofs.Walks.{one_by_path, walks_to, joined_none, no_earlier}
@@ -125,7 +125,7 @@ module _ (ptr : Ptr) (alloc : Global) where
     types = λ n m e at there. absurd (let f : ⊥ = cc in f);
     interfaces = refl;
     worlds = refl;
-    required = none_required (own_file ∷ []) [];
+    required = required_none (own_file ∷ []) [];
   }
 
   nested_made : Makes (file_of nested ∷ []) (made c_d i_name)
@@ -151,7 +151,7 @@ module _ (ptr : Ptr) (alloc : Global) where
     types = λ n m e at there. absurd (let f : ⊥ = cc in f);
     interfaces = refl;
     worlds = refl;
-    required = none_required (file_of nested ∷ []) [];
+    required = required_none (file_of nested ∷ []) [];
   }
 
   abbrev listing : List ℕ

@@ -1,20 +1,19 @@
 -- A package as it is usually written, and its listing.
 use Rattle.std.proofs.Common.{◌≡◌, ℕ, zero, suc, List, [], ◌∷◌, ◌++◌, Some, None, refl, sym, ap, lit<, lit≤}
 use Rattle.std.specs.Fmt.{digits}
-use Rattle.wit_syntax.proofs.Common.{Borrow, Defined, ForeignName, Global, Metadata, SourceFile, TypeDef, Used, codes, contains_at, foreign_interfaces, map, rows_of, scope, scope_names, slice_get, take}
+use Rattle.wit_arena.proofs.Common.{Borrow, Defined, ForeignName, Global, IsEntryOf, Makes, Metadata, Occurrence, SourceFile, TypeDef, Used, codes, contains_at, foreign_interface, foreign_interfaces, interface_scopes, keys, map, own_interface, own_interfaces, owner_at, required_none, rows_of, same_key, same_key_determines, scope, scope_names, slice_get, take, world_scopes}
 use denote.RawPtr.{Ptr}
 use Rattle.wit_lex.specs.declared.source.Source.{Source}
 use Rattle.wit_grammar.proofs.Examples.{this_tree}
 use Rattle.wit_types.specs.declared.types.«Type».TheVariants as type
 use Rattle.wit_types.specs.declared.types.TypeDefKind.TheVariants as kind
-use Rattle.wit_arena.proofs.Common.{IsEntryOf, Makes, Occurrence, foreign_interface, interface_scopes, keys, own_interface, own_interfaces, owner_at, same_key, same_key_determines, world_scopes}
 use Rattle.wit_listing.specs.Listing.{listing_text}
 use Rattle.wit_nested.proofs.Pushes.{a_walk}
 use Rattle.wit_groups.specs.SourceFaults.{AreFaultless, Tree}
 use Rattle.wit_tool.specs.Output.{IsOutput, OfSources, Listing}
 use Rattle.wit_meaning_examples.proofs.Examples.{vec}
 use Rattle.wit_meaning_examples.proofs.UsualExamples.{io_error, used_error, input, files, file, streams_item, w_item, seen, types, whole, io_interface, streams_interface, stated_of_streams}
-use Rattle.wit_output_rows.proofs.Making.{items_sorted, items_in_order, names_sorted, names_by_address, names_in, place_among, AtPlace, by_places, none_required}
+use Rattle.wit_output_rows.proofs.Making.{items_sorted, items_in_order, names_sorted, names_by_address, names_in, place_among, AtPlace, by_places}
 use Rattle.wit_output_rows.proofs.Sorting.{sorted_order}
 use Rattle.wit_output_rows.proofs.Values.{source}
 use Rattle.wit_output_rows.proofs.Walks.{one_by_path, walks_to, joined_none}
@@ -92,7 +91,7 @@ module _ (ptr : Ptr) (alloc : Global) where
     types = entries;
     interfaces = interfaces_made;
     worlds = refl;
-    required = none_required (files ptr alloc) (keys (seen ptr alloc));
+    required = required_none (files ptr alloc) (keys (seen ptr alloc));
   }
 
   listed : listing ≡ listing_text (whole ptr alloc) []

@@ -1,6 +1,6 @@
 -- Strings and sources with given bytes, wherever they lie.
 use Rattle.std.proofs.Common.{◌≡◌, ℕ, ◌+◌, ◌<◌, ◌^◌, Bool, true, List, [], ◌∷◌, length, nat_lt, ltb-true}
-use Rattle.wit_syntax.proofs.Common.{Global, IsAscii, IsUtf8-from_ascii, String, and_parts, list_all}
+use Rattle.wit_arena.proofs.Common.{Global, IsAscii, IsUtf8-from_ascii, String, and_parts, list_all}
 use Rattle.std.specs.Prelude.{IsUtf8}
 use denote.RawPtr.{Ptr}
 use Rattle.std.proofs.lemmas.Str.Ascii.{IsAscii-nil, IsAscii-cons}

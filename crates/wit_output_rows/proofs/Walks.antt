@@ -1,6 +1,6 @@
 -- What the walk of files comes to, where it computes; and sources that are in the order of their paths.
 use Rattle.std.proofs.Common.{◌≡◌, ℕ, zero, suc, ◌+◌, ◌<◌, ◌≤◌, false, List, [], ◌∷◌, Option, Some, None, get_or, string_bytes, refl, sym, subst, arith}
-use Rattle.wit_syntax.proofs.Common.{Fault, IsPermutation-refl, PackageFile, SourceFile, is_lt, last_header, nat_cmp, slice_cmp}
+use Rattle.wit_arena.proofs.Common.{Fault, IsPermutation-refl, PackageFile, SourceFile, is_lt, last_header, nat_cmp, slice_cmp}
 use Rattle.wit_lex.specs.declared.source.Source.{Source}
 use Rattle.wit_bundle.specs.SourcePaths.{IsByPath}
 use Rattle.wit_walk.proofs.Common.{ComesTo, IsOr, earliest, first_fault, one_first}

@@ -1,11 +1,11 @@
 -- In a backward arena an alias, and a handle, name an earlier type.
 use Rattle.std.proofs.Common.{◌≡◌, ◌<◌, ◌≤◌, ◌+◌, ℕ, List, Some, ap, arith}
-use Rattle.wit_syntax.proofs.Common.{IsBackward, IsBelow, TypeDef, TypeDefKind, handled_of, length, option_and_then_some, places_to, rank, slice_get, slice_get_within, ∥∥₁_elim}
-use Rattle.std.proofs.Props.{props}
+use Rattle.wit_arena.proofs.Common.{IsBackward, TypeDef, TypeDefKind, UnresolvedPackage, handled_of, length, option_and_then_some, places_to, rank, slice_get, slice_get_within, ∥∥₁_elim}
+use Rattle.wit_walk.proofs.Common.{IsBelow}
 use Rattle.wit_types.specs.InnerTypes.{place_of}
+use Rattle.std.proofs.Props.{props}
 use Rattle.wit_types.specs.declared.types.«Type».{«Type» as Ty}
 use Rattle.wit_types.specs.declared.types.TypeDefKind.TheVariants as kind
-use Rattle.wit_arena.proofs.Common.{UnresolvedPackage}
 use Rattle.wit_resolved.specs.AliasEnds.{aliased, aliased_at}
 use Rattle.wit_resolved.specs.Valid.{IsValid}
 

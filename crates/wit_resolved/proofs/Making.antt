@@ -1,8 +1,7 @@
 -- Legal files make each package of a group.
 use Rattle.std.proofs.Common.{◌≡◌, ℕ, List, [], ◌∷◌, Some, slice_get, refl, ap, ◌∙◌, subst, sym, inl, inr, zero, suc}
-use Rattle.wit_syntax.proofs.Common.{AllZip, NestedPackage, PackageFile, at_split}
+use Rattle.wit_arena.proofs.Common.{AllZip, IsMadeOf, NestedPackage, PackageFile, UnresolvedPackage, at_split}
 use Rattle.wit_lex.specs.declared.source.Source.{Source}
-use Rattle.wit_arena.proofs.Common.{IsMadeOf, UnresolvedPackage}
 use Rattle.wit_nested.specs.Nested.{GrowByNested, IsMadeByNested, file_of}
 use Rattle.wit_groups.specs.Groups.{AreUsed, IsGroup}
 use Rattle.wit_groups.specs.Groups.AreUsed.{None, More}

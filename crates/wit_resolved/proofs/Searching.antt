@@ -1,7 +1,6 @@
 -- Lists that are gone through from the prefix.
 use Rattle.std.proofs.Common.{◌≡◌, ◌+◌, ◌<◌, ℕ, List, ◌∷◌, Option, Some, None, drop, length, map, refl, ap, sym, ◌∙◌, add-one, drop-cons}
-use Rattle.wit_syntax.proofs.Common.{get_or_from_slice_get, option_or, slice_get, slice_get_within}
-use Rattle.wit_arena.proofs.Common.{Function, UnresolvedPackage}
+use Rattle.wit_arena.proofs.Common.{Function, UnresolvedPackage, get_or_from_slice_get, option_or, slice_get, slice_get_within}
 use Rattle.wit_resolved.specs.Left.{entries_from, functions_from}
 use Rattle.wit_resolved.specs.Lookups.{first_of}
 

@@ -1,9 +1,8 @@
 -- What is known of the entries of a valid package.
 use Rattle.std.proofs.Common.{◌≡◌, ◌<◌, ◌+◌, ℕ, List, [], length, map, Option, Some, refl, ap, ◌∙◌, subst}
-use Rattle.wit_syntax.proofs.Common.{Exported, FunctionKey, Imported, IsBackward, at_back, at_prefix, flat_map, flat_map_has, option_map, option_map_or, slice_get, slice_get-map, ∥∥₁_elim, ∥∥₁_map}
+use Rattle.wit_arena.proofs.Common.{Exported, Function, FunctionKey, HasMarkOf, Imported, Interface, IsBackward, UnresolvedPackage, World, WorldItem, WorldKey, at_back, at_prefix, flat_map, flat_map_has, functions_of, interface_functions, item_functions, keyed, mark_of, option_map, option_map_or, slice_get, slice_get-map, world_functions, ∥∥₁_elim, ∥∥₁_map}
 use Rattle.std.proofs.Props.{props}
 use Rattle.wit_types.specs.declared.types.TypeOwner.TheVariants as owner
-use Rattle.wit_arena.proofs.Common.{Function, HasMarkOf, Interface, UnresolvedPackage, World, WorldItem, WorldKey, functions_of, interface_functions, item_functions, keyed, mark_of, world_functions}
 use Rattle.wit_model.specs.declared.world.WorldItem.TheVariants as item
 use Rattle.wit_model.specs.declared.world.WorldKey.TheVariants as key
 use Rattle.wit_parser.specs.Ids.{AreNamesWithin, IsItemWithin}

@@ -1,6 +1,6 @@
 -- The line of a refusal is that of its fault.
 use Rattle.std.proofs.Common.{◌≡◌, ℕ, ◌<◌, false, List, [], Option, Some, None, refl, sym, ap, ◌∙◌, true≢false, arith}
-use Rattle.wit_syntax.proofs.Common.{IsAllocationFailure, ItemNotFound, OutOfMemory, ParseError, ParseErrorKind, Syntax, TypeCycle, as_stated, codes, fault_of, kind_text, span_of}
+use Rattle.wit_arena.proofs.Common.{IsAllocationFailure, ItemNotFound, OutOfMemory, ParseError, ParseErrorKind, Syntax, TypeCycle, as_stated, codes, fault_of, kind_text, span_of}
 use Rattle.wit_lex.specs.declared.source.Source.{Source}
 use Rattle.wit_lex.specs.Sources.{IsTooLarge, ReportsTooLarge}
 use Rattle.wit_listing.specs.ErrorLine.{IsErrorLine, IsPlaceAt, IsPlaceOf, Place, error_text, has_place, line_text}

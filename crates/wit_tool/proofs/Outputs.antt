@@ -1,11 +1,10 @@
 -- What calls write is the output of their sources or their text.
 use Rattle.std.proofs.Common.{◌≡◌, ◌⊎◌, inl, inr, ℕ, ◌≤◌, List, [], ◌∷◌, ◌++◌, map, Option, Some, None, Result, Ok, Err, refl, ap, sym, subst}
-use Rattle.wit_syntax.proofs.Common.{AllZip, IsAllocationFailure, NestedPackage, PackageFile, ParseError, SourceFile, fault_of}
+use Rattle.wit_arena.proofs.Common.{AllZip, IsAllocationFailure, Makes, NestedPackage, PackageFile, ParseError, SourceFile, UnresolvedPackage, fault_of}
 use Rattle.wit_lex.specs.declared.source.Source.{Source}
 use Rattle.wit_lex.specs.Sources.{IsTooLarge}
 use Rattle.wit_bundle.specs.Bundle.{sources_of}
 use Rattle.wit_bundle.specs.Laid.{AreLaid, room}
-use Rattle.wit_arena.proofs.Common.{Makes, UnresolvedPackage}
 use Rattle.wit_nested.specs.Nested.{IsMadeByNested, file_of}
 use Rattle.wit_nested.specs.PushFaults.{nested_of}
 use Rattle.wit_nested.proofs.Pushes.{a_walk}

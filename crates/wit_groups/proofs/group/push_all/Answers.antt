@@ -1,4 +1,4 @@
-use Rattle.wit_syntax.proofs.Common.{err_from_is_err_and}
+use Rattle.wit_arena.proofs.Common.{err_from_is_err_and}
 use Rattle.wit_groups.proofs.Outcome.{used_more, used_none, unfit, unread}
 use Rattle.wit_groups.proofs.FirstFaults.{push_stops, read_stops}
 use Rattle.wit_groups.proofs.group.push_all.Goals as goal

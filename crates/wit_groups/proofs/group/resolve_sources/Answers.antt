@@ -1,5 +1,5 @@
 use Rattle.std.proofs.Common.{map}
-use Rattle.wit_syntax.proofs.Common.{err_from_is_err_and}
+use Rattle.wit_arena.proofs.Common.{err_from_is_err_and}
 use Rattle.wit_groups.specs.Groups.IsRefused.{InTurn}
 use Rattle.wit_groups.proofs.FirstFaults.{joined_first, stopped_first}
 use Rattle.wit_groups.proofs.Outcome.{not_joined, now_of}

@@ -1,4 +1,4 @@
-use Rattle.wit_syntax.proofs.Common.{Decides-and, Decides-at, Decides-like}
+use Rattle.wit_arena.proofs.Common.{Decides-and, Decides-at, Decides-like}
 use Rattle.wit_lex.proofs.Maps.{Decides-map}
 use Rattle.wit_model.proofs.SameMaps.{Decides-lists, Decides-package}
 use Rattle.wit_groups.proofs.laws.is_same_group.Goals as goal

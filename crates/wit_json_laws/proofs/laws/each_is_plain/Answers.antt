@@ -1,5 +1,5 @@
 use Rattle.std.proofs.Common.{Some, ap, sym, ◌∙◌, subst, take_all}
-use Rattle.wit_syntax.proofs.Common.{All, slice_get-get_or}
+use Rattle.wit_arena.proofs.Common.{All, slice_get-get_or}
 use Rattle.wit_json_laws.specs.Laws.{IsPlainWhereMade}
 use Rattle.wit_json_laws.proofs.Lists.{all_next, all_none}
 use Rattle.wit_json_laws.proofs.laws.each_is_plain.Goals as goal

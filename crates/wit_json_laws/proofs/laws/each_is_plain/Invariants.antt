@@ -1,5 +1,5 @@
 use Rattle.std.proofs.Common.{take}
-use Rattle.wit_syntax.proofs.Common.{All}
+use Rattle.wit_arena.proofs.Common.{All}
 use Rattle.wit_json_laws.specs.Laws.{IsPlainWhereMade}
 use Rattle.wit_json_laws.proofs.laws.each_is_plain.Given as goal
 

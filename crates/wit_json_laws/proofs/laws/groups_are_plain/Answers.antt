@@ -1,5 +1,5 @@
 use Rattle.std.proofs.Common.{subst}
-use Rattle.wit_syntax.proofs.Common.{All}
+use Rattle.wit_arena.proofs.Common.{All}
 use Rattle.wit_json_laws.specs.Laws.{IsPlainWhereMade}
 use Rattle.wit_json_laws.proofs.PlainGroups.{plain_group}
 use Rattle.wit_json_laws.proofs.laws.groups_are_plain.Goals as goal

@@ -1,8 +1,7 @@
 use Rattle.std.proofs.Common.{◌≡◌, ◌+◌, ◌-◌, subst, arith}
 use Rattle.wit_type_tree.specs.Comments.{IsNested, Opened, Deeper, Inside}
 use Rattle.wit_lex.proofs.Comments.{nested_closed, nested_last, nested_slash}
-use Rattle.wit_lex.proofs.blank.block_end.Goals.{else-slash-at-via-then-slash-at+else-bytes-slash-eq42, else-slash-at-via-else-slash-at}
-use Rattle.wit_lex.proofs.blank.block_end.Goals.{else-len-slash-ge2-via-then-len-slash-ge2+else-bytes-slash-eq42-2, else-len-slash-ge2-via-else-len-slash-ge2}
+use Rattle.wit_lex.proofs.blank.block_end.Goals.{else-slash-at-via-then-slash-at+else-bytes-slash-eq42, else-slash-at-via-else-slash-at, else-len-slash-ge2-via-then-len-slash-ge2+else-bytes-slash-eq42-2, else-len-slash-ge2-via-else-len-slash-ge2}
 use Rattle.wit_lex.proofs.blank.block_end.Goals as goal
 
 pub loop-slash-init : goal.loop-slash-init

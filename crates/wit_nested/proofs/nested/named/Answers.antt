@@ -1,5 +1,5 @@
 use Rattle.std.proofs.Common.{rules, ◌≡◌, ◌++◌, ◌∷◌, [], ap, ◌∙◌, sym, append_assoc}
-use Rattle.wit_syntax.proofs.Common.{append-nil, into_iter_items, nil_from_length}
+use Rattle.wit_items.proofs.Common.{append-nil, into_iter_items, nil_from_length}
 use Rattle.wit_nested.proofs.Making.{name_more}
 use Rattle.wit_nested.proofs.nested.named.Goals as goal
 

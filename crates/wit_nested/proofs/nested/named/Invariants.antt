@@ -1,5 +1,5 @@
 use Rattle.std.proofs.Common.{◌≡◌, ◌++◌, map}
-use Rattle.wit_syntax.proofs.Common.{into_iter_items}
+use Rattle.wit_items.proofs.Common.{into_iter_items}
 use Rattle.wit_nested.proofs.nested.named.Given as goal
 
 abbrev pub invariant-loop-name : goal.invariant-loop-name

@@ -1,7 +1,6 @@
 use Rattle.std.proofs.Common.{rules, ◌≡◌, ◌++◌, ◌∷◌, [], ap, ◌∙◌, sym, subst, append_assoc}
-use Rattle.wit_syntax.proofs.Common.{AllZip, append-nil, err_from_is_err_and, into_iter_items, nil_from_length}
+use Rattle.wit_items.proofs.Common.{AllZip, append-nil, err_from_is_err_and, first_in, in-more, into_iter_items, nil_from_length}
 use Rattle.wit_nested.specs.Nested.{IsMadeByNested}
-use Rattle.wit_walk.proofs.Common.{first_in, in-more}
 use Rattle.wit_nested.specs.PushFaults.{nested_fault}
 use Rattle.wit_nested.proofs.FirstFaults.{in_stops}
 use Rattle.wit_nested.proofs.Making.{broken_at, zip_more}

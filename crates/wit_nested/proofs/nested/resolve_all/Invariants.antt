@@ -1,6 +1,5 @@
 use Rattle.std.proofs.Common.{◌≡◌, ◌++◌, List, Option, None}
-use Rattle.wit_syntax.proofs.Common.{AllZip, Fault, PackageFile, into_iter_items}
-use Rattle.wit_walk.proofs.Common.{first_in}
+use Rattle.wit_items.proofs.Common.{AllZip, Fault, PackageFile, first_in, into_iter_items}
 use Rattle.wit_nested.specs.Nested.{IsMadeByNested}
 use Rattle.wit_nested.specs.PushFaults.{IsWalk, nested_fault}
 use Rattle.wit_nested.proofs.nested.resolve_all.Given as goal

@@ -1,5 +1,4 @@
-use Rattle.wit_syntax.proofs.Common.{err_from_is_err_and}
-use Rattle.wit_walk.proofs.Common.{refused_by}
+use Rattle.wit_items.proofs.Common.{err_from_is_err_and, refused_by}
 use Rattle.wit_parser.proofs.Pushing.{push_agrees}
 use Rattle.wit_nested.proofs.FirstFaults.{one_finds, one_stops}
 use Rattle.wit_nested.proofs.Making.{inner_broken, one_broken, one_made}

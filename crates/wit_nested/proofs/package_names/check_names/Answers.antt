@@ -1,5 +1,5 @@
 use Rattle.std.proofs.Common.{inl, inr, ap, ◌∙◌}
-use Rattle.wit_syntax.proofs.Common.{Span, fault_in, package_words}
+use Rattle.wit_items.proofs.Common.{Span, fault_in, package_words}
 use Rattle.wit_nested.proofs.package_names.check_names.Goals as goal
 
 pub returns-in-Some-clause-refused : goal.returns-in-Some-clause-refused

@@ -1,6 +1,6 @@
 use denote.Ref.{Bor}
 use Rattle.std.proofs.Common.{not, ap, ◌∙◌}
-use Rattle.wit_syntax.proofs.Common.{PackageName, is_some, is_some-lookup, keys-insert_entry, keys_of, same_package, same_package-equal, same_package-from}
+use Rattle.wit_items.proofs.Common.{PackageName, is_some, is_some-lookup, keys-insert_entry, keys_of, same_package, same_package-equal, same_package-from}
 use Rattle.wit_nested.proofs.Naming.{inserted, turned}
 use Rattle.wit_nested.proofs.package_names.insert.Goals as goal
 

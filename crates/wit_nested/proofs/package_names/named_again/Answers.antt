@@ -1,6 +1,6 @@
 use denote.Ref.{Bor}
 use Rattle.std.proofs.Common.{ap, map}
-use Rattle.wit_syntax.proofs.Common.{PackageName, keys_of}
+use Rattle.wit_items.proofs.Common.{PackageName, keys_of}
 use Rattle.wit_nested.proofs.Naming.{main_seen, more_seen}
 use Rattle.wit_nested.proofs.package_names.named_again.Goals as goal
 

@@ -1,5 +1,5 @@
 use Rattle.std.proofs.Common.{map}
-use Rattle.wit_syntax.proofs.Common.{keys_of}
+use Rattle.wit_items.proofs.Common.{keys_of}
 use Rattle.wit_nested.proofs.Naming.{AreSeen}
 use Rattle.wit_nested.proofs.package_names.named_again.Given as goal
 

@@ -1,4 +1,4 @@
-use Rattle.wit_syntax.proofs.Common.{∥∥₁_map}
+use Rattle.wit_arena.proofs.Common.{∥∥₁_map}
 use Rattle.wit_resolved.proofs.package_ref.known.Goals as goal
 
 pub returns : goal.returns

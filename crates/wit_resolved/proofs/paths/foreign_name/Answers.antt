@@ -1,5 +1,5 @@
 use Rattle.std.proofs.Common.{ℕ, List, ap, sym, ◌∙◌}
-use Rattle.wit_syntax.proofs.Common.{PackageName, option_map}
+use Rattle.wit_arena.proofs.Common.{PackageName, option_map}
 use Rattle.wit_resolved.specs.Lookups.{foreign_in}
 use Rattle.wit_resolved.proofs.Searching.{first_found, first_step}
 use Rattle.wit_resolved.proofs.paths.foreign_name.Goals as goal

@@ -1,5 +1,5 @@
 use Rattle.std.proofs.Common.{◌≡◌}
-use Rattle.wit_syntax.proofs.Common.{err_from_is_err_and}
+use Rattle.wit_arena.proofs.Common.{err_from_is_err_and}
 use Rattle.wit_tool.proofs.Outputs.{fails_size, writes_size, writes_text}
 use Rattle.wit_tool.proofs.answering.answer_text.Goals as goal
 

@@ -1,6 +1,5 @@
 use Rattle.std.proofs.Common.{◌++◌, ◌∷◌, [], ap, refl, ◌∙◌}
-use Rattle.wit_syntax.proofs.Common.{err_from_is_err_and}
-use Rattle.wit_walk.proofs.Common.{first_in, refused_by}
+use Rattle.wit_items.proofs.Common.{err_from_is_err_and, first_in, refused_by}
 use Rattle.wit_parser.proofs.Pushing.{push_agrees}
 use Rattle.wit_nested.proofs.Fitting.{not_unfit}
 use Rattle.wit_nested.specs.PushFaults.{file_fault, nested_fault}

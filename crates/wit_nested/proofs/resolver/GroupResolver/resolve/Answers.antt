@@ -1,4 +1,4 @@
-use Rattle.wit_syntax.proofs.Common.{err_from_is_err_and}
+use Rattle.wit_items.proofs.Common.{err_from_is_err_and}
 use Rattle.wit_nested.proofs.FirstFaults.{files_stop, joined_none, names_stop}
 use Rattle.wit_nested.proofs.Joining.{broken_files, repeated_package}
 use Rattle.wit_nested.proofs.resolver.GroupResolver.resolve.Goals as goal

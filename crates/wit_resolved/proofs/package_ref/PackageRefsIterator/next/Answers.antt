@@ -1,5 +1,5 @@
 use Rattle.std.proofs.Common.{◌≡◌, ◌∷◌}
-use Rattle.wit_syntax.proofs.Common.{∥∥₁_map}
+use Rattle.wit_arena.proofs.Common.{∥∥₁_map}
 use Rattle.wit_resolved.proofs.Making.{first_made, others_made}
 use Rattle.wit_resolved.proofs.package_ref.PackageRefsIterator.next.Goals as goal
 

@@ -1,4 +1,4 @@
-use Rattle.wit_syntax.proofs.Common.{∥∥₁_map}
+use Rattle.wit_arena.proofs.Common.{∥∥₁_map}
 use Rattle.wit_resolved.proofs.Validity.{imports_valid}
 use Rattle.wit_resolved.proofs.world_ref.WorldRef.imports.Goals as goal
 
