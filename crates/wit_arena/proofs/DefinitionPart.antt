@@ -1,12 +1,12 @@
 -- What occurs in the names of a scope, one after another.
 use Rattle.std.proofs.Common.{◌≡◌, ℕ, ◌+◌, cond, List, [], ◌∷◌, ◌++◌, length, Option, Some, None, nat_eq, inl, inr, refl, sym, ap, ◌∙◌, subst, append_assoc, arith}
-use Rattle.wit_arena.proofs.Names.{Address, AreDistinct, AreKnown, AreNames, AreNew, AreResolved, Attribute, Collects, Decls, Def, Defined, Defines, End, Env, Exprs, IsAdded, IsExtended, IsOccurrence, IsSeen, IsUsed, Key, Names, Occurrence, ResolvedScope, ScopeName, TypeDef, TypeDefKind, TypeOwner, UseName, Used, about_name, all_seen, append-nil, at_back, at_either, at_prefix, at_seam, body_of, differ_at, differ_by, env_of, exprs_of, flat_map-append, insert_entry, keys, kind_of, local_name, local_names, lookup-insert_entry, map, map-append, name_cases, name_exprs, name_itself, name_occurrences, named, names-insert_entry, pointwise, shapes_occurrences, slice_get, slice_get_within, unwrap_or}
+use Rattle.wit_arena.proofs.Names.{Address, AreAt, AreDistinct, AreKnown, AreNames, AreNew, AreResolved, Attribute, Collects, Decls, Def, Defined, Defines, End, Env, Exprs, Extends, IsAdded, IsOccurrence, IsSeen, IsUsed, Key, Names, Occurrence, ResolvedScope, ScopeName, TypeDef, TypeDefKind, TypeOwner, UseName, Used, about_name, all_seen, append-nil, at_back, at_either, at_prefix, at_seam, body_of, differ_at, differ_by, env_of, exprs_of, flat_map-append, insert_entry, keys, kind_of, local_name, local_names, lookup-insert_entry, map, map-append, name_cases, name_exprs, name_itself, name_occurrences, named, names-insert_entry, pointwise, shapes_occurrences, slice_get, slice_get_within, unwrap_or}
 use Rattle.wit_type_tree.specs.declared.types.TypeDef.{TypeDef as Definition}
 use Rattle.wit_types.specs.declared.types.TypeDefKind.TheVariants.{Type_}
 use Rattle.wit_types.specs.declared.types.«Type».TheVariants as type
 use Rattle.wit_arena.proofs.Occurrence.{keys-append, collects_append, collects_from, collects_extended, names_kept, no_defs, occurrence_more, Has, has_either, has_from}
-use Rattle.wit_arena.proofs.Keys.{keys-shapes}
-use Rattle.wit_arena.proofs.Places.{key_extended, same_some}
+use Rattle.wit_arena.proofs.Resolving.{keys-shapes}
+use Rattle.wit_arena.proofs.OneKind.{key_extended, same_some}
 use Rattle.wit_arena.proofs.Turns.{parts_occurrences, all_name_occurrences}
 
 -- a name that was not seen is free
@@ -36,7 +36,7 @@ names_added ks s names name place is fresh at_end = record {
 }
 
 -- a name over parts that were resolved
-defines_from : (old mid new : List TypeDef) (cs : List ResolvedScope) (o : TypeOwner) (s : Address) (names names' : Names) (x : ScopeName) (kind : TypeDefKind) (es : Exprs) → keys (parts_occurrences s x) ≡ all_seen es → ((decls : Decls) (ms : List Occurrence) → IsOccurrence decls ms old → AreNames (keys ms) s (env_of names) → AreKnown (keys ms) s cs → IsExtended decls ms mid (parts_occurrences s x) (name_exprs s x) (kind_of kind).parts) → (kind_of kind).form ≡ (about_name x).body.form → IsAdded mid new o names names' (local_name x) (about_name x).metadata (about_name x).span kind → Defines old new cs o s names names' (x ∷ [])
+defines_from : (old mid new : List TypeDef) (cs : List ResolvedScope) (o : TypeOwner) (s : Address) (names names' : Names) (x : ScopeName) (kind : TypeDefKind) (es : Exprs) → keys (parts_occurrences s x) ≡ all_seen es → ((decls : Decls) (ms : List Occurrence) → IsOccurrence decls ms old → AreNames (keys ms) s (env_of names) → AreKnown (keys ms) s cs → Extends decls ms (parts_occurrences s x) mid (λ ks. AreAt ks (name_exprs s x) (kind_of kind).parts)) → (kind_of kind).form ≡ (about_name x).body.form → IsAdded mid new o names names' (local_name x) (about_name x).metadata (about_name x).span kind → Defines old new cs o s names names' (x ∷ [])
 defines_from old mid new cs o s names names' x kind es keys_of p form a = record {
   from = λ decls ms among distinct anew known m are_present. (
       let name = local_name x in
@@ -55,9 +55,8 @@ defines_from old mid new cs o s names names' x kind es keys_of p form a = record
       record {
         now = y.now ++ it ∷ [];
         collects = subst (λ l. Collects ms l (y.now ++ it ∷ [])) (sym (append-nil (more ++ it ∷ []))) (collects_append more (it ∷ []) ms y.now (y.now ++ it ∷ []) y.collects (inr (fresh, refl)));
-        occurrence = subst (IsOccurrence decls (y.now ++ it ∷ [])) (sym a.last) (occurrence_more it (named o name kind (about_name x).metadata (about_name x).span) y.occurrence fresh (own.0, x, own.1, refl, refl, refl, sym own.2, form, y.at, record { docs = refl; stability = refl; external_id = refl }) refl tt);
-        are_present = rw (a.inserted, keys-append y.now (it ∷ [])) (names_added (keys y.now) s names name (length mid) kept fresh count);
-        listed = ap (map (λ p. p.0)) a.inserted ∙ names-insert_entry names name (length mid) free;
+        occurrence = subst (IsOccurrence decls (y.now ++ it ∷ [])) (sym a.last) (occurrence_more it (named o name kind (about_name x).metadata (about_name x).span) y.occurrence fresh (own.0, x, own.1, refl, refl, refl, sym own.2, form, y.holds, record { docs = refl; stability = refl; external_id = refl }) refl tt);
+        holds = (rw (a.inserted, keys-append y.now (it ∷ [])) (names_added (keys y.now) s names name (length mid) kept fresh count), ap (map (λ p. p.0)) a.inserted ∙ names-insert_entry names name (length mid) free);
       });
 }
 
@@ -77,7 +76,7 @@ defines_used old new cs o s names names' from attributes n u =
       now = ms;
       collects = refl;
       occurrence = m;
-      at = ((u.id, refl, key_at_scope (known.names u.found.place u.target u.found.at) u.found.called original u.id u.present), tt);
+      holds = ((u.id, refl, key_at_scope (known.names u.found.place u.target u.found.at) u.found.called original u.id u.present), tt);
     }) refl u.added
 
 -- what occurs in the parts of a name of a scope are the unnamed expressions in them
@@ -113,7 +112,7 @@ known_kept a b s cs xs h known = record {
 }
 
 pub defines_none : (es : List TypeDef) (cs : List ResolvedScope) (o : TypeOwner) (s : Address) (names : Names) → Defines es es cs o s names names []
-defines_none es cs o s names = record { from = λ decls ms among distinct anew known m are_present. record { now = ms; collects = refl; occurrence = m; are_present = are_present; listed = sym (append-nil (map (λ p. p.0) names)) } }
+defines_none es cs o s names = record { from = λ decls ms among distinct anew known m are_present. record { now = ms; collects = refl; occurrence = m; holds = (are_present, sym (append-nil (map (λ p. p.0) names))) } }
 
 -- some names, and then others
 pub defines_more : (old mid new : List TypeDef) (cs : List ResolvedScope) (o : TypeOwner) (s : Address) (a b c : Names) (xs ys : List ScopeName) → Defines old mid cs o s a b xs → Defines mid new cs o s b c ys → Defines old new cs o s a c (xs ++ ys)
@@ -132,12 +131,11 @@ defines_more old mid new cs o s a b c xs ys p q = record {
               omega arith)
         ];
       } in
-      let y = q.from decls x.now (λ i x at. among (length xs + i) x (at_back xs ys i x at)) distinct_right new_right (known_kept ms x.now s cs xs x.collects known) x.occurrence x.are_present in
+      let y = q.from decls x.now (λ i x at. among (length xs + i) x (at_back xs ys i x at)) distinct_right new_right (known_kept ms x.now s cs xs x.collects known) x.occurrence x.holds.0 in
       record {
         now = y.now;
         collects = subst (λ l. Collects ms l y.now) (sym (flat_map-append (name_occurrences s) xs ys)) (collects_append (all_name_occurrences s xs) (all_name_occurrences s ys) ms x.now y.now x.collects y.collects);
         occurrence = y.occurrence;
-        are_present = y.are_present;
-        listed = y.listed ∙ ap (λ ns. ns ++ local_names ys) x.listed ∙ append_assoc (map (λ p. p.0) a) (local_names xs) (local_names ys) ∙ ap (λ ns. map (λ p. p.0) a ++ ns) (sym (map-append local_name xs ys));
+        holds = (y.holds.0, y.holds.1 ∙ ap (λ ns. ns ++ local_names ys) x.holds.1 ∙ append_assoc (map (λ p. p.0) a) (local_names xs) (local_names ys) ∙ ap (λ ns. map (λ p. p.0) a ++ ns) (sym (map-append local_name xs ys)));
       });
 }

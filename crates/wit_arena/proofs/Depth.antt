@@ -6,8 +6,7 @@ use Rattle.wit_syntax.specs.Source.{head}
 use Rattle.wit_types.specs.declared.types.«Type».{«Type» as Ty}
 use Rattle.wit_types.specs.declared.types.«Type».TheVariants as type
 use Rattle.wit_syntax.specs.Shape as shape
-use Rattle.wit_arena.proofs.Primitives.{primitive_node}
-use Rattle.wit_arena.proofs.Places.{all_at_untaken}
+use Rattle.wit_arena.proofs.OneKind.{primitive_node, all_at_untaken}
 use Rattle.wit_arena.proofs.Shape.{entry_of_key}
 
 -- the one name of a scope that goes by a name is found

@@ -1,13 +1,13 @@
 -- From scopes that are done to names and functions that are, one by one, and back.
 use Rattle.std.proofs.Common.{◌≡◌, ℕ, zero, suc, List, [], ◌∷◌, ◌++◌, length, map, Some, inl, inr, sym, ap, ◌∙◌, subst}
-use Rattle.wit_arena.proofs.Names.{Address, AllDiffer, AreFunctions, AreKnown, AreNames, AreNew, Decls, Def, Defines, Function, IsDefined, IsFunction, Occurrence, PackageFile, ResolvedScope, SourceFunction, TypeDef, at_either, at_prefix, at_seam, differ_more, env_of, flat_map, flat_map_at, keys, local_name, map-append, map_at, option_map, scope, slice_get, slice_get-map}
+use Rattle.wit_arena.proofs.Names.{Address, AddsFunctions, AllDiffer, AreEnded, AreFunctions, AreKnown, AreNames, AreNew, AreOwned, AreRequired, Collects, Decls, Def, Defines, Extends, Function, Id, IsFunction, Occurrence, PackageFile, Required, ResolvedScope, ScopeName, SourceFunction, TypeDef, TypeOwner, all_function_occurrences, at_either, at_part, at_prefix, at_seam, differ_more, env_of, flat_map, flat_map_at, keys, local_name, local_names, map-append, map_at, names_in, option_map, scope, slice_get, slice_get-map}
 use Rattle.wit_arena.proofs.DefinitionPart.{name_seen_in, known_kept}
 use Rattle.wit_arena.proofs.FunctionPart.{DoneFunction, done_functions, scope_functions, AreDoneNames, IsFunctionPart, AreWhole}
-use Rattle.wit_arena.proofs.Occurrence.{collects_append, collects_from, collects_extended}
-use Rattle.wit_arena.proofs.Signatures.{function_extended}
-use Rattle.wit_arena.proofs.Members.{DoneScope, done_address, resolved_scope_of, IsTurn, IsNameOf, IsDone}
+use Rattle.wit_arena.proofs.Occurrence.{collects_append, collects_from, collects_extended, collects_longer}
+use Rattle.wit_arena.proofs.Resolving.{function_extended, names_beside, no_name_in_functions, DoneScope, done_address, resolved_scope_of, IsTurn, IsNameOf, IsDone}
 use Rattle.wit_arena.proofs.Turns.{all_name_occurrences}
-use Rattle.wit_arena.proofs.DoneScopes.{turned_owned}
+use Rattle.wit_arena.proofs.Required.{in_scope, ended_required, required_extended}
+use Rattle.wit_arena.proofs.Ends.{IsDeclared}
 
 -- a function with the one that was made of it
 abbrev pub done_function : Address → SourceFunction → Function → DoneFunction
@@ -62,7 +62,7 @@ module _ (files : List PackageFile) (decls : Decls) (written : List Occurrence) 
 module _ (files : List PackageFile) (decls : Decls) (written : List Occurrence) (cs : List DoneScope) (gs : List DoneFunction) (es : List TypeDef) (d : IsFunctionPart files decls written cs gs es) (w : AreWhole files cs gs (keys d.seen)) where
   functions_made : (t : ℕ) (c : DoneScope) → slice_get cs t ≡ Some c → AreFunctions (keys d.seen) c.address c.functions c.made
   functions_made t c at = record {
-    count = w.count t c at;
+    count = (w.whole t c at).count;
     each = λ k fn f written_at made_at. (
         let j = w.made t k c (done_function c.address fn f) at (done_function_at c.address c.functions c.made k fn f written_at made_at) in
         d.made j.0 (done_function c.address fn f) j.1);
@@ -74,7 +74,7 @@ module _ (files : List PackageFile) (decls : Decls) (written : List Occurrence) 
     seen = d.seen;
     collects = d.collects;
     occurrence = d.occurrence;
-    each = λ t c at. record { turn = (d.each t c at).turn; listed = (d.each t c at).listed; functions = w.functions t c at; stated = w.stated t c at };
+    each = λ t c at. record { turn = (d.each t c at).turn; listed = (d.each t c at).listed; functions = (w.whole t c at).functions; stated = (w.whole t c at).stated };
     own = d.own;
     are_present = d.are_present;
     before = d.before;
@@ -82,6 +82,18 @@ module _ (files : List PackageFile) (decls : Decls) (written : List Occurrence) 
     made = functions_made;
     required = w.required;
   }
+
+-- the scope of a name that occurred is declared by files
+pub function_part_declared : (files : List PackageFile) (decls : Decls) (written : List Occurrence) (cs : List DoneScope) (gs : List DoneFunction) (es : List TypeDef) (s : Address) (name : List ℕ) → IsFunctionPart files decls written cs gs es → IsNameOf cs s name → IsDeclared files decls s
+function_part_declared files decls written cs gs es s name d it = subst (λ (z : Address). IsDeclared files decls z) it.scope (record {
+  distinct = (d.each it.place it.resolved_scope it.at).turn.distinct;
+  whose = it.resolved_scope.owner;
+  own = d.own it.place it.resolved_scope it.at;
+})
+
+-- the names in turn are declared where those of the scope are
+turned_owned : (decls : Decls) (o : TypeOwner) (s : Address) (xs ys : List ScopeName) → decls s ≡ (xs, o) → IsTurn xs ys → AreOwned decls o s ys
+turned_owned decls o s xs ys own turn i x at = let p = turn.among i x at in (p.0, ap (λ (d : List ScopeName × TypeOwner). slice_get d.0 p.0) own ∙ p.1, ap (λ (d : List ScopeName × TypeOwner). d.1) own)
 
 module _ (files : List PackageFile) (decls : Decls) (written : List Occurrence) (cs : List DoneScope) (gs : List DoneFunction) (es es' : List TypeDef) (c : DoneScope) (d : IsFunctionPart files decls written cs gs es) (fresh : (t : ℕ) (b : DoneScope) → slice_get cs t ≡ Some b → b.address ≡ c.address → ⊥) (own : decls c.address ≡ (scope files c.address, c.owner)) (turn : IsTurn (scope files c.address) c.names) (defines : Defines es es' (map resolved_scope_of cs) c.owner c.address [] c.types c.names) where
   abbrev s : Address
@@ -108,7 +120,7 @@ module _ (files : List PackageFile) (decls : Decls) (written : List Occurrence) 
     has = λ j name at. absurd (unmet j name at);
   }
 
-  defined : IsDefined decls d.seen es' s [] c.types c.names
+  defined : Extends decls d.seen named es' (λ ks. AreNames ks s (env_of c.types) × (names_in c.types ≡ local_names c.names))
   defined = defines.from decls d.seen (turned_owned decls c.owner s (scope files s) c.names own turn) turn.differ anew others d.occurrence nothing
 
   kept : AreKnown (keys defined.now) s (map resolved_scope_of cs)
@@ -135,7 +147,7 @@ module _ (files : List PackageFile) (decls : Decls) (written : List Occurrence) 
     occurrence = defined.occurrence;
     each = λ t b at. elim (at_either cs c t b at) [
       | inl old ↦ d.each t b old
-      | inr new ↦ subst (λ (x : DoneScope). AreDoneNames files x) (sym new.1) (record { turn = turn; listed = defined.listed })
+      | inr new ↦ subst (λ (x : DoneScope). AreDoneNames files x) (sym new.1) (record { turn = turn; listed = defined.holds.1 })
     ];
     own = λ t b at. elim (at_either cs c t b at) [
       | inl old ↦ d.own t b old
@@ -143,9 +155,55 @@ module _ (files : List PackageFile) (decls : Decls) (written : List Occurrence) 
     ];
     are_present = λ t b at. elim (at_either cs c t b at) [
       | inl old ↦ kept.names t (resolved_scope_of b) (slice_get-map resolved_scope_of cs t ∙ ap (option_map resolved_scope_of) old)
-      | inr new ↦ subst (λ (x : DoneScope). AreNames (keys defined.now) x.address (env_of x.types)) (sym new.1) defined.are_present
+      | inr new ↦ subst (λ (x : DoneScope). AreNames (keys defined.now) x.address (env_of x.types)) (sym new.1) defined.holds.0
     ];
     before = named_among;
     unique = subst AllDiffer (sym (map-append done_address cs (c ∷ []))) (differ_more (map done_address cs) s d.unique (λ i at. (let b = map_at done_address cs i s at in fresh i b.0 b.1 b.2)));
     made = λ k g at. function_extended (collects_extended named d.seen defined.now defined.collects) g.address g.fn g.made (d.made k g at);
   }
+
+module _ (files : List PackageFile) (decls : Decls) (written : List Occurrence) (cs : List DoneScope) (gs : List DoneFunction) (es es' : List TypeDef) (d : IsFunctionPart files decls written cs gs es) (t : ℕ) (c : DoneScope) (at_c : slice_get cs t ≡ Some c) (fns : List SourceFunction) (fs : List Function) (adds : AddsFunctions es es' c.address c.types fns fs) where
+  abbrev rest_after : List Occurrence
+  rest_after = all_function_occurrences c.address fns
+
+  abbrev more : List DoneFunction
+  more = done_functions c.address fns fs
+
+  added : Extends decls d.seen rest_after es' (λ ks. AreFunctions ks c.address fns fs)
+  added = adds.from decls d.seen d.occurrence (d.are_present t c at_c)
+
+  pub functions_count : length fs ≡ length fns
+  functions_count = added.holds.count
+
+  all_made : (k : ℕ) (g : DoneFunction) → slice_get (gs ++ more) k ≡ Some g → IsFunction (keys added.now) g.address g.fn g.made
+  all_made k g at = elim (at_part gs more k g at) [
+    | inl h ↦ function_extended (collects_extended rest_after d.seen added.now added.collects) g.address g.fn g.made (d.made h.0 g h.1)
+    | inr h ↦ (
+        let one = done_function_from c.address fns fs h.0 g h.1 in
+        subst (λ (x : Address). IsFunction (keys added.now) x g.fn g.made) (sym one.whose) (added.holds.each h.0 g.fn g.made one.written one.made_at))
+  ]
+
+  -- functions of a scope that is there
+  pub functions_of_parts : IsFunctionPart files decls (written ++ rest_after) cs (gs ++ more) es'
+  functions_of_parts = record {
+    seen = added.now;
+    collects = collects_append written rest_after [] d.seen added.now d.collects added.collects;
+    occurrence = added.occurrence;
+    each = d.each;
+    own = d.own;
+    are_present = λ k b at. names_beside c.address fns d.seen added.now b.address (env_of b.types) added.collects (d.are_present k b at);
+    before = λ j x name at. elim (collects_from rest_after d.seen added.now added.collects j (Def x name) at) [
+      | inl was ↦ d.before was.0 x name was.1
+      | inr new ↦ absurd (no_name_in_functions c.address fns x name new)
+    ];
+    unique = d.unique;
+    made = all_made;
+  }
+
+-- what handles require, where it is in the arena by now
+pub required_there : (files : List PackageFile) (decls : Decls) (written : List Occurrence) (cs : List DoneScope) (gs : List DoneFunction) (es : List TypeDef) (d : IsFunctionPart files decls written cs gs es) (t : ℕ) (c : DoneScope) → slice_get cs t ≡ Some c → (ids : List Id) (rs : List Required) → AreEnded (env_of c.types) es ids rs → AreRequired files (keys d.seen) (map (in_scope c.address) ids) rs
+required_there files decls written cs gs es d t c at ids rs ended = ended_required files decls (keys d.seen) es d.occurrence.keyed (λ j x name there. function_part_declared files decls written cs gs es x name d (d.before j x name there)) c.address (env_of c.types) (d.are_present t c at) ids rs ended
+
+-- and once more occurred since
+pub required_since : (files : List PackageFile) (decls : Decls) (written more : List Occurrence) (cs : List DoneScope) (gs : List DoneFunction) (es : List TypeDef) (d : IsFunctionPart files decls written cs gs es) (t : ℕ) (c : DoneScope) → slice_get cs t ≡ Some c → (ids : List Id) (rs : List Required) → AreEnded (env_of c.types) es ids rs → (seen : List Occurrence) → Collects [] (written ++ more) seen → AreRequired files (keys seen) (map (in_scope c.address) ids) rs
+required_since files decls written more cs gs es d t c at ids rs ended seen collects = required_extended files (collects_longer written more [] d.seen seen d.collects collects) (map (in_scope c.address) ids) rs (required_there files decls written cs gs es d t c at ids rs ended)

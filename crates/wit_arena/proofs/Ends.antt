@@ -7,7 +7,7 @@ use Rattle.wit_type_tree.specs.declared.types.«Type».TheVariants as written
 use Rattle.wit_types.specs.declared.types.«Type».{«Type» as Ty}
 use Rattle.wit_types.specs.declared.types.«Type».TheVariants as type
 use Rattle.wit_arena.proofs.Parts.{HasPart}
-use Rattle.wit_arena.proofs.Places.{all_at_untaken, same_some}
+use Rattle.wit_arena.proofs.OneKind.{all_at_untaken, same_some}
 use Rattle.wit_arena.proofs.Shape.{entry_of_key, backward}
 use Rattle.wit_arena.proofs.Depth.{meaning_found}
 

@@ -3,16 +3,15 @@ use Rattle.std.proofs.Common.{◌≡◌, ◌↔◌, ◌<◌, ℕ, List, [], ◌�
 use Rattle.wit_arena.proofs.Names.{Address, AllDiffer, Decls, Def, Expr, Exprs, Form, Function, FunctionKey, HasType, IsAnonymousForm, IsAt, IsBelow, IsEntry, IsFaithful, IsFunction, IsRoot, Key, Names, Occurrence, OfFunction, OfName, PackageFile, Place, ScopeName, Shape, SourceFunction, TypeDef, TypeOwner, UnknownForm, UnresolvedPackage, Whole, Word, about_name, at_contains, at_within, contains_at, differ_at, expr_of, first_foreign_uses, function_key, function_types, functions_at, functions_of, keys, kind_of, local_id, local_name, lookup-place, named_node, names_of, node_parts, owner_of, role_side, scope, signature, slice_get, slice_get_within, unwrap_or}
 use Rattle.wit_types.specs.declared.types.«Type».{«Type» as Ty}
 use Rattle.wit_types.specs.declared.types.«Type».TheVariants.{Id}
-use Rattle.wit_arena.proofs.Signatures.{function_typed, type_of}
-use Rattle.wit_arena.proofs.Places.{Extended, at_injective, at_functional, same_some}
+use Rattle.wit_arena.proofs.Resolving.{function_typed, type_of, DoneScope, IsWholeOf, IsInSignatureOf, IsPresent}
+use Rattle.wit_arena.proofs.OneKind.{Extended, at_injective, at_functional, same_some}
 use Rattle.wit_arena.proofs.Occurrence.{Has, collects_from}
 use Rattle.wit_arena.proofs.Parts.{all_parts}
 use Rattle.wit_arena.proofs.Shape.{key_of, backward, interned}
 use Rattle.wit_arena.proofs.Forms.{seen_anonymous, name_anonymous, signature_anonymous}
 use Rattle.wit_arena.proofs.Depth.{IsScope, same_tree}
 use Rattle.wit_arena.proofs.Positions.{type_parts, means, below_at, leads, all_lead}
-use Rattle.wit_arena.proofs.Members.{DoneScope, IsWholeOf, IsInSignatureOf, IsPresent}
-use Rattle.wit_arena.proofs.NamesOfDone.{has_types, function_at, named_at, entry_of, owner_at_name, parts_at}
+use Rattle.wit_arena.proofs.PackageIfDone.{has_types, function_at, named_at, entry_of, owner_at_name, parts_at}
 use Rattle.wit_arena.proofs.ForeignUses.{foreign_use_key}
 use Rattle.wit_arena.proofs.Unknowns.{unknown_prefix}
 

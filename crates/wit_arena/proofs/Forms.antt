@@ -4,7 +4,7 @@ use Rattle.wit_arena.proofs.Names.{Address, Both', Defined, DefinitionPart, Err'
 use Rattle.wit_syntax.proofs.Common.{Param}
 use Rattle.wit_type_tree.specs.declared.types.TypeBody.TheVariants as body
 use Rattle.wit_type_tree.specs.declared.types.ResourceFunc.TheVariants as resource
-use Rattle.wit_arena.proofs.Places.{same_some}
+use Rattle.wit_arena.proofs.OneKind.{same_some}
 use Rattle.wit_type_tree.specs.declared.types.«Type».TheVariants as written
 use Rattle.wit_syntax.specs.Shape as shape
 use Rattle.wit_arena.proofs.Occurrence.{Has, has_either}

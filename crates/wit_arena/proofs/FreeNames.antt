@@ -1,6 +1,6 @@
 -- The written names of functions that are no resource's, in the source and in the package.
 use Rattle.std.proofs.Common.{◌≡◌, ℕ, zero, List, [], ◌∷◌, ◌++◌, Some, refl, sym, ap, ◌∙◌, subst, arith, Contains}
-use Rattle.wit_arena.proofs.Names.{Address, AreFunctions, Constructor, DefinitionPart, ExternPart, Freestanding, FuncForm, Function, FunctionKey, FunctionKind, FunctionPart, Id, IsFunction, IsKind, Item, Key, Method, OnSide, Part, ResourceFunc, Role, SourceFunction, Static, TypeBody, WorldSide, accessor, at_contains, at_within, contains_at, definition_functions, extern_at, flat_map, flat_map_at, flat_map_has, free_function, freestanding_names, functions, keyed, map, map_at, part_functions, parts, resource_function, role_names, role_side, slice_get, slice_get_within}
+use Rattle.wit_arena.proofs.Names.{Address, AreFunctions, Constructor, Def, DefinitionPart, ExternPart, Freestanding, FuncForm, Function, FunctionKey, FunctionKind, FunctionPart, Id, IsFunction, IsKind, Item, Key, Method, OnSide, Part, ResourceFunc, Role, SourceFunction, Static, TypeBody, WorldSide, accessor, at_contains, at_within, contains_at, definition_functions, extern_at, flat_map, flat_map_at, flat_map_has, free_function, freestanding_names, functions, keyed, map, map_at, part_functions, parts, resource_function, role_names, role_side, slice_get, slice_get_within}
 use Rattle.wit_type_tree.specs.declared.types.FuncForm.TheVariants as form
 use Rattle.wit_type_tree.specs.declared.types.TypeBody.TheVariants as body
 use Rattle.wit_type_tree.specs.declared.types.ResourceFunc.TheVariants as resource
@@ -48,7 +48,7 @@ no_static _ r name = refl
 abbrev pub free_names : Item → List (List ℕ)
 free_names i = flat_map (λ fn. role_names fn.role) (functions i)
 
-free_role : (ks : List Key) (s : Address) (role : Role) (k : FunctionKind) (name : List ℕ) → IsCalled role name → IsKind ks s role k → freestanding_names k name ≡ role_names role
+free_role : (ks : List Key) (s : Address) (role : Role) (k : FunctionKind) (name : List ℕ) → IsCalled role name → IsKind (λ name r. slice_get ks r ≡ Some (Def s name)) role k → freestanding_names k name ≡ role_names role
 free_role ks s (Freestanding id form) k name called is = ap (λ x. freestanding_names x name) is ∙ ap (freestanding_names (freestanding_kind form)) called ∙ free_kind form id.name.now
 free_role ks s (Method of form) k name called is = ap (λ x. freestanding_names x name) is.1 ∙ no_method form is.0 name
 free_role ks s (Static of form) k name called is = ap (λ x. freestanding_names x name) is.1 ∙ no_static form is.0 name

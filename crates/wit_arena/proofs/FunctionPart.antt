@@ -2,7 +2,7 @@
 use Rattle.std.proofs.Common.{◌≡◌, ℕ, List, [], ◌∷◌, length, map, Some}
 use Rattle.wit_arena.proofs.Names.{Address, AllDiffer, AreNames, AreRequired, Collects, Decls, Def, Function, IsFunction, IsOccurrence, Key, Occurrence, PackageFile, SourceFunction, TypeDef, env_of, functions_at, keys, local_names, scope, slice_get, turn_handles}
 use Rattle.wit_arena.proofs.FreeNames.{AreStated}
-use Rattle.wit_arena.proofs.Members.{DoneScope, done_address, turn_of, IsTurn, IsNameOf}
+use Rattle.wit_arena.proofs.Resolving.{DoneScope, done_address, turn_of, IsTurn, IsNameOf}
 
 -- a function of a scope, and the one of the package that was made of it
 pub record DoneFunction : Type 0 where
@@ -36,10 +36,14 @@ pub record IsFunctionPart (files : List PackageFile) (decls : Decls) (written : 
   pub unique : AllDiffer (map done_address cs)
   pub made : (k : ℕ) (g : DoneFunction) → slice_get gs k ≡ Some g → IsFunction (keys seen) g.address g.fn g.made
 
+-- a scope has its functions, as they were made and are stated
+pub record IsScopeWhole (files : List PackageFile) (c : DoneScope) : Type 0 where
+  pub functions : c.functions ≡ functions_at files c.address
+  pub stated : AreStated c.functions c.made c.stated
+  pub count : length c.made ≡ length c.functions
+
 -- These are all functions of these scopes, and what the handles of each require is stated, where these keys occurred.
 pub record AreWhole (files : List PackageFile) (cs : List DoneScope) (gs : List DoneFunction) (ks : List Key) : Type 0 where
-  pub functions : (t : ℕ) (c : DoneScope) → slice_get cs t ≡ Some c → c.functions ≡ functions_at files c.address
-  pub stated : (t : ℕ) (c : DoneScope) → slice_get cs t ≡ Some c → AreStated c.functions c.made c.stated
-  pub count : (t : ℕ) (c : DoneScope) → slice_get cs t ≡ Some c → length c.made ≡ length c.functions
+  pub whole : (t : ℕ) (c : DoneScope) → slice_get cs t ≡ Some c → IsScopeWhole files c
   pub made : (t k : ℕ) (c : DoneScope) (g : DoneFunction) → slice_get cs t ≡ Some c → slice_get (scope_functions c) k ≡ Some g → (j : ℕ) × (slice_get gs j ≡ Some g)
   pub required : (t : ℕ) (c : DoneScope) → slice_get cs t ≡ Some c → AreRequired files ks (turn_handles (turn_of c)) c.required

@@ -1,7 +1,7 @@
 -- Interfaces and worlds and their places by name, one more.
 use Rattle.std.proofs.Common.{◌≡◌, ℕ, zero, suc, ◌≤◌, true, false, cond, List, [], ◌∷◌, ◌++◌, length, Some, IsSome, nat_eq, inl, inr, refl, sym, ap, ◌∙◌, subst, arith}
 use Rattle.wit_arena.proofs.Names.{Address, Interface, InterfaceNamed, IsNameIndex, Names, ResolvedScope, World, WorldNamed, at_either, at_prefix, at_seam, env_of, insert_entry, interfaces_at, is_foreign, length-map, lookup-insert_entry, map, map-append, map_map, name_cases, name_itself, pointwise, resolved_scope, resolved_scope_at, resolved_scopes, slice_get, unwrap_or, worlds_at}
-use Rattle.wit_arena.proofs.Places.{same_some}
+use Rattle.wit_arena.proofs.OneKind.{same_some}
 
 -- what a name finds once another one was put into the table, and what that one finds
 found_other : (by_name : Names) (name : List ℕ) (place : ℕ) (n : List ℕ) → pointwise nat_eq n name ≡ false → env_of (insert_entry (pointwise nat_eq) by_name name place) n ≡ env_of by_name n

@@ -3,7 +3,7 @@ use Rattle.std.proofs.Common.{◌≡◌, ◌<◌, ℕ, zero, suc, ◌+◌, List,
 use Rattle.wit_arena.proofs.Names.{Interface, IsInterface, IsOrder, about, declared_metadata, interface_functions, local_names, placed_functions, rows_of, scope_names, slice_get}
 use Rattle.wit_types.specs.declared.types.TypeOwner.TheVariants as owner
 use Rattle.wit_arena.proofs.Ordered.{Ordered, turned}
-use Rattle.wit_arena.proofs.Members.{DoneScope, turn_of}
+use Rattle.wit_arena.proofs.Resolving.{DoneScope, turn_of}
 
 -- an interface that is written in a world is done, and is at a place
 pub record IsInside (place : ℕ) (o : Ordered) (c : DoneScope) (i : Interface) : Type 0 where

@@ -1,16 +1,159 @@
--- A package that files make is one that the file makes which they come to.
-use Rattle.std.proofs.Common.{◌≡◌, ℕ, List, [], ◌∷◌, ◌++◌, take, Some, None, refl, sym, ap, ◌∙◌, subst}
-use Rattle.wit_arena.proofs.Names.{Address, AreAlike, AreRequired, AreTwins, Contains, Def, ForeignVisit, Function, Include, Interface, IsEntryOf, IsJoined, Item, Key, Makes, Occurrence, PackageFile, ScopeName, SideFunction, SideInline, SideItem, SideLink, SourceFunction, Span, Stability, TopName, Turned, TypeDef, TypeOwner, UnresolvedPackage, Whole, WorldItem, WorldKey, WorldSide, about, about_name, address, alike_back, all_items, bare, declared_metadata, entry, first_docs, firsts, flat_map, foreign_interface, foreign_interfaces, foreign_world, foreign_worlds, function_in, functions, in_order, include_in, includes, inline_items, interface, interface_scopes, item_turns, joined_alike, keys, map, map_by, name_places, no_metadata, no_names, option_map, own_interface, own_interfaces, own_world, owner_at, package_of, parts, placed, role_side, scope, scope_alike, side_entries, side_items, turn_handles, twins_make, visited, world_scopes, worlds_of}
+-- What is resolved in turn of items that are the same but for the names at the top of their files.
+use Rattle.std.proofs.Common.{◌≡◌, ℕ, List, [], ◌∷◌, ◌++◌, Bool, not, Option, Some, None, inl, inr, refl, sym, ap, ◌∙◌, subst, subst₂, take}
+use Rattle.wit_arena.proofs.Names.{Address, AreTwins, Declared, Item, ScopeName, SideFunction, SideInline, SideItem, SideLink, SourceFunction, Turned, about, address, after_one, bare, cons_option, declared_of, filter, filter-map, flat_map, functions, in_order, in_turn, inline_items, inline_twins, interface_turn, interfaces_of, item_turns, kept_at, map, map-append, map-flat_map, names_in_turn, names_of_bare, no_names, option_map, own_interfaces, scope_names, side_items, slice_get, slice_get-map, turns_of_world, turns_on_sides, twins_become, twins_make, worlds_of, AreAlike, AreInOrder, AreNamesInOrder, Collects, ForeignUse, IsJoined, IsOrder, Occurrence, PackageFile, alike_back, all_items, all_occurrences, all_scopes, foreign_use_occurrence, foreign_uses, foreign_uses_alike, items_twins, joined_alike, names_same, parts, retop, rows_of, turn_occurrences, twin_among, twins_back, twins_inside, AreRequired, Contains, Def, ForeignVisit, Function, Include, Interface, IsEntryOf, Key, Makes, Span, Stability, TopName, TypeDef, TypeOwner, UnresolvedPackage, Whole, WorldItem, WorldKey, WorldSide, about_name, declared_metadata, entry, first_docs, firsts, foreign_interface, foreign_interfaces, foreign_world, foreign_worlds, function_in, include_in, includes, interface, interface_scopes, keys, map_by, name_places, no_metadata, own_interface, own_world, owner_at, package_of, placed, role_side, scope, scope_alike, side_entries, turn_handles, visited, world_scopes}
+use Rattle.wit_syntax.proofs.JoinedTargets.{AreThemselves, included_same, used_same}
+use Rattle.wit_syntax.proofs.JoinedOrders.{order_onward}
+use Rattle.wit_arena.specs.SplitOccurrences.{AreFirstOccurrences, HaveSameOccurrences, HaveSamePackages}
+use Rattle.wit_arena.proofs.Occurrence.{collects_one}
+use Rattle.wit_arena.proofs.OneMade.{one_turns}
 use Rattle.wit_tree.specs.declared.tree.PackageName.{PackageName as Header}
+use Rattle.wit_syntax.proofs.JoinedHeaders.{HaveSameHeaders, headers_back, joined_headers}
+use Rattle.wit_arena.proofs.JoinedOthers.{foreign_interfaces_same, foreign_worlds_same, others_onward, required_onward}
 use Rattle.wit_model.specs.declared.world.WorldItem.TheVariants as item
 use Rattle.wit_model.specs.declared.world.WorldKey.TheVariants as key
-use Rattle.wit_syntax.proofs.JoinedHeaders.{HaveSameHeaders, headers_back, joined_headers}
-use Rattle.wit_syntax.proofs.JoinedTargets.{AreThemselves, included_same, used_same}
-use Rattle.wit_arena.specs.SplitOccurrences.{HaveSamePackages}
-use Rattle.wit_arena.proofs.JoinedOthers.{foreign_interfaces_same, foreign_worlds_same, others_onward, required_onward}
-use Rattle.wit_arena.proofs.JoinedOccurrences.{items_onward, names_onward, occurrences_onward, twins_onward}
-use Rattle.wit_arena.proofs.JoinedTurns.{ByDeclared, inline_made, names_stated, own_made, turns_same, twin_worlds}
 
+-- what is in an order is in the list
+abbrev OccursIn : List Item → Item → Type 0
+OccursIn is i = (p : ℕ) × (slice_get is p ≡ Some i)
+
+first_among : (is : List Item) (p : ℕ) (rest : List Item) (k : ℕ) (i : Item) (o : Option Item) → slice_get is p ≡ o → ((j : ℕ) → slice_get rest j ≡ Some i → OccursIn is i) → slice_get (cons_option o rest) k ≡ Some i → OccursIn is i
+first_among is p rest k i None none later at = later k at
+first_among is p rest k i (Some j) some later at = elim (after_one j rest k i at) [
+  | inl here ↦ (p, some ∙ ap Some here)
+  | inr there ↦ later there.0 there.1
+]
+
+in_order_among : (is : List Item) (places : List ℕ) (k : ℕ) (i : Item) → slice_get (in_order is places) k ≡ Some i → OccursIn is i
+in_order_among is [] k i at = absurd (let f : ⊥ = cc in f)
+in_order_among is (p ∷ places) k i at = first_among is p (in_order is places) k i (slice_get is p) refl (λ j. in_order_among is places j i) at
+
+map-cons_option : {X Y : Type 0} (f : X → Y) (o : Option X) (xs : List X) → map f (cons_option o xs) ≡ cons_option (option_map f o) (map f xs)
+map-cons_option f None xs = refl
+map-cons_option f (Some x) xs = refl
+
+pub map-in_order : {X Y : Type 0} (f : X → Y) (xs : List X) (places : List ℕ) → map f (in_order xs places) ≡ in_order (map f xs) places
+map-in_order f xs [] = refl
+map-in_order {X} {Y} f xs (p ∷ places) = map-cons_option f (slice_get xs p) (in_order xs places) ∙ ap (λ (o : Option Y). cons_option o (map f (in_order xs places))) (sym (slice_get-map f xs p)) ∙ ap (cons_option (slice_get (map f xs) p)) (map-in_order f xs places)
+
+module _ (is js : List Item) (t : AreTwins is js) where
+  -- twins in an order are twins, and so are those that a test of what they declare keeps
+  pub twins_in_order : (places : List ℕ) → AreTwins (in_order is places) (in_order js places)
+  twins_in_order places = record {
+    left = λ k i at. (let it = in_order_among is places k i at in t.left it.0 i it.1);
+    right = λ k i at. (let it = in_order_among js places k i at in t.right it.0 i it.1);
+    same = map-in_order declared_of is places ∙ ap (λ (ds : List Declared). in_order ds places) t.same ∙ sym (map-in_order declared_of js places);
+  }
+
+  twins_kept : (test : Declared → Bool) → AreTwins (filter (λ (i : Item). test i.declared) is) (filter (λ (i : Item). test i.declared) js)
+  twins_kept test = record {
+    left = λ k i at. (let it = kept_at (λ (v : Item). test v.declared) is k i at in t.left it.0 i it.1);
+    right = λ k i at. (let it = kept_at (λ (v : Item). test v.declared) js k i at in t.right it.0 i it.1);
+    same = filter-map test declared_of is ∙ ap (filter test) t.same ∙ sym (filter-map test declared_of js);
+  }
+
+  pub twin_interfaces : AreTwins (interfaces_of is) (interfaces_of js)
+  twin_interfaces = twins_kept (λ (d : Declared). not (about d).is_world)
+
+  pub twin_worlds : AreTwins (worlds_of is) (worlds_of js)
+  twin_worlds = twins_kept (λ (d : Declared). (about d).is_world)
+
+abbrev turn : Address → List SourceFunction → List ScopeName → Turned
+turn s fns xs = record { address = s; names = xs; functions = fns }
+
+-- what is made of each interface of twins is the same where it is given by what it declares
+module _ {Y : Type 0} (f : Item → Y) (by_declared : (i : Item) → AreThemselves i.top → f i ≡ f (bare i.declared)) where
+  pub inline_made : (i : Item) → AreThemselves i.top → map f (inline_items i) ≡ map f (inline_items (bare i.declared))
+  inline_made i own = twins_make f by_declared (inline_items i) (inline_items (bare i.declared)) (inline_twins i (bare i.declared) own no_names refl)
+
+  own_by : (is : List Item) → map f (own_interfaces is) ≡ map f (interfaces_of is) ++ flat_map (λ (w : Item). map f (inline_items w)) (worlds_of is)
+  own_by is = map-append f (interfaces_of is) (flat_map inline_items (worlds_of is)) ∙ ap (λ l. map f (interfaces_of is) ++ l) (map-flat_map f inline_items (worlds_of is))
+
+  pub own_made : (is js : List Item) → AreTwins is js → map f (own_interfaces is) ≡ map f (own_interfaces js)
+  own_made is js t =
+      let first = twins_make f by_declared (interfaces_of is) (interfaces_of js) (twin_interfaces is js t) in
+      let rest = twins_become (λ (w : Item). map f (inline_items w)) inline_made (worlds_of is) (worlds_of js) (twin_worlds is js t) in
+      cc (own_by is, own_by js, first, rest)
+
+-- what declares the same has one order
+abbrev pub ByDeclared : (Item → List ℕ) → Type 0
+ByDeclared order = (i j : Item) → i.declared ≡ j.declared → order i ≡ order j
+
+-- what is resolved in turn
+module _ (order : Item → List ℕ) (one : ByDeclared order) where
+  pub names_stated : (i : Item) → AreThemselves i.top → names_in_turn order i ≡ names_in_turn order (bare i.declared)
+  names_stated i own = ap (λ xs. in_turn xs (order i)) (names_of_bare i own) ∙ ap (in_turn (scope_names (bare i.declared))) (one i (bare i.declared) refl)
+
+  interface_stated : (i : Item) → AreThemselves i.top → interface_turn order i ≡ interface_turn order (bare i.declared)
+  interface_stated i own = ap (turn (address i) (functions i)) (names_stated i own)
+
+  sides_same : (s : Address) (xs : List SideItem) (is js : List Item) → map (interface_turn order) is ≡ map (interface_turn order) js → turns_on_sides order s xs is ≡ turns_on_sides order s xs js
+  sides_same s [] is js same = refl
+  sides_same s (SideFunction fn ∷ xs) is js same = ap (λ l. turn s (fn ∷ []) [] ∷ l) (sides_same s xs is js same)
+  sides_same s (SideLink link ∷ xs) is js same = sides_same s xs is js same
+  sides_same s (SideInline x name items ∷ xs) [] [] same = refl
+  sides_same s (SideInline x name items ∷ xs) (i ∷ is) (j ∷ js) same =
+      let rest : map (interface_turn order) is ≡ map (interface_turn order) js = cc in
+      cc (sides_same s xs is js rest)
+  sides_same s xs is js same = absurd (let f : ⊥ = cc in f)
+
+  world_stated : (i : Item) → AreThemselves i.top → turns_of_world order i ≡ turns_of_world order (bare i.declared)
+  world_stated i own = cc (names_stated i own, sides_same (address i) (side_items i) (inline_items i) (inline_items (bare i.declared)) (inline_made (interface_turn order) interface_stated i own))
+
+  pub turns_same : (is js : List Item) → AreTwins is js → item_turns order is ≡ item_turns order js
+  turns_same is js t = cc (twins_make (interface_turn order) interface_stated (interfaces_of is) (interfaces_of js) (twin_interfaces is js t), twins_become (turns_of_world order) world_stated (worlds_of is) (worlds_of js) (twin_worlds is js t))
+
+-- Files that declare the same have the same first occurrences.
+-- the order of each item, by what it declares
+abbrev by : {files : List PackageFile} {seen : List Occurrence} → AreFirstOccurrences files seen → Item → List ℕ
+by h i = h.order i.declared
+
+-- the orders of the one are orders of the others
+module _ (files others : List PackageFile) (a : AreAlike files others) where
+  pub names_onward : (order : Item → List ℕ) → ByDeclared order → AreNamesInOrder files order → AreNamesInOrder others order
+  names_onward order one names i among =
+      let it = twin_among (all_scopes others) (all_scopes files) (twins_inside (all_items others) (all_items files) (twins_back (all_items files) (all_items others) (items_twins files others a))) i among in
+      subst₂ (λ xs. IsOrder (rows_of xs)) (sym (names_same i.top it.top it.own it.other (parts i))) (one (retop it.top i) i refl) (names (retop it.top i) it.among)
+
+  module _ (is : List Item) (ordered : AreInOrder files is) where
+    abbrev there : List Item
+    there = in_order (all_items others) ordered.0
+
+    pub items_onward : AreInOrder others there
+    items_onward = (ordered.0, order_onward files others a ordered.0 ordered.1, refl)
+
+    pub twins_onward : AreTwins is there
+    twins_onward = subst (λ l. AreTwins l there) (sym ordered.2) (twins_in_order (all_items files) (all_items others) (items_twins files others a) ordered.0)
+
+    pub occurrences_onward : (order : Item → List ℕ) → ByDeclared order → all_occurrences files (item_turns order is) ≡ all_occurrences others (item_turns order there)
+    occurrences_onward order one =
+        ap (λ (ts : List ForeignUse). map foreign_use_occurrence ts ++ flat_map turn_occurrences (item_turns order is)) (foreign_uses_alike files others a)
+        ∙ ap (λ (ts : List Turned). map foreign_use_occurrence (foreign_uses others) ++ flat_map turn_occurrences ts) (turns_same order one is there twins_onward)
+
+  first_onward : (seen : List Occurrence) → AreFirstOccurrences files seen → AreFirstOccurrences others seen
+  first_onward seen h = record {
+    items = there h.items h.in_order;
+    in_order = items_onward h.items h.in_order;
+    order = h.order;
+    names_in_order = names_onward (by h) (λ i j. ap h.order) h.names_in_order;
+    first = subst (λ (ms : List Occurrence). Collects [] ms seen) (occurrences_onward h.items h.in_order (by h) (λ i j. ap h.order)) h.first;
+  }
+
+-- and there is one list of what is first seen
+first_once : (files : List PackageFile) (seen more : List Occurrence) → AreFirstOccurrences files seen → AreFirstOccurrences files more → seen ≡ more
+first_once files seen more a b =
+    collects_one (all_occurrences files (item_turns (by b) b.items)) [] seen more
+    (subst (λ (ts : List Turned). Collects [] (all_occurrences files ts) seen) (one_turns files (by a) (by b) a.names_in_order b.names_in_order a.items b.items a.in_order b.in_order) a.first) b.first
+
+pub joined_occurrences : (files : List PackageFile) (one : PackageFile) → IsJoined files one → HaveSameOccurrences files (one ∷ [])
+joined_occurrences files one j =
+    let a = joined_alike files one j in
+    let onward = first_onward files (one ∷ []) a in
+    record {
+      both = λ seen. (onward seen, first_onward (one ∷ []) files (alike_back files (one ∷ []) a) seen);
+      one = λ seen more h k. first_once (one ∷ []) seen more (onward seen h) k;
+    }
+
+-- A package that files make is one that the file makes which they come to.
 abbrev Sided : Type 0
 Sided = WorldSide × (WorldKey × WorldItem)
 

@@ -3,7 +3,7 @@ use Rattle.std.proofs.Common.{◌≡◌, ℕ, not, List, Option, Some, None, ap,
 use Rattle.wit_arena.proofs.Names.{Address, AreAlike, AreRequired, AstItem, AtForeign, AtResource, ForeignUse, ForeignVisit, HandleRequires, Id, Key, PackageFile, PackageName, Span, Stability, UnresolvedPackage, filter, firsts, foreign_interfaces, foreign_place, foreign_uses_alike, foreign_worlds, if◌then◌else◌, map, package_of, same_address, same_foreign_use, same_item, same_package, stability_of, visited, visits_same}
 use Rattle.wit_model.specs.declared.ast_item.AstItem.TheVariants as entry
 use Rattle.wit_syntax.proofs.JoinedLegal.{ends_onward}
-use Rattle.wit_arena.proofs.ByParts.{NamesOthers}
+use Rattle.wit_arena.proofs.PackageIfDone.{NamesOthers}
 use Rattle.wit_arena.proofs.Required.{zip_weaker}
 
 -- what is named of other packages, by the visits

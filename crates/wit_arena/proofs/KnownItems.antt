@@ -3,13 +3,12 @@ use Rattle.std.proofs.Common.{◌≡◌, ℕ, suc, ◌+◌, List, [], ◌∷◌,
 use Rattle.wit_arena.proofs.Names.{AllDiffer, FoldedTwice, IsLegal, IsOrder, Item, PackageFile, ScopeName, Sides, SourceFunction, address, all_items, all_scopes, at_back, at_prefix, foreign_interfaces, foreign_worlds, function_key, functions, functions_at, functions_differ, functions_items, in_order, inline_items, interfaces_of, is_world, item_at, map, map-append, map_map, not, option_map, option_map_or, rows_of, scope, scope_names, side_items, slice_get, slice_get-map, visited, worlds_of}
 use Rattle.wit_syntax.proofs.Common.{Names}
 use Rattle.wit_arena.proofs.Ordered.{Ordered, OrderedWorld, AreOrdered, all_inside, interface_addresses, ordered_names, world_addresses}
-use Rattle.wit_arena.proofs.Added.{inside_of, interface_list, world_list}
-use Rattle.wit_arena.proofs.DoneWorlds.{own_order}
+use Rattle.wit_arena.proofs.DoneWorlds.{inside_of, interface_list, world_list, own_order}
 use Rattle.wit_arena.proofs.Interfaces.{AreItems, items_kept, item_scopes, inline_scopes, scope_at}
 use Rattle.wit_arena.proofs.Itemizing.{are_items}
 use Rattle.wit_arena.proofs.ScopesInTurn.{ordered_addresses, in_turn_is}
 use Rattle.wit_arena.proofs.LegalScopes.{distinct_items, names_differ, scope_among}
-use Rattle.wit_arena.proofs.Members.{IsTurn}
+use Rattle.wit_arena.proofs.Resolving.{IsTurn}
 use Rattle.wit_arena.proofs.Turns.{item_of, own_item}
 
 -- an item is at its address, and has the order of the table of its names

@@ -1,28 +1,18 @@
 -- Where a function gives the place of each key, the arenas of interfaces and of worlds are stated.
-use Rattle.std.proofs.Common.{◌≡◌, ℕ, suc, List, [], ◌∷◌, ◌++◌, Some, refl, ap, ◌∙◌, sym, arith}
-use Rattle.wit_arena.proofs.Names.{Address, ForeignVisit, Interface, IsForeignInterface, IsForeignWorld, Item, Key, OneByOne, PackageFile, World, foreign_interface, foreign_interfaces, foreign_world, inline_items, map, map_map, names_in_turn, own_interface, own_world, slice_get}
+use Rattle.std.proofs.Common.{◌≡◌, ℕ, List, ◌++◌, Some, ap, ◌∙◌, sym}
+use Rattle.wit_arena.proofs.Names.{Address, ForeignVisit, Interface, IsForeignInterface, IsForeignWorld, Item, Key, PackageFile, World, foreign_interface, foreign_interfaces, foreign_world, inline_items, map, map_map, names_in_turn, own_interface, own_world, slice_get}
 use Rattle.wit_arena.proofs.Ordered.{Ordered, OrderedWorld, ordered_names}
-use Rattle.wit_arena.proofs.ByParts.{BothParts, IsResolvedInterface, IsResolvedWorld}
+use Rattle.wit_arena.proofs.PackageIfDone.{BothParts, IsResolvedInterface, IsResolvedWorld}
 use Rattle.wit_arena.proofs.MadeInterfaces.{foreign_interface-as_stated, own_interface-as_stated}
 use Rattle.wit_arena.proofs.MadeSides.{ArePlaced}
 use Rattle.wit_arena.proofs.MadeWorlds.{foreign_world-as_stated, own_world-as_stated}
 use Rattle.wit_arena.proofs.Placing.{GivesPlaces}
-use Rattle.wit_arena.proofs.PlacingFunctions.{one_by_one-map}
+use Rattle.wit_arena.proofs.PlacingFunctions.{one_by_one-image}
 use Rattle.wit_arena.proofs.Turns.{item_of, own_item}
-
--- what is one by one beside a list, where what is beside each of its elements is stated, is its image
-one_by_one-image : {X Y : Type 0} (Holds : X → Y → Type 0) (f : X → Y) (xs : List X) (ys : List Y) → ((k : ℕ) (x : X) (y : Y) → slice_get xs k ≡ Some x → Holds x y → y ≡ f x) → OneByOne Holds xs ys → ys ≡ map f xs
-one_by_one-image Holds f [] [] as_stated h = refl
-one_by_one-image Holds f [] (y ∷ ys) as_stated h = absurd (let count = h.count in let f : ⊥ = omega (arith, count) in f)
-one_by_one-image Holds f (x ∷ xs) [] as_stated h = absurd (let count = h.count in let f : ⊥ = omega (arith, count) in f)
-one_by_one-image Holds f (x ∷ xs) (y ∷ ys) as_stated h =
-    let count = h.count in
-    let rest : OneByOne Holds xs ys = record { count = omega (arith, count); each = λ k. h.each (suc k) } in
-    ap (λ z. z ∷ ys) (as_stated 0 x y refl (h.each 0 x y refl refl)) ∙ ap (λ l. f x ∷ l) (one_by_one-image Holds f xs ys (λ k. as_stated (suc k)) rest)
 
 module _ {X Y Z : Type 0} (First : X → Z → Type 0) (Then : Y → Z → Type 0) (f : X → Z) (g : Y → Z) where
   both_parts-images : (xs : List X) (ys : List Y) (zs : List Z) → ((x : X) (z : Z) → First x z → z ≡ f x) → ((k : ℕ) (y : Y) (z : Z) → slice_get ys k ≡ Some y → Then y z → z ≡ g y) → BothParts First Then xs ys zs → zs ≡ map f xs ++ map g ys
-  both_parts-images xs ys zs first then both = both.2 ∙ ap (λ (l : List Z). l ++ both.1) (one_by_one-map First f first xs both.0 both.3) ∙ ap (λ (l : List Z). map f xs ++ l) (one_by_one-image Then g ys both.1 then both.4)
+  both_parts-images xs ys zs first then both = both.2 ∙ ap (λ (l : List Z). l ++ both.1) (one_by_one-image First f xs both.0 (λ k x z at. first x z) both.3) ∙ ap (λ (l : List Z). map f xs ++ l) (one_by_one-image Then g ys both.1 then both.4)
 
 module _ (id : Key → ℕ) (ks : List Key) (gives : GivesPlaces id ks) (order : Item → List ℕ) where
   pub interfaces-as_stated : (files : List PackageFile) (os : List Ordered) (xs : List Interface) → ((k : ℕ) (o : Ordered) → slice_get os k ≡ Some o → ordered_names o ≡ names_in_turn order o.item) → BothParts (IsForeignInterface files ks) (IsResolvedInterface ks) (foreign_interfaces files) os xs → xs ≡ map (foreign_interface files id) (foreign_interfaces files) ++ map (own_interface id order) (map item_of os)

@@ -2,7 +2,7 @@
 use Rattle.std.proofs.Common.{◌≡◌, ℕ, List, [], Option, Some, None, ap, ◌∙◌}
 use Rattle.wit_arena.proofs.Names.{Docs, ForeignVisit, Function, Interface, IsForeignInterface, IsInterface, Item, Key, Metadata, PackageFile, Span, Stability, about, address, by_name, declared_metadata, foreign_interface, function_in, functions as item_functions, interface, map_map, name_places, names_in_turn, no_metadata, own_interface, placed, placed_functions}
 use Rattle.wit_arena.proofs.Ordered.{Ordered, ordered_names, turned}
-use Rattle.wit_arena.proofs.ByParts.{IsResolvedInterface}
+use Rattle.wit_arena.proofs.PackageIfDone.{IsResolvedInterface}
 use Rattle.wit_arena.proofs.Placing.{GivesPlaces}
 use Rattle.wit_arena.proofs.PlacingFunctions.{functions-in, types-places}
 use Rattle.wit_arena.proofs.Turns.{foreign_turned}

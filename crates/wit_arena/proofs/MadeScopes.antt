@@ -2,7 +2,7 @@
 use Rattle.std.proofs.Common.{◌≡◌, ℕ, List, not, Option, Some, sym, ap, subst}
 use Rattle.wit_arena.proofs.Names.{Address, AllDiffer, IsLegal, IsOrder, Item, PackageFile, all_items, in_order, interface_scopes, interfaces_of, is_world, item_rows, scope_place, slice_get, unwrap_or, world_scopes, worlds_of}
 use Rattle.wit_syntax.proofs.Common.{Names}
-use Rattle.wit_arena.proofs.Added.{all_addresses}
+use Rattle.wit_arena.proofs.DoneWorlds.{all_addresses}
 use Rattle.wit_arena.proofs.Interfaces.{AreAddresses, AreItems, interfaces_sort, worlds_sort, items_kept, place_at-found}
 use Rattle.wit_arena.proofs.Itemizing.{are_items}
 use Rattle.wit_arena.proofs.LegalScopes.{distinct_items}

@@ -4,11 +4,11 @@ use Rattle.wit_arena.proofs.Names.{Address, AreSideItems, Def, Docs, Exported, F
 use Rattle.wit_model.specs.declared.world.IncludeName.{IncludeName}
 use Rattle.wit_model.specs.declared.world.WorldKey.TheVariants as key
 use Rattle.wit_arena.proofs.Ordered.{OrderedWorld, addresses, ordered_names, turned}
-use Rattle.wit_arena.proofs.ByParts.{IsResolvedWorld}
+use Rattle.wit_arena.proofs.PackageIfDone.{IsResolvedWorld}
 use Rattle.wit_arena.proofs.ScopesInTurn.{ordered_addresses}
 use Rattle.wit_arena.proofs.MadeSides.{ArePlaced, side_items-as_stated}
 use Rattle.wit_arena.proofs.Placing.{GivesPlaces}
-use Rattle.wit_arena.proofs.PlacingFunctions.{one_by_one-map, functions-in, types-places}
+use Rattle.wit_arena.proofs.PlacingFunctions.{functions-in, types-places, one_by_one-image}
 
 abbrev Entries : Type 0
 Entries = List (WorldKey × WorldItem)
@@ -72,6 +72,6 @@ module _ (id : Key → ℕ) (ks : List Key) (gives : GivesPlaces id ks) (ss : Li
         let exported = side_stated Exported i (addresses o.inside) h.sides.functions h.sides.exports.0 written made h.sides.exports.1 in
         let imports = h.sides.imports.2 ∙ ap (λ (l : Entries). settled (includes i) (l ++ h.sides.imports.0)) named ∙ ap (λ (l : Entries). settled (includes i) (name_imports id s (names_in_turn order i) ++ l)) imported in
         let exports = h.sides.exports.2 ∙ ap (settled (includes i)) exported in
-        let included = one_by_one-map (IsInclude ws i.top) (include_in ws i.top) (include_stated ws worlds_placed i.top) (includes i) w.includes h.includes in
+        let included = one_by_one-image (IsInclude ws i.top) (include_in ws i.top) (includes i) w.includes (λ k x y at. include_stated ws worlds_placed i.top x y) h.includes in
         let made_world = own_world id order ss ws i in
         world_stated (about i.declared).id.name.now (about i.declared).id.span (declared_metadata i.declared) w made_world.imports made_world.exports made_world.includes h.says imports exports included

@@ -1,7 +1,7 @@
 -- What names mean in a scope, and what its table has for them.
 use Rattle.std.proofs.Common.{◌≡◌, ℕ, List, Option, Some, None, IsSome, ap, ◌∙◌, subst}
 use Rattle.wit_arena.proofs.Names.{IsOrder, Names, ScopeName, bytes_eq, env_of, find_at, find_passes, in_turn, in_turn_has, local_name, local_names, map, meaning, name_equal, option_map, rows_of, slice_get, slice_get-map}
-use Rattle.wit_arena.proofs.Leading.{option_cases}
+use Rattle.wit_arena.proofs.ForeignUses.{option_cases}
 use Rattle.wit_arena.proofs.UsePart.{lookup-listed}
 
 -- a table that has the names of a scope, in whichever order

@@ -1,8 +1,11 @@
 -- The list of occurrences, as it grows.
-use Rattle.std.proofs.Common.{◌≡◌, ℕ, ◌+◌, List, [], ◌∷◌, ◌++◌, length, take, Some, None, ◌⊎◌, inl, inr, refl, sym, ap, ◌∙◌, subst, arith, length-append, suc}
-use Rattle.wit_arena.proofs.Names.{Address, AreAt, AreNames, Collects, Decls, Def, End, Env, Expr, Exprs, IsEntry, IsInterned, IsKeyed, IsOccurrence, IsSeen, Key, More, Occurrence, Of, Span, Stability, TypeDef, TypeDefKind, Whole, all_seen, append-nil, at_either, at_seam, at_within, differ_more, flat_map, keys, kind_of, length-map, map, map-append, seen, slice_get, slice_get_within, take_prefix, take_seam, unnamed}
+use Rattle.std.proofs.Common.{◌≡◌, ℕ, ◌+◌, List, [], ◌∷◌, ◌++◌, length, take, Some, None, ◌⊎◌, inl, inr, refl, sym, ap, ◌∙◌, subst, arith, length-append, suc, ◌↔◌, zero, Bool, true, false, not, cond, ◌&&◌, append_assoc, append-nil, Option, is_some}
+use Rattle.wit_arena.proofs.Names.{Address, AreAt, AreNames, Collects, Decls, Def, End, Env, Expr, Exprs, Extends, IsEntry, IsInterned, IsKeyed, IsOccurrence, IsSeen, Key, More, Occurrence, Of, Span, Stability, TypeDef, TypeDefKind, Whole, all_seen, at_either, at_seam, at_within, differ_more, flat_map, keys, kind_of, length-map, map, map-append, seen, slice_get, slice_get_within, take_prefix, take_seam, unnamed, AllDiffer, and_parts, both_ways, cases_Bool, cond-false, cond-true, filter, firsts, firsts_differ, not-true, not_from_false, not_from_true, Borrow, BorrowForm, FixedLengthListForm, Form, FutureForm, IsAnonymousForm, ListForm, MapForm, OptionForm, Own, ResultForm, StreamForm, TupleForm, option_to_list}
 use Rattle.wit_arena.specs.Occurrences.{settled}
-use Rattle.wit_arena.proofs.Places.{Extended, extended_trans, key_extended, all_at_untaken, all_at_injective, all_at_functional}
+use Rattle.wit_arena.proofs.OneKind.{Extended, extended_trans, key_extended, all_at_untaken, all_at_injective, all_at_functional}
+use Rattle.wit_types.specs.declared.types.«Type».{«Type» as Ty}
+use Rattle.wit_types.specs.declared.types.«Type».TheVariants.{Id}
+use Rattle.wit_types.specs.declared.types.TypeDefKind.TheVariants as kind
 
 pub keys-append : (ms ls : List Occurrence) → keys (ms ++ ls) ≡ keys ms ++ keys ls
 keys-append ms ls = map-append (λ (m : Occurrence). m.key) ms ls
@@ -123,12 +126,9 @@ occurrence_more {decls} {ms} {es} m e occurrence new it here settled = record {
   settled = settled_more ms es m e (occurrence.keyed.count ∙ length-map ms (λ (m : Occurrence). m.key)) occurrence.settled (settled_by decls (keys ms) es m.given m.key e it settled);
 }
 
--- the unnamed type of a form over parts
-pub record IsWhole (decls : Decls) (ms : List Occurrence) (new : List TypeDef) (m : Occurrence) (i : ℕ) : Type 0 where
-  pub now : List Occurrence
-  pub collects : Collects ms (m ∷ []) now
-  pub occurrence : IsOccurrence decls now new
-  pub at : slice_get (keys now) i ≡ Some m.key
+-- what occurs, and then more
+pub extends_then : {decls : Decls} {ms a b : List Occurrence} {mid new : List TypeDef} {P Q : List Key → Type 0} (R : List Key → Type 0) (x : Extends decls ms a mid P) (y : Extends decls x.now b new Q) → R (keys y.now) → Extends decls ms (a ++ b) new R
+extends_then {decls} {ms} {a} {b} {mid} {new} {P} {Q} R x y holds = record { now = y.now; collects = collects_append a b ms x.now y.now x.collects y.collects; occurrence = y.occurrence; holds = holds }
 
 found_key : (decls : Decls) (n : ℕ) (ks : List Key) (k : Key) (parts : Exprs) (e : TypeDef) → IsEntry decls (take n ks) k e → e.name ≡ None → AreAt ks parts (kind_of e.kind).parts → k ≡ Whole (kind_of e.kind).form parts
 found_key decls n ks (Def s name) parts e h none at = absurd (let wrong = h.4 in let f : ⊥ = cc in f)
@@ -139,7 +139,7 @@ pub record IsOnly (what : TypeDefKind) : Type 0 where
   pub same : (k : TypeDefKind) → (kind_of k).form ≡ (kind_of what).form → (kind_of k).parts ≡ (kind_of what).parts → k ≡ what
 
 -- an unnamed type occurs, whether it was there or was added
-pub occur_whole : (decls : Decls) (ms : List Occurrence) (old new : List TypeDef) (kind : TypeDefKind) (given : Stability) (span : Span) (parts : Exprs) (i : ℕ) → IsOnly kind → IsOccurrence decls ms old → AreAt (keys ms) parts (kind_of kind).parts → IsInterned old new kind given span i → IsWhole decls ms new (record { key = Whole (kind_of kind).form parts; span = span; given = given }) i
+pub occur_whole : (decls : Decls) (ms : List Occurrence) (old new : List TypeDef) (kind : TypeDefKind) (given : Stability) (span : Span) (parts : Exprs) (i : ℕ) → IsOnly kind → IsOccurrence decls ms old → AreAt (keys ms) parts (kind_of kind).parts → IsInterned old new kind given span i → Extends decls ms (record { key = Whole (kind_of kind).form parts; span = span; given = given } ∷ []) new (λ ks. slice_get ks i ≡ Some (Whole (kind_of kind).form parts))
 occur_whole decls ms old new kind given span parts i only m at interned = elim interned.either [
   | inl found ↦ (
       let e = found.1.0 in
@@ -151,7 +151,7 @@ occur_whole decls ms old new kind given span parts i only m at interned = elim i
       let at' = subst (λ (k : TypeDefKind). AreAt (keys ms) parts (kind_of k).parts) (sym is.kind) at in
       let same = found_key decls i (keys ms) key.0 parts e (keyed.each i key.0 e key.1 found.1.1.is) is.name at' in
       let there : slice_get (keys ms) i ≡ Some (Whole (kind_of kind).form parts) = key.1 ∙ ap Some same ∙ ap (λ (k : TypeDefKind). Some (Whole (kind_of k).form parts)) is.kind in
-      record { now = ms; collects = inl ((i, there), refl); occurrence = subst (IsOccurrence decls ms) (sym found.0) m; at = there })
+      record { now = ms; collects = inl ((i, there), refl); occurrence = subst (IsOccurrence decls ms) (sym found.0) m; holds = there })
   | inr added ↦ (
       let key = Whole (kind_of kind).form parts in
       let keyed = m.keyed in
@@ -166,7 +166,7 @@ occur_whole decls ms old new kind given span parts i only m at interned = elim i
         now = ms ++ record { key = key; span = span; given = given } ∷ [];
         collects = inr (fresh, refl);
         occurrence = subst (IsOccurrence decls (ms ++ record { key = key; span = span; given = given } ∷ [])) (sym added.0) (occurrence_more (record { key = key; span = span; given = given }) (unnamed kind (settled old given kind) span) m fresh (refl, refl, refl, at, refl, refl) refl refl);
-        at = rw (added.1, keyed.count) (ap (λ l. slice_get l (length (keys ms))) (keys-append ms (record { key = key; span = span; given = given } ∷ [])) ∙ at_seam (keys ms) key);
+        holds = rw (added.1, keyed.count) (ap (λ l. slice_get l (length (keys ms))) (keys-append ms (record { key = key; span = span; given = given } ∷ [])) ∙ at_seam (keys ms) key);
       })
 ]
 
@@ -191,3 +191,134 @@ pub collects_longer : (ks ls a b c : List Occurrence) → Collects a ks b → Co
 collects_longer ks ls a b c h k =
     let it = collects_split ks ls a c k in
     subst (λ (ms : List Occurrence). Extended (keys ms) (keys c)) (collects_one ks a it.0 b it.1 h) (collects_extended ls it.0 c it.2)
+
+-- What is first seen, as the first of each.
+-- what two tests keep, one after the other, is what both keep
+filter_both : {X : Type 0} (p q r : X → Bool) → ((x : X) → r x ≡ (q x && p x)) → (xs : List X) → filter p (filter q xs) ≡ filter r xs
+filter_both p q r is [] = refl
+filter_both p q r is (x ∷ xs) = rw (is x) (elim (q x) as (λ b. filter p (cond b (x ∷ filter q xs) (filter q xs)) ≡ cond (b && p x) (x ∷ filter r xs) (filter r xs)) [
+  | true ↦ ap (λ l. cond (p x) (x ∷ l) l) (filter_both p q r is xs)
+  | false ↦ filter_both p q r is xs
+])
+
+filter_all : {X : Type 0} (xs : List X) → filter (λ x. true) xs ≡ xs
+filter_all [] = refl
+filter_all (x ∷ xs) = ap (λ l. x ∷ l) (filter_all xs)
+
+and_swap : (a b c : Bool) → (a && (b && c)) ≡ (b && (a && c))
+and_swap true b c = refl
+and_swap false true c = refl
+and_swap false false c = refl
+
+module _ (same : Key → Key → Bool) (gives : (a b : Key) → (same a b ≡ true) ↔ (a ≡ b)) where
+  abbrev same_occurrence : Occurrence → Occurrence → Bool
+  same_occurrence a b = same a.key b.key
+
+  -- a key is that of none of these
+  abbrev is_new : List Occurrence → Key → Bool
+  is_new [] k = true
+  is_new (m ∷ ms) k = not (same m.key k) && is_new ms k
+
+  is_new-more : (ms : List Occurrence) (m : Occurrence) (k : Key) → is_new (ms ++ m ∷ []) k ≡ (not (same m.key k) && is_new ms k)
+  is_new-more [] m k = refl
+  is_new-more (x ∷ ms) m k = ap (λ b. not (same x.key k) && b) (is_new-more ms m k) ∙ and_swap (not (same x.key k)) (not (same m.key k)) (is_new ms k)
+
+  new_determines : (ms : List Occurrence) (k : Key) → is_new ms k ≡ true → IsSeen (keys ms) k → ⊥
+  new_determines [] k new (i, at) = absurd (let f : ⊥ = cc in f)
+  new_determines (m ∷ ms) k new (zero, at) =
+      let here : m.key ≡ k = cc in
+      both_ways (same m.key k) (not-true (same m.key k) (and_parts (not (same m.key k)) (is_new ms k) new).0) ((gives m.key k).1 here)
+  new_determines (m ∷ ms) k new (suc i, at) = new_determines ms k (and_parts (not (same m.key k)) (is_new ms k) new).1 (i, at)
+
+  old_determines : (ms : List Occurrence) (k : Key) → is_new ms k ≡ false → IsSeen (keys ms) k
+  old_determines [] k old = absurd (let f : ⊥ = cc in f)
+  old_determines (m ∷ ms) k old = elim (cases_Bool (same m.key k)) [
+    | inl hit ↦ (0, ap Some ((gives m.key k).0 hit))
+    | inr miss ↦ (let it = old_determines ms k (ap (λ b. b && is_new ms k) (sym (not_from_false (same m.key k) miss)) ∙ old) in (suc it.0, it.1))
+  ]
+
+  abbrev new_of : List Occurrence → List Occurrence → List Occurrence
+  new_of ms xs = filter (λ (y : Occurrence). is_new ms y.key) xs
+
+  abbrev others : Occurrence → List Occurrence → List Occurrence
+  others x xs = filter (λ (y : Occurrence). not (same x.key y.key)) xs
+
+  -- what is none of these, after one of them
+  new-old : (ms : List Occurrence) (x : Occurrence) (xs : List Occurrence) → is_new ms x.key ≡ false → new_of ms (x ∷ others x xs) ≡ new_of ms xs
+  new-old ms x xs old =
+      cond-false (is_new ms x.key) (x ∷ new_of ms (others x xs)) (new_of ms (others x xs)) old
+      ∙ filter_both (λ (y : Occurrence). is_new ms y.key) (λ (y : Occurrence). not (same x.key y.key)) (λ (y : Occurrence). is_new ms y.key) (λ y. known y.key) xs
+    where
+      known : (k : Key) → is_new ms k ≡ (not (same x.key k) && is_new ms k)
+      known k = elim (cases_Bool (same x.key k)) [
+        | inl hit ↦ ap (is_new ms) (sym ((gives x.key k).0 hit)) ∙ old ∙ ap (λ b. b && is_new ms k) (sym (not_from_true (same x.key k) hit))
+        | inr miss ↦ ap (λ b. b && is_new ms k) (sym (not_from_false (same x.key k) miss))
+      ]
+
+  -- and after one that is none of them
+  new-fresh : (ms : List Occurrence) (x : Occurrence) (xs : List Occurrence) → is_new ms x.key ≡ true → new_of ms (x ∷ others x xs) ≡ x ∷ new_of (ms ++ x ∷ []) xs
+  new-fresh ms x xs fresh =
+      cond-true (is_new ms x.key) (x ∷ new_of ms (others x xs)) (new_of ms (others x xs)) fresh
+      ∙ ap (λ l. x ∷ l) (filter_both (λ (y : Occurrence). is_new ms y.key) (λ (y : Occurrence). not (same x.key y.key)) (λ (y : Occurrence). is_new (ms ++ x ∷ []) y.key) (λ y. is_new-more ms x y.key) xs)
+
+  -- what occurs anew is the first of each that is none of what occurred
+  collects_firsts : (ms ks : List Occurrence) → Collects ms ks (ms ++ new_of ms (firsts same_occurrence ks))
+  collects_firsts ms [] = append-nil ms
+  collects_firsts ms (x ∷ ks) = elim (cases_Bool (is_new ms x.key)) [
+    | inl fresh ↦ (
+        let now = ms ++ x ∷ [] in
+        let is : now ++ new_of now (firsts same_occurrence ks) ≡ ms ++ new_of ms (firsts same_occurrence (x ∷ ks)) = append_assoc ms (x ∷ []) (new_of now (firsts same_occurrence ks)) ∙ ap (λ l. ms ++ l) (sym (new-fresh ms x (firsts same_occurrence ks) fresh)) in
+        inr (new_determines ms x.key fresh, subst (Collects now ks) is (collects_firsts now ks)))
+    | inr old ↦ (
+        let is : ms ++ new_of ms (firsts same_occurrence ks) ≡ ms ++ new_of ms (firsts same_occurrence (x ∷ ks)) = ap (λ l. ms ++ l) (sym (new-old ms x (firsts same_occurrence ks) old)) in
+        inl (old_determines ms x.key old, subst (Collects ms ks) is (collects_firsts ms ks)))
+  ]
+
+  pub firsts-collects : (all : List Occurrence) → Collects [] all (firsts (λ a b. same a.key b.key) all)
+  firsts-collects all = subst (Collects [] all) (filter_all (firsts same_occurrence all)) (collects_firsts [] all)
+
+  pub collects-firsts : (all seen : List Occurrence) → Collects [] all seen → seen ≡ firsts (λ a b. same a.key b.key) all
+  collects-firsts all seen collects = collects_one all [] seen (firsts same_occurrence all) collects (firsts-collects all)
+
+  -- no key occurs twice in them
+  pub firsts-differ : (all : List Occurrence) → AllDiffer (keys (firsts (λ a b. same a.key b.key) all))
+  firsts-differ all = firsts_differ same_occurrence (λ (m : Occurrence). m.key) (λ x y is. (gives x.key y.key).1 is) (λ x y is. (gives x.key y.key).0 is) all
+
+-- Kinds and their forms and parts.
+-- the kind of an unnamed type from its form and parts
+abbrev kind_from : Form → List Ty → TypeDefKind
+kind_from BorrowForm (Id r ∷ []) = kind.Handle (Borrow r)
+kind_from TupleForm ts = kind.Tuple (record { types = ts })
+kind_from OptionForm (t ∷ []) = kind.Option t
+kind_from (ResultForm true true) (t ∷ u ∷ []) = kind.Result (record { ok = Some t; err = Some u })
+kind_from (ResultForm true false) (t ∷ []) = kind.Result (record { ok = Some t; err = None })
+kind_from (ResultForm false true) (u ∷ []) = kind.Result (record { ok = None; err = Some u })
+kind_from (ResultForm false false) [] = kind.Result (record { ok = None; err = None })
+kind_from ListForm (t ∷ []) = kind.List t
+kind_from MapForm (t ∷ u ∷ []) = kind.Map t u
+kind_from (FixedLengthListForm n) (t ∷ []) = kind.FixedLengthList t n
+kind_from (FutureForm true) (t ∷ []) = kind.Future (Some t)
+kind_from (FutureForm false) [] = kind.Future None
+kind_from (StreamForm true) (t ∷ []) = kind.Stream (Some t)
+kind_from (StreamForm false) [] = kind.Stream None
+kind_from _ _ = kind.Unknown
+
+result_again : (ok err : Option Ty) → kind_from (ResultForm (is_some ok) (is_some err)) (option_to_list ok ++ option_to_list err) ≡ kind.Result (record { ok = ok; err = err })
+result_again (Some t) (Some u) = refl
+result_again (Some t) None = refl
+result_again None (Some u) = refl
+result_again None None = refl
+
+-- it is found again
+kind_again : (k : TypeDefKind) → IsAnonymousForm (kind_of k).form → kind_from (kind_of k).form (kind_of k).parts ≡ k
+kind_again (kind.Result r) h = result_again r.ok r.err
+kind_again (kind.Handle (Own r)) h = absurd h
+kind_again (kind.Future None) h = refl
+kind_again (kind.Stream None) h = refl
+kind_again k h = search
+
+-- the form and parts of an unnamed type are those of no other kind
+pub only_anonymous : (what : TypeDefKind) → IsAnonymousForm (kind_of what).form → IsOnly what
+only_anonymous what anonymous = record {
+  same = λ k form parts. sym (kind_again k (subst IsAnonymousForm (sym form) anonymous)) ∙ ap (λ f. kind_from f (kind_of k).parts) form ∙ ap (kind_from (kind_of what).form) parts ∙ kind_again what anonymous;
+}

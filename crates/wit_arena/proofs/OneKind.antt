@@ -1,13 +1,15 @@
 -- A type of the arena is given by its form and its parts.
-use Rattle.std.proofs.Common.{◌≡◌, ℕ, Bool, true, false, List, [], ◌∷◌, Option, Some, None, refl, sym, ap, ◌∙◌, is_some}
-use Rattle.wit_arena.proofs.Names.{AliasForm, Borrow, BorrowForm, Docs, EnumForm, FixedLengthListForm, FlagsForm, Form, FutureForm, ListForm, MapForm, Member, OptionForm, Own, OwnForm, RecordForm, ResourceForm, ResultForm, Span, StreamForm, TupleForm, TypeDefKind, UnknownForm, VariantForm, filter_map, kind_of, map}
+use Rattle.std.proofs.Common.{◌≡◌, ℕ, Bool, true, false, List, [], ◌∷◌, Option, Some, None, refl, sym, ap, ◌∙◌, is_some, ◌++◌, take, append_assoc}
+use Rattle.wit_arena.proofs.Names.{AliasForm, Borrow, BorrowForm, Docs, EnumForm, FixedLengthListForm, FlagsForm, Form, FutureForm, ListForm, MapForm, Member, OptionForm, Own, OwnForm, RecordForm, ResourceForm, ResultForm, Span, StreamForm, TupleForm, TypeDefKind, UnknownForm, VariantForm, filter_map, kind_of, map, IsBelow, Leaf, Primitive, UnresolvedPackage, package_node, primitive_type, AllDiffer, AreAt, Def, End, Expr, Exprs, IsAt, Key, More, Of, Prim, Use, Whole, all_seen, at_prefix, at_take, joined, seen, slice_get}
 use Rattle.wit_types.specs.declared.types.Field.{Field}
 use Rattle.wit_types.specs.declared.types.Case.{Case}
 use Rattle.wit_types.specs.declared.types.EnumCase.{EnumCase}
 use Rattle.wit_types.specs.declared.types.Flag.{Flag}
 use Rattle.wit_types.specs.declared.types.«Type».{«Type» as Ty}
+use Rattle.wit_types.specs.declared.types.«Type».TheVariants.{Id}
 use Rattle.wit_types.specs.declared.types.«Type».TheVariants as type
 use Rattle.wit_types.specs.declared.types.TypeDefKind.TheVariants as kind
+use Rattle.wit_type_tree.specs.declared.types.Primitive.TheVariants as primitive
 
 -- the first of some types, and the second
 abbrev first : List Ty → Ty
@@ -130,3 +132,116 @@ back _ = refl
 -- so two of one form and the same parts are one
 pub one_kind : (k l : TypeDefKind) → (kind_of k).form ≡ (kind_of l).form → (kind_of k).parts ≡ (kind_of l).parts → k ≡ l
 one_kind k l form parts = sym (back k) ∙ ap (λ f. made f (kind_of k).parts) form ∙ ap (made (kind_of l).form) parts ∙ back l
+
+-- Primitive types and their words.
+-- the primitive that a type is
+abbrev primitive_of : Ty → Option Primitive
+primitive_of type.Bool = Some primitive.Bool
+primitive_of type.U8 = Some primitive.U8
+primitive_of type.U16 = Some primitive.U16
+primitive_of type.U32 = Some primitive.U32
+primitive_of type.U64 = Some primitive.U64
+primitive_of type.S8 = Some primitive.S8
+primitive_of type.S16 = Some primitive.S16
+primitive_of type.S32 = Some primitive.S32
+primitive_of type.S64 = Some primitive.S64
+primitive_of type.F32 = Some primitive.F32
+primitive_of type.F64 = Some primitive.F64
+primitive_of type.Char = Some primitive.Char
+primitive_of type.String = Some primitive.String
+primitive_of type.ErrorContext = Some primitive.ErrorContext
+primitive_of (type.Id i) = None
+
+-- the last line is read of each other primitive
+primitive_of-primitive_type : (p : Primitive) → primitive_of (primitive_type p) ≡ Some p
+primitive_of-primitive_type primitive.Bool = refl
+primitive_of-primitive_type p = refl
+
+pub primitive_type-injective : (p q : Primitive) → primitive_type p ≡ primitive_type q → p ≡ q
+primitive_type-injective p q h =
+    cc (sym (primitive_of-primitive_type p) ∙ ap primitive_of h ∙ primitive_of-primitive_type q)
+
+-- no primitive is an entry
+pub primitive_type-id : (p : Primitive) (i : ℕ) → primitive_type p ≡ type.Id i → ⊥
+primitive_type-id p i h =
+    cc (sym (primitive_of-primitive_type p) ∙ ap primitive_of h)
+
+-- one level of a primitive
+pub primitive_node : (p : UnresolvedPackage) (x : Primitive) → package_node p (primitive_type x) ≡ Leaf (primitive_type x)
+primitive_node p primitive.Bool = refl
+primitive_node p x = refl
+
+-- a primitive names no place
+pub primitive_below : (n : ℕ) (p : Primitive) → IsBelow n (primitive_type p)
+primitive_below n primitive.Bool = tt
+primitive_below n p = tt
+
+-- Where types are among the keys that occurred.
+pub same_some : {X : Type 0} {x y : X} → Some x ≡ Some y → x ≡ y
+same_some e = cc
+
+-- the second list is the first and more
+pub record Extended (a b : List Key) : Type 0 where
+  pub more : List Key
+  pub is : b ≡ a ++ more
+
+pub extended_trans : {a b c : List Key} → Extended a b → Extended b c → Extended a c
+extended_trans {a} {b} {c} g h = record { more = g.more ++ h.more; is = rw (h.is, g.is) (append_assoc a g.more h.more) }
+
+pub key_extended : {a b : List Key} → Extended a b → (i : ℕ) (k : Key) → slice_get a i ≡ Some k → slice_get b i ≡ Some k
+key_extended {a} g i k h = rw g.is (at_prefix a g.more i k h)
+
+-- what is at its place among some keys is so among others where each key keeps its place
+at_moved : (a b : List Key) → ((i : ℕ) (k : Key) → slice_get a i ≡ Some k → slice_get b i ≡ Some k) → (e : Expr) (t : Ty) → IsAt a e t → IsAt b e t
+at_moved a b moves (Prim p) t h = h
+at_moved a b moves (Use s name) t h = (h.0, h.1, moves h.0 (Def s name) h.2)
+at_moved a b moves (Of form parts) t h = (h.0, h.1, moves h.0 (Whole form parts) h.2)
+
+all_at_moved : (a b : List Key) → ((i : ℕ) (k : Key) → slice_get a i ≡ Some k → slice_get b i ≡ Some k) → (es : Exprs) (ts : List Ty) → AreAt a es ts → AreAt b es ts
+all_at_moved a b moves End [] h = tt
+all_at_moved a b moves (More e es) (t ∷ ts) h = (at_moved a b moves e t h.0, all_at_moved a b moves es ts h.1)
+all_at_moved a b moves es ts h = absurd h
+
+pub at_extended : {a b : List Key} → Extended a b → (e : Expr) (t : Ty) → IsAt a e t → IsAt b e t
+at_extended {a} {b} g e t h = at_moved a b (key_extended g) e t h
+
+pub all_at_extended : {a b : List Key} → Extended a b → (es : Exprs) (ts : List Ty) → AreAt a es ts → AreAt b es ts
+all_at_extended {a} {b} g es ts h = all_at_moved a b (key_extended g) es ts h
+
+-- from the first n to the whole
+pub all_at_untaken : (n : ℕ) (ks : List Key) (es : Exprs) (ts : List Ty) → AreAt (take n ks) es ts → AreAt ks es ts
+all_at_untaken n ks es ts h = all_at_moved (take n ks) ks (λ i k at. (at_take ks n i k at).0) es ts h
+
+pub all_at_joined : (ks : List Key) (es fs : Exprs) (ts us : List Ty) → AreAt ks es ts → AreAt ks fs us → AreAt ks (joined es fs) (ts ++ us)
+all_at_joined ks End fs [] us h k = k
+all_at_joined ks (More e es) fs (t ∷ ts) us h k = (h.0, all_at_joined ks es fs ts us h.1 k)
+all_at_joined ks es fs ts us h k = absurd h
+
+-- one place, one expression
+pub at_injective : (ks : List Key) (e f : Expr) (ty : Ty) → IsAt ks e ty → IsAt ks f ty → e ≡ f
+at_injective ks (Prim p) (Prim q) ty h k = ap Prim (primitive_type-injective p q (sym h ∙ k))
+at_injective ks (Prim p) f ty h k = absurd (primitive_type-id p k.0 (sym h ∙ k.1))
+at_injective ks e (Prim q) ty h k = absurd (primitive_type-id q h.0 (sym k ∙ h.1))
+at_injective ks e f ty h k = cc (h.1, k.1, h.2, k.2)
+
+pub all_at_injective : (ks : List Key) (es fs : Exprs) (tys : List Ty) → AreAt ks es tys → AreAt ks fs tys → es ≡ fs
+all_at_injective ks End End [] p q = refl
+all_at_injective ks (More e es) (More f fs) (t ∷ ts) p q = let a = at_injective ks e f t p.0 q.0 in let b = all_at_injective ks es fs ts p.1 q.1 in cc
+all_at_injective ks End (More f fs) [] p q = absurd q
+all_at_injective ks (More e es) End [] p q = absurd p
+all_at_injective ks es fs tys p q = search
+
+-- one expression, one type
+pub at_functional : (ks : List Key) → AllDiffer ks → (e : Expr) (t u : Ty) → IsAt ks e t → IsAt ks e u → t ≡ u
+at_functional ks o (Prim p) t u h k = h ∙ sym k
+at_functional ks o (Use s name) t u p q = p.1 ∙ ap Id (o.differ p.0 q.0 (Def s name) p.2 q.2) ∙ sym q.1
+at_functional ks o (Of form parts) t u p q = p.1 ∙ ap Id (o.differ p.0 q.0 (Whole form parts) p.2 q.2) ∙ sym q.1
+
+pub all_at_functional : (ks : List Key) → AllDiffer ks → (es : Exprs) (ts us : List Ty) → AreAt ks es ts → AreAt ks es us → ts ≡ us
+all_at_functional ks o End [] [] p q = refl
+all_at_functional ks o (More e es) (t ∷ ts) (u ∷ us) p q = let a = at_functional ks o e t u p.0 q.0 in let b = all_at_functional ks o es ts us p.1 q.1 in cc
+all_at_functional ks o es ts us p q = search
+
+pub all_seen-joined : (es fs : Exprs) → all_seen (joined es fs) ≡ all_seen es ++ all_seen fs
+all_seen-joined End fs = refl
+all_seen-joined (More e es) fs = ap (λ ks. seen e ++ ks) (all_seen-joined es fs) ∙ sym (append_assoc (seen e) (all_seen es) (all_seen fs))

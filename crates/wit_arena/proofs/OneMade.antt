@@ -1,14 +1,103 @@
--- What files make is one package.
-use Rattle.std.proofs.Common.{◌≡◌, ℕ, Bool, true, false, List, ◌++◌, length, Option, Some, None, refl, sym, ap, ◌∙◌, subst, [], ◌∷◌}
-use Rattle.wit_arena.proofs.Names.{Address, AllDiffer, AllZip, AreRequired, AstItem, AtForeign, AtResource, Def, Docs, HandleRequires, Id, Interface, IsLegal, Item, Key, Makes, Occurrence, PackageFile, PackageName, Span, Stability, Turned, TypeDef, UnresolvedPackage, World, all_occurrences, filter_map, flat_map, foreign_interface, foreign_interfaces, foreign_world, foreign_worlds, interface_scopes, item_turns, keys, map, own_interface, own_interfaces, own_world, owner_at, scope, turn_handles, world_scopes, worlds_of}
+-- Where two orders of names agree on items, these are resolved in one way, and are in a package in one way.
+use Rattle.std.proofs.Common.{◌≡◌, ℕ, suc, List, [], ◌∷◌, ◌++◌, Some, refl, ap, ◌∙◌, ◌<◌, Bool, not, length, inl, inr, sym, subst, Contains, true, false, Option, None}
 use Rattle.std.proofs.Math.Path.{fun_ext}
+use Rattle.wit_arena.proofs.Names.{Address, Item, Key, SideFunction, SideInline, SideItem, SideLink, Turned, address, flat_map, inline_items, interface_turn, interfaces_of, item_turns, map, own_interface, own_world, side_items, slice_get, turns_of_world, turns_on_sides, worlds_of, AreInOrder, AreNamesInOrder, PackageFile, all_items, all_scopes, at_split, contains_at, filter, flat_map_at, flat_map_has, in_order, in_order_at, is_world, item_row, item_rows, kept_at, length-map, one_answer, order_within, own_interfaces, rows_of, scope_names, AllDiffer, AllZip, AreRequired, AstItem, AtForeign, AtResource, Def, Docs, HandleRequires, Id, Interface, IsLegal, Makes, Occurrence, PackageName, Span, Stability, TypeDef, UnresolvedPackage, World, all_occurrences, filter_map, foreign_interface, foreign_interfaces, foreign_world, foreign_worlds, interface_scopes, keys, owner_at, scope, turn_handles, world_scopes}
+use Rattle.wit_arena.proofs.Turns.{function_turn}
 use Rattle.wit_arena.proofs.Ends.{ends_one}
-use Rattle.wit_arena.proofs.FirstsOf.{firsts-differ}
+use Rattle.wit_arena.proofs.Occurrence.{firsts-differ}
 use Rattle.wit_arena.proofs.LegalScopes.{scope_differs}
 use Rattle.wit_arena.proofs.OneMadeArena.{AreEntries, one_arena}
-use Rattle.wit_arena.proofs.OneMadeOrders.{one_order_of_items, on_worlds, on_own, one_turns}
-use Rattle.wit_arena.proofs.OneMadeTurns.{same_interfaces, same_worlds}
 
+-- what agrees on what a list holds makes one list of it
+pub map_same : {X Y : Type 0} (f g : X → Y) (xs : List X) → ((k : ℕ) (x : X) → slice_get xs k ≡ Some x → f x ≡ g x) → map f xs ≡ map g xs
+map_same f g [] same = refl
+map_same {X} {Y} f g (x ∷ xs) same = ap (λ (y : Y). y ∷ map f xs) (same 0 x refl) ∙ ap (λ (l : List Y). g x ∷ l) (map_same f g xs (λ k. same (suc k)))
+
+flat_map_same : {X Y : Type 0} (f g : X → List Y) (xs : List X) → ((k : ℕ) (x : X) → slice_get xs k ≡ Some x → f x ≡ g x) → flat_map f xs ≡ flat_map g xs
+flat_map_same f g [] same = refl
+flat_map_same {X} {Y} f g (x ∷ xs) same = ap (λ (l : List Y). l ++ flat_map f xs) (same 0 x refl) ∙ ap (λ (l : List Y). g x ++ l) (flat_map_same f g xs (λ k. same (suc k)))
+
+module _ (order other : Item → List ℕ) where
+  -- the two agree on each of these items
+  abbrev pub Agree : List Item → Type 0
+  Agree is = (k : ℕ) (i : Item) → slice_get is k ≡ Some i → order i ≡ other i
+
+  same_on_sides : (s : Address) (xs : List SideItem) (is : List Item) → Agree is → turns_on_sides order s xs is ≡ turns_on_sides other s xs is
+  same_on_sides s [] is agree = refl
+  same_on_sides s (SideFunction fn ∷ xs) is agree = ap (λ (l : List Turned). function_turn s fn ∷ l) (same_on_sides s xs is agree)
+  same_on_sides s (SideLink link ∷ xs) is agree = same_on_sides s xs is agree
+  same_on_sides s (SideInline x name items ∷ xs) [] agree = same_on_sides s xs [] agree
+  same_on_sides s (SideInline x name items ∷ xs) (i ∷ is) agree =
+      cc ((ap (λ (l : List ℕ). interface_turn (λ s. l) i) (agree 0 i refl)), same_on_sides s xs is (λ k. agree (suc k)))
+
+  same_world_turns : (i : Item) → order i ≡ other i → Agree (inline_items i) → turns_of_world order i ≡ turns_of_world other i
+  same_world_turns i same inside =
+      cc (same, same_on_sides (address i) (side_items i) (inline_items i) inside)
+
+  module _ (is : List Item) (interfaces : Agree (interfaces_of is)) (worlds : Agree (worlds_of is)) (inside : (k : ℕ) (i : Item) → slice_get (worlds_of is) k ≡ Some i → Agree (inline_items i)) where
+    pub same_turns : item_turns order is ≡ item_turns other is
+    same_turns =
+        cc (map_same (interface_turn order) (interface_turn other) (interfaces_of is) (λ k i at. (ap (λ (l : List ℕ). interface_turn (λ s. l) i) (interfaces k i at))), flat_map_same (turns_of_world order) (turns_of_world other) (worlds_of is) (λ k i at. same_world_turns i (worlds k i at) (inside k i at)))
+
+  pub same_interfaces : (id : Key → ℕ) (is : List Item) → Agree is → map (own_interface id order) is ≡ map (own_interface id other) is
+  same_interfaces id is agree = map_same (own_interface id order) (own_interface id other) is (λ k i at. ap (λ (l : List ℕ). own_interface id (λ s. l) i) (agree k i at))
+
+  pub same_worlds : (id : Key → ℕ) (ss ws : List Address) (is : List Item) → Agree is → map (own_world id order ss ws) is ≡ map (own_world id other ss ws) is
+  same_worlds id ss ws is agree = map_same (own_world id order ss ws) (own_world id other ss ws) is (λ k i at. ap (λ (l : List ℕ). own_world id (λ s. l) ss ws i) (agree k i at))
+
+-- There is one order of the items of files, and one of the names of each, so that two that are stated agree on all items.
+module _ (files : List PackageFile) where
+  -- the items have one order
+  pub one_order_of_items : (is js : List Item) → AreInOrder files is → AreInOrder files js → is ≡ js
+  one_order_of_items is js a b = a.2 ∙ ap (in_order (all_items files)) ((one_answer (item_rows files)).one a.0 b.0 a.1 b.1) ∙ sym b.2
+
+  -- an item, and what is written in it, is a scope of the files
+  module _ (i : Item) (k : ℕ) (at : slice_get (all_items files) k ≡ Some i) where
+    item_among : Contains (all_scopes files) i
+    item_among = (let it = flat_map_has (λ (i : Item). i ∷ inline_items i) (all_items files) k 0 i i at refl in contains_at (all_scopes files) it.0 i it.1)
+
+    inline_among : (j : ℕ) (w : Item) → slice_get (inline_items i) j ≡ Some w → Contains (all_scopes files) w
+    inline_among j w at_w = (let it = flat_map_has (λ (i : Item). i ∷ inline_items i) (all_items files) k (suc j) i w at at_w in contains_at (all_scopes files) it.0 w it.1)
+
+  -- what is in order is among all items
+  ordered_at : (is : List Item) → AreInOrder files is → (k : ℕ) (i : Item) → slice_get is k ≡ Some i → (j : ℕ) × (slice_get (all_items files) j ≡ Some i)
+  ordered_at is ordered k i at =
+      let it = in_order_at (all_items files) ordered.0 k i within (ap (λ (l : List Item). slice_get l k) (sym ordered.2) ∙ at) in
+      (it.0, it.2)
+    where
+      within : (j p : ℕ) → slice_get ordered.0 j ≡ Some p → p < length (all_items files)
+      within j p at_p = subst (λ (n : ℕ). p < n) (length-map (all_items files) item_row) (order_within (item_rows files) ordered.0 ordered.1 j p at_p)
+
+  -- two orders of names agree on all items
+  module _ (order other : Item → List ℕ) (a : AreNamesInOrder files order) (b : AreNamesInOrder files other) (is : List Item) (ordered : AreInOrder files is) where
+    agree_on : (i : Item) → Contains (all_scopes files) i → order i ≡ other i
+    agree_on i among = (one_answer (rows_of (scope_names i))).one (order i) (other i) (a i among) (b i among)
+
+    agree_kept : (test : Item → Bool) (k : ℕ) (i : Item) → slice_get (filter test is) k ≡ Some i → (j : ℕ) × (slice_get (all_items files) j ≡ Some i)
+    agree_kept test k i at = (let it = kept_at test is k i at in ordered_at is ordered it.0 i it.1)
+
+    on_interfaces : Agree order other (interfaces_of is)
+    on_interfaces k i at = (let it = agree_kept (λ (i : Item). not (is_world i)) k i at in agree_on i (item_among i it.0 it.1))
+
+    pub on_worlds : Agree order other (worlds_of is)
+    on_worlds k i at = (let it = agree_kept is_world k i at in agree_on i (item_among i it.0 it.1))
+
+    on_inline : (k : ℕ) (i : Item) → slice_get (worlds_of is) k ≡ Some i → Agree order other (inline_items i)
+    on_inline k i at j w at_w = (let it = agree_kept is_world k i at in agree_on w (inline_among i it.0 it.1 j w at_w))
+
+    pub on_own : Agree order other (own_interfaces is)
+    on_own k i at = elim (at_split (interfaces_of is) (flat_map inline_items (worlds_of is)) k i at) [
+      | inl prefix ↦ on_interfaces k i prefix
+      | inr rest_after ↦ (let it = flat_map_at inline_items (worlds_of is) rest_after.0 i rest_after.2 in on_inline it.0 it.1 it.2 it.3.0 i it.3.1)
+    ]
+
+  -- so they are resolved in one way
+  pub one_turns : (order other : Item → List ℕ) (a : AreNamesInOrder files order) (b : AreNamesInOrder files other) (is js : List Item) → AreInOrder files is → AreInOrder files js → item_turns order is ≡ item_turns other js
+  one_turns order other a b is js first second =
+      ap (item_turns order) (one_order_of_items is js first second)
+      ∙ same_turns order other js (on_interfaces order other a b js second) (on_worlds order other a b js second) (on_inline order other a b js second)
+
+-- What files make is one package.
 -- a name in a handle requires one thing
 one_requires : (files : List PackageFile) (ks : List Key) → AllDiffer ks → (h : Address × Id) (r q : Option (ℕ × Span)) → HandleRequires files ks h r → HandleRequires files ks h q → r ≡ q
 one_requires files ks differ h None None a b = refl

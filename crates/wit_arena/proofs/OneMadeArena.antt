@@ -2,9 +2,8 @@
 use Rattle.std.proofs.Common.{◌≡◌, ℕ, List, length, take, Some, sym, ap, ◌∙◌, subst, arith, Contains}
 use Rattle.wit_arena.proofs.Names.{Address, AreDistinct, Def, Form, IsEntryOf, Key, Kind, Occurrence, ScopeName, Span, Stability, TypeDef, TypeDefKind, TypeOwner, Whole, about_name, at_contains, at_within, differ_at, kind_of, local_name, name_exprs, slice_get, slice_get_within, types_of}
 use Rattle.wit_types.specs.declared.types.«Type».{«Type» as Ty}
-use Rattle.wit_arena.proofs.OneKind.{one_kind}
+use Rattle.wit_arena.proofs.OneKind.{one_kind, same_some}
 use Rattle.wit_arena.proofs.OneList.{same_by_prefixes}
-use Rattle.wit_arena.proofs.Places.{same_some}
 
 -- of distinct names one is called so
 one_called : (xs : List ScopeName) → AreDistinct xs → (x y : ScopeName) → Contains xs x → Contains xs y → local_name x ≡ local_name y → x ≡ y

@@ -1,7 +1,7 @@
 -- The interfaces and the worlds of files in their order, and interfaces that were resolved among them.
 use Rattle.std.proofs.Common.{◌≡◌, ℕ, false, not, List, Some, None, ap, Contains}
 use Rattle.wit_arena.proofs.Names.{Address, AllDiffer, InterfaceNamed, IsOrder, Item, PackageFile, all_items, at_contains, env_of, in_order, interfaces_of, is_world, item_name, item_rows, kept_has, map, meaning, scope, slice_get, worlds_of}
-use Rattle.wit_arena.proofs.Members.{DoneScope, IsDoneScope}
+use Rattle.wit_arena.proofs.Resolving.{DoneScope, IsDoneScope}
 use Rattle.wit_arena.proofs.Meant.{lacks_nothing}
 use Rattle.wit_arena.proofs.Interfaces.{AreItems, items_kept}
 use Rattle.wit_arena.proofs.Itemizing.{item_index, are_items}

@@ -1,19 +1,119 @@
--- What follows for a package once all interfaces and all worlds are done.
-use Rattle.std.proofs.Common.{◌≡◌, ℕ, ◌+◌, List, ◌++◌, length, Some, ◌⊎◌, inl, inr, refl, sym, ap, ◌∙◌, subst, append_assoc, length-append}
-use Rattle.wit_arena.proofs.Names.{Address, AddsForeign, AreFunctions, AreIncludes, AreRequired, AreSideItems, Exported, ForeignVisit, Function, HasTypes, Id, Imported, Interface, IsForeignInterface, IsOccurrence, IsOrder, Item, Key, Names, Occurrence, OneByOne, PackageFile, Required, ScopeName, Turned, TypeDef, World, WorldArenas, address, all_items, all_occurrences, at_back, at_part, at_prefix, declarations, flat_map, flat_map-append, foreign_interfaces, foreign_worlds, functions, in_order, includes, inline_items, interfaces_of, item_rows, keys, length-map, map, map-append, map_map, option_map, placed_functions, resolved_scope, rows_of, scope_names, settled, side_items, slice_get, slice_get-map, slice_get_within, turn_handles, type_imports, visited, world_types, worlds_of}
-use Rattle.wit_arena.proofs.Ordered.{Ordered, OrderedWorld, AreOrdered, ordered_names, turned, world_turns, all_turns, all_inside, addresses, interface_addresses, world_addresses}
-use Rattle.wit_arena.proofs.ByParts.{HasSides, IsPackage, IsResolvedInterface, IsResolvedWorld}
-use Rattle.wit_arena.proofs.Members.{DoneScope, turn_of, members}
+-- The package that files make, part by part: what the steps of resolving them come to.
+use Rattle.std.proofs.Common.{◌≡◌, ℕ, List, Some, sym, ap, ◌∙◌, subst, arith, ◌+◌, ◌++◌, length, inl, inr, refl, append_assoc}
+use Rattle.wit_arena.proofs.Names.{Address, AreIncludes, AreRequired, Collects, Exported, Function, HasSide, HasTypes, Imported, Interface, IsForeignInterface, IsForeignWorld, IsFunction, IsInterface, IsOccurrence, IsWorld, Key, Occurrence, OneByOne, PackageFile, Required, TypeDef, UnresolvedPackage, World, [], about, address, all_occurrences, declarations, declared_metadata, dep, first_foreign_uses, flat_map, foreign_interfaces, foreign_packages, foreign_worlds, functions as item_functions, includes, keys, map, placed_functions, turn_handles, type_imports, world_types, AreAt, Decls, Def, ScopeName, SourceFunction, TypeOwner, at_within, differ_at, kind_of, local_name, lookup-at, map_at, name_exprs, one, option_map, scope, slice_get, slice_get-map, slice_get_within, AddsForeign, AreFunctions, AreSideItems, ForeignVisit, Id, IsOrder, Item, Names, Turned, WorldArenas, all_items, at_back, at_part, at_prefix, flat_map-append, functions, in_order, inline_items, interfaces_of, item_rows, length-map, map-append, map_map, resolved_scope, rows_of, scope_names, settled, side_items, visited, worlds_of}
+use Rattle.wit_arena.proofs.Ordered.{AreOrdered, Ordered, ordered_names, turned, OrderedWorld, all_turns, all_inside, addresses, interface_addresses, world_addresses, world_turns}
+use Rattle.wit_arena.proofs.OneKind.{all_at_untaken}
+use Rattle.wit_arena.proofs.Shape.{entry_of_key}
+use Rattle.wit_arena.proofs.Resolving.{DoneScope, turn_of, IsPresent, members}
 use Rattle.wit_arena.proofs.Prefix.{interface_scope, prefix_scopes}
 use Rattle.wit_arena.proofs.ScopesInTurn.{done_required, required_in_turn, ordered_addresses, scope_at, scope_of_entry}
-use Rattle.wit_arena.proofs.Added.{inside_of, interface_list, world_list, decls, InterfacesDone}
+use Rattle.wit_arena.proofs.DoneWorlds.{inside_of, interface_list, world_list, decls, InterfacesDone, world_resolved_scope, AreWorldsDone, own_order, scopes_of, all_within, types_of_resolved_scope, prefix_interface_at, world_scope_among, inside_scope_among, inside_entry}
 use Rattle.wit_arena.proofs.Inside.{IsInside, inside_at, inside_count}
-use Rattle.wit_arena.proofs.DoneWorlds.{world_resolved_scope, AreWorldsDone, own_order, scopes_of, all_within}
-use Rattle.wit_arena.proofs.Required.{both_parts, required_append}
-use Rattle.wit_arena.proofs.NamesOfDone.{has_types}
-use Rattle.wit_arena.proofs.Among.{types_of_resolved_scope, prefix_interface_at, world_scope_among, inside_scope_among, inside_entry}
+use Rattle.wit_arena.proofs.Required.{one_by_one-append, required_append}
 use Rattle.wit_arena.proofs.Turns.{item_of, own_item, foreign_turned}
 
+-- a prefix of these belongs to some, one by one, and the rest to others
+abbrev pub BothParts : {X Y Z : Type 0} → (X → Z → Type 0) → (Y → Z → Type 0) → List X → List Y → List Z → Type 0
+BothParts {X} {Y} {Z} First Then xs ys zs = (prefix : List Z) × (rest : List Z) × (zs ≡ prefix ++ rest) × OneByOne First xs prefix × OneByOne Then ys rest
+
+-- an interface of files, with its names in turn, and its functions
+pub record IsResolvedInterface (ks : List Key) (o : Ordered) (i : Interface) : Type 0 where
+  pub says : IsInterface (about o.item.declared).called (about o.item.declared).id.span (declared_metadata o.item.declared) i
+  pub types : HasTypes ks (turned o) i.types
+  pub functions : (fs : List Function) × OneByOne (IsFunction ks (address o.item)) (item_functions o.item) fs × (i.functions ≡ placed_functions fs)
+
+-- After the names of types a world has on its sides what an item has there, with functions over the types of the package, and each setter
+-- after its getter where nothing is included; the interfaces have these addresses, and those that are written in it have those.
+pub record HasSides (ks : List Key) (interfaces inside : List Address) (o : Ordered) (w : World) : Type 0 where
+  pub functions : List Function
+  pub are : OneByOne (IsFunction ks (address o.item)) (item_functions o.item) functions
+  pub imports : HasSide interfaces inside o.item Imported functions (type_imports (ordered_names o) (world_types w)) w.imports
+  pub exports : HasSide interfaces inside o.item Exported functions [] w.exports
+
+-- A world of files, with its names in turn as its imports, and then the functions and interfaces that it imports, with those that it exports,
+-- and with its includes, where the interfaces and the worlds have these addresses.
+pub record IsResolvedWorld (ks : List Key) (interfaces worlds : List Address) (o : OrderedWorld) (w : World) : Type 0 where
+  pub says : IsWorld (about o.own.item.declared).id.name.now (about o.own.item.declared).id.span (declared_metadata o.own.item.declared) w
+  pub types : HasTypes ks (turned o.own) (world_types w)
+  pub sides : HasSides ks interfaces (addresses o.inside) o.own w
+  pub includes : AreIncludes worlds o.own.item w.includes
+
+-- what the package names of others: each of them in the order of its first visit, with its items in the order of theirs, and the types
+-- that are taken from them in the order of their first uses
+abbrev pub NamesOthers : List PackageFile → UnresolvedPackage → Type 0
+NamesOthers files p = (p.foreign_deps ≡ map (dep files) (foreign_packages files)) × (p.foreign_dep_spans ≡ map (λ v. v.of.span) (foreign_packages files)) × (p.unknown_type_spans ≡ map (λ t. t.id.span) (first_foreign_uses files))
+
+-- These arenas begin with the items of other packages, in the order of their first visits; then they have the interfaces and the worlds in
+-- the least order in which each item comes after those that it needs, each with its used names and then its definitions in the least
+-- dependency-first order. The arena of types is the list of first occurrences: of what is taken from other packages, then of all declared
+-- interfaces, then of all worlds. After the declared interfaces are those that are written in worlds.
+pub record IsPackage (files : List PackageFile) (es : List TypeDef) (is : List Interface) (ws : List World) (rs : List Required) : Type 0 where
+  pub seen : List Occurrence
+  pub own : List Ordered
+  pub own_worlds : List OrderedWorld
+  pub ordered : AreOrdered files own own_worlds
+  pub first : Collects [] (all_occurrences files (all_turns own own_worlds)) seen
+  pub occurrence : IsOccurrence (declarations files (interface_addresses files (own ++ all_inside own_worlds)) (world_addresses files own_worlds)) seen es
+  pub interfaces : BothParts (IsForeignInterface files (keys seen)) (IsResolvedInterface (keys seen)) (foreign_interfaces files) (own ++ all_inside own_worlds) is
+  pub worlds : BothParts IsForeignWorld (IsResolvedWorld (keys seen) (interface_addresses files (own ++ all_inside own_worlds)) (world_addresses files own_worlds)) (foreign_worlds files) own_worlds ws
+  -- the types of other packages that must be resources: those at which names in handles end, of all interfaces and then of all worlds
+  pub required : AreRequired files (keys seen) (flat_map turn_handles (all_turns own own_worlds)) rs
+
+-- The names of scopes that are done: each means its entry, and what is used is a name of the scope that it comes from.
+module _ (files : List PackageFile) (decls : Decls) (written : List Occurrence) (cs : List DoneScope) (es : List TypeDef) (d : IsPresent files decls written cs es) where
+  abbrev ks : List Key
+  ks = keys d.seen
+
+  pub has_types : (t : ℕ) (c : DoneScope) → slice_get cs t ≡ Some c → HasTypes ks (turn_of c) c.types
+  has_types t c at =
+      let it = d.each t c at in
+      record {
+        names = it.listed;
+        places = λ k name id kat. (d.are_present t c at).present name id (lookup-at c.types k name id (λ a b n ata atb. (
+            let x = map_at local_name c.names a n (ap (λ (l : List (List ℕ)). slice_get l a) (sym it.listed) ∙ ata) in
+            let y = map_at local_name c.names b n (ap (λ (l : List (List ℕ)). slice_get l b) (sym it.listed) ∙ atb) in
+            differ_at local_name c.names it.turn.differ a b x.0 y.0 x.1 y.1 (x.2 ∙ sym y.2))) kat);
+      }
+
+  -- a name in turn means its place
+  pub named_at : (t : ℕ) (c : DoneScope) (k : ℕ) (x : ScopeName) → slice_get cs t ≡ Some c → slice_get c.names k ≡ Some x → (id : ℕ) × (slice_get c.types k ≡ Some (local_name x, id)) × (slice_get ks id ≡ Some (Def c.address (local_name x)))
+  named_at t c k x at xat =
+      let key : slice_get (map (λ (p : List ℕ × ℕ). p.0) c.types) k ≡ Some (local_name x) = ap (λ (l : List (List ℕ)). slice_get l k) (d.each t c at).listed ∙ slice_get-map local_name c.names k ∙ ap (option_map local_name) xat in
+      let p = map_at (λ (p : List ℕ × ℕ). p.0) c.types k (local_name x) key in
+      let present : slice_get c.types k ≡ Some (local_name x, p.0.1) = p.1 ∙ ap (λ (n : List ℕ). Some (n, p.0.1)) p.2 in
+      (p.0.1, present, (has_types t c at).places k (local_name x) p.0.1 present)
+
+  -- the entry of a name
+  pub entry_of : (id : ℕ) (s : Address) (name : List ℕ) → slice_get ks id ≡ Some (Def s name) → (e : TypeDef) × (slice_get es id ≡ Some e)
+  entry_of id s name here = entry_of_key decls ks es d.occurrence.keyed id (Def s name) here
+
+  -- it is its scope's
+  pub owner_at_name : (t : ℕ) (c : DoneScope) (id : ℕ) (name : List ℕ) (e : TypeDef) → slice_get cs t ≡ Some c → slice_get ks id ≡ Some (Def c.address name) → slice_get es id ≡ Some e → e.owner ≡ c.owner
+  owner_at_name t c id name e at here there =
+      let it = d.occurrence.keyed.each id (Def c.address name) e here there in
+      it.6 ∙ ap (λ (d : List ScopeName × TypeOwner). d.1) (d.own t c at)
+
+  -- it has the parts of the name
+  pub parts_at : (t : ℕ) (c : DoneScope) (k : ℕ) (x : ScopeName) (id : ℕ) (e : TypeDef) → slice_get cs t ≡ Some c → slice_get (scope files c.address) k ≡ Some x → slice_get ks id ≡ Some (Def c.address (local_name x)) → slice_get es id ≡ Some e → AreAt ks (name_exprs c.address x) (kind_of e.kind).parts
+  parts_at t c k x id e at xat here there =
+      let s = c.address in
+      let it = d.occurrence.keyed.each id (Def s (local_name x)) e here there in
+      let there : slice_get (scope files s) it.0 ≡ Some it.1 = ap (λ (d : List ScopeName × TypeOwner). slice_get d.0 it.0) (sym (d.own t c at)) ∙ it.2 in
+      let place = differ_at local_name (scope files s) (d.each t c at).turn.distinct it.0 k it.1 x there xat it.3 in
+      let one : Some it.1 ≡ Some x = sym there ∙ ap (slice_get (scope files s)) place ∙ xat in
+      let same : it.1 ≡ x = cc in
+      subst (λ (z : ScopeName). AreAt ks (name_exprs s z) (kind_of e.kind).parts) same (all_at_untaken id ks (name_exprs s it.1) (kind_of e.kind).parts it.8)
+
+  -- a function of a scope, and the one of the package that it is
+  pub function_at : (t : ℕ) (c : DoneScope) (k : ℕ) (fn : SourceFunction) → slice_get cs t ≡ Some c → slice_get c.functions k ≡ Some fn → (f : Function) × (slice_get c.made k ≡ Some f) × IsFunction ks c.address fn f
+  function_at t c k fn at fat =
+      let are = d.made t c at in
+      let lt = slice_get_within c.functions k fn fat in
+      let count = are.count in
+      let f = at_within c.made k (omega arith) in
+      (f.0, f.1, are.each k fn f.0 fat f.1)
+
+-- What follows for a package once all interfaces and all worlds are done.
 module _ (files : List PackageFile) (is ws : List Item) (start middle : List TypeDef) (prefix xs : List Interface) (wprefix : List World) (foreign : AddsForeign files start prefix wprefix) (irs wrs : List Required) (new : List TypeDef) (a : WorldArenas) (d : InterfacesDone files is ws prefix is middle xs irs) (e : AreWorldsDone files is ws wprefix d.ordered (prefix_scopes files prefix ++ d.scopes) ws new a wrs) where
   abbrev ahead : List DoneScope
   ahead = prefix_scopes files prefix
@@ -106,32 +206,26 @@ module _ (files : List PackageFile) (is ws : List Item) (start middle : List Typ
   foreign_interface_is t v i at there = let h = foreign.interfaces.each t v i at there in (h.0, types_at t (interface_scope files t v i) (foreign_turned files v) i.types (prefix_interface_at files is ws middle new prefix xs wprefix irs wrs a d e t v i at there) refl refl, h.2)
 
   -- an entry is that of a declared interface, or of one that is written in a world
-  entry_either : (t : ℕ) (o : Ordered) (i : Interface) → slice_get (d.ordered ++ all_inside e.ordered) t ≡ Some o → slice_get (xs ++ a.inside) t ≡ Some i → ((slice_get d.ordered t ≡ Some o) × (slice_get xs t ≡ Some i)) ⊎ ((k : ℕ) × (c : DoneScope) × (slice_get (all_within e.scopes) k ≡ Some c) × IsInside ((length ss + length is) + k) o c i)
-  entry_either t o i at there = elim (both_parts d.ordered (all_inside e.ordered) xs a.inside d.laid.count t o i at there) [
-    | inl own ↦ inl own
-    | inr far ↦ (
-        let h = inside_entry files is ws middle new prefix xs wprefix irs wrs a d e far.0 i far.2 in
-        let both : Some h.0.o ≡ Some o = sym h.0.at_o ∙ far.1 in
-        let one : h.0.o ≡ o = cc in
-        inr (far.0, h.0.c, h.0.at_c, subst (λ (x : Ordered). IsInside ((length ss + length is) + far.0) x h.0.c i) one (subst (λ (x : Interface). IsInside ((length ss + length is) + far.0) h.0.o h.0.c x) h.1 h.0.holds)))
-  ]
-
   interfaces_are : OneByOne (IsResolvedInterface seen_keys) (d.ordered ++ all_inside e.ordered) (xs ++ a.inside)
-  interfaces_are = record {
-    count = length-append xs a.inside ∙ ap (λ n. n + length a.inside) d.laid.count ∙ ap (λ n. length d.ordered + n) (inside_count (length ss + length is) (all_inside e.ordered) (all_within e.scopes) a.inside e.laid_inside) ∙ sym (length-append d.ordered (all_inside e.ordered));
-    each = λ t o i at there. elim (entry_either t o i at there) [
-      | inl h ↦ record { says = d.laid.says t o i h.0 h.1; types = interface_types_at t o i h.0 h.1; functions = interface_makes t o i h.0 h.1 }
-      | inr h ↦ (
-          let k = inside_scope_among files is ws middle new prefix xs wprefix irs wrs a d e h.0 h.1 h.2 in
-          record { says = h.3.says; types = types_at k.0 h.1 (turned o) i.types k.1 h.3.turn h.3.types; functions = (h.1.made, functions_made k.0 h.1 o k.1 h.3.turn, h.3.are_present) })
-    ];
-  }
+  interfaces_are = one_by_one-append (IsResolvedInterface seen_keys) d.ordered (all_inside e.ordered) xs a.inside (record {
+    count = d.laid.says.count;
+    each = λ t o i at there. record { says = d.laid.says.each t o i at there; types = interface_types_at t o i at there; functions = interface_makes t o i at there };
+  }) (record {
+    count = inside_count (length ss + length is) (all_inside e.ordered) (all_within e.scopes) a.inside e.laid_inside;
+    each = λ t o i at there. (
+        let h = inside_entry files is ws middle new prefix xs wprefix irs wrs a d e t i there in
+        let both : Some h.0.o ≡ Some o = sym h.0.at_o ∙ at in
+        let one : h.0.o ≡ o = cc in
+        let it = subst (λ (x : Ordered). IsInside ((length ss + length is) + t) x h.0.c i) one (subst (λ (x : Interface). IsInside ((length ss + length is) + t) h.0.o h.0.c x) h.1 h.0.holds) in
+        let k = inside_scope_among files is ws middle new prefix xs wprefix irs wrs a d e t h.0.c h.0.at_c in
+        record { says = it.says; types = types_at k.0 h.0.c (turned o) i.types k.1 it.turn it.types; functions = (h.0.c.made, functions_made k.0 h.0.c o k.1 it.turn, it.are_present) });
+  })
 
   worlds_are : OneByOne (IsResolvedWorld seen_keys (interface_addresses files (d.ordered ++ all_inside e.ordered)) (world_addresses files e.ordered)) e.ordered ys
   worlds_are = record {
-    count = e.laid.count ∙ length-map e.ordered own_order;
+    count = e.laid.says.count ∙ length-map e.ordered own_order;
     each = λ t o w at there. (
-        let it = e.laid.says t o.own w (own_order_at t o at) there in
+        let it = e.laid.says.each t o.own w (own_order_at t o at) there in
         record {
           says = it.says;
           types = world_types_at t o w at there;

@@ -4,7 +4,7 @@ use Rattle.wit_arena.proofs.Names.{Address, All-cons, All-nil, AreAt, IsAt, Key,
 use Rattle.wit_syntax.proofs.Common.{More, placed}
 use Rattle.wit_syntax.specs.Shape.{End}
 use Rattle.wit_types.specs.declared.types.«Type».{«Type» as Ty}
-use Rattle.wit_arena.proofs.Places.{same_some}
+use Rattle.wit_arena.proofs.OneKind.{same_some}
 
 -- a type is one of these
 abbrev pub HasPart : List Ty → Ty → Type 0

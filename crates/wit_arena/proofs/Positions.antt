@@ -5,14 +5,13 @@ use Rattle.wit_syntax.proofs.Common.{placed}
 use Rattle.wit_types.specs.declared.types.«Type».{«Type» as Ty}
 use Rattle.wit_types.specs.declared.types.«Type».TheVariants as type
 use Rattle.wit_syntax.specs.Shape as shape
-use Rattle.wit_arena.proofs.Primitives.{primitive_node}
-use Rattle.wit_arena.proofs.Places.{all_at_untaken}
+use Rattle.wit_arena.proofs.OneKind.{primitive_node, all_at_untaken}
 use Rattle.wit_arena.proofs.Occurrence.{Has, has_either}
 use Rattle.wit_arena.proofs.Shape.{entry_of_key}
 use Rattle.wit_arena.proofs.Depth.{meaning_found}
 use Rattle.wit_arena.proofs.Parts.{part_type}
-use Rattle.wit_arena.proofs.Members.{DoneScope, IsPresent}
-use Rattle.wit_arena.proofs.NamesOfDone.{entry_of, parts_at}
+use Rattle.wit_arena.proofs.Resolving.{DoneScope, IsPresent}
+use Rattle.wit_arena.proofs.PackageIfDone.{entry_of, parts_at}
 
 -- an entry has the parts of its kind
 entry_parts : (p : UnresolvedPackage) (name : Option (List ℕ)) (e : TypeDef) → node_parts (entry_node p name e) ≡ (kind_of e.kind).parts

@@ -2,11 +2,11 @@
 use Rattle.std.proofs.Common.{◌≡◌, ℕ, zero, suc, ◌+◌, false, List, [], ◌∷◌, ◌++◌, length, take, Option, Some, None, inl, inr, refl, sym, ap, ◌∙◌, subst, arith}
 use Rattle.wit_arena.proofs.Names.{Address, AddsForeign, AllDiffer, AreFunctions, AreNames, AreRequired, Declared, Decls, Def, ForeignName, ForeignNamed, ForeignUse, ForeignVisit, Imported, Interface, IsEntry, IsForeignInterface, IsOccurrence, IsSome, Item, Key, Occurrence, PackageFile, PackageName, ScopeName, TheInterface, TypeDef, TypeOwner, World, about, all_handles, all_items, all_scopes, at_part, at_prefix, at_within, differ_join, differ_none, env_of, filter, first_foreign_uses, firsts_at, flat_map, foreign_interfaces, foreign_type, foreign_use_occurrence, foreign_uses, foreign_worlds, functions, interface_functions, item_at, keys, length-map, local_name, lookup-place, map, map-append, map_at, map_map, name_types, option_map, option_map_or, owner_at, package_of, resolved_scopes, same_address, same_foreign_use, scope, slice_get, slice_get-map, slice_get_within, some_of, turn_handles, used_names, visited, «Type» as Written}
 use Rattle.wit_types.specs.declared.types.TypeOwner.TheVariants as owner
-use Rattle.wit_arena.proofs.Places.{same_some}
+use Rattle.wit_arena.proofs.OneKind.{same_some}
 use Rattle.wit_arena.proofs.UsePart.{lookup-listed}
 use Rattle.wit_arena.proofs.FreeNames.{free_keyed}
 use Rattle.wit_arena.proofs.Required.{required_none}
-use Rattle.wit_arena.proofs.Members.{DoneScope, done_address, turn_of, resolved_scope_of, IsDoneScope, IsNameOf, IsDone}
+use Rattle.wit_arena.proofs.Resolving.{DoneScope, done_address, turn_of, resolved_scope_of, IsDoneScope, IsNameOf, IsDone}
 use Rattle.wit_arena.proofs.Interfaces.{interface_owner_at}
 use Rattle.wit_arena.proofs.Visits.{visited_addresses, interface_apart, AreUsableUses}
 use Rattle.wit_arena.proofs.ForeignUses.{foreign_use_key, keys-foreign_uses, foreign_uses_seen, foreign_uses_differ, used_from, in_use_has, used_name_at, used_distinct}

@@ -1,8 +1,8 @@
 -- What handles require of other packages: what is given by the arena is what the files say.
-use Rattle.std.proofs.Common.{◌≡◌, ℕ, ◌+◌, List, [], ◌∷◌, ◌++◌, length, map, Option, Some, None, ◌⊎◌, inl, inr, refl, sym, ap, ◌∙◌, subst, arith}
-use Rattle.wit_arena.proofs.Names.{Address, AllZip, AreEnded, AreNames, AreRequired, Decls, Def, Env, HandleRequires, Id, IsKeyed, IsResource, Key, PackageFile, Required, TypeDef, at_split, cons_option, filter_map, filter_map-append, slice_get, slice_get_within}
-use Rattle.wit_arena.specs.EntryEnds as ends
-use Rattle.wit_arena.proofs.Places.{Extended, key_extended}
+use Rattle.std.proofs.Common.{◌≡◌, ℕ, ◌+◌, List, [], ◌∷◌, ◌++◌, length, map, Option, Some, None, ◌⊎◌, inl, inr, refl, sym, ap, ◌∙◌, subst, arith, zero, suc, length-append}
+use Rattle.wit_arena.proofs.Names.{Address, AllZip, AreEnded, AreNames, AreRequired, Decls, Def, Env, HandleRequires, Id, IsKeyed, IsResource, Key, OneByOne, PackageFile, Required, TypeDef, at_split, cons_option, filter_map, filter_map-append, slice_get, slice_get_within}
+use Rattle.wit_arena.specs.Kind as ends
+use Rattle.wit_arena.proofs.OneKind.{Extended, key_extended}
 use Rattle.wit_arena.proofs.Ends.{IsDeclared, entry_end-more, end_source}
 
 -- those of names, and of further ones
@@ -23,6 +23,29 @@ both_parts us vs xs ys count t a x at there = elim (at_split us vs t a at) [
     | inr g ↦ (let p = h.1 in let q = g.1 in let same : h.0 ≡ g.0 = omega (arith, p, q, count) in inr (h.0, h.2, ap (slice_get ys) same ∙ g.2))
   ]
 ]
+
+-- lists whose elements belong together, one by one: none, one more in front, and others after them
+pub one_by_one-none : {X Y : Type 0} (Holds : X → Y → Type 0) → OneByOne Holds [] []
+one_by_one-none Holds = record { count = refl; each = λ k x y at. absurd (let f : ⊥ = cc in f) }
+
+pub one_by_one-more : {X Y : Type 0} (Holds : X → Y → Type 0) (x : X) (y : Y) (xs : List X) (ys : List Y) → Holds x y → OneByOne Holds xs ys → OneByOne Holds (x ∷ xs) (y ∷ ys)
+one_by_one-more {X} {Y} Holds x y xs ys first rest = record { count = ap suc rest.count; each = each }
+  where
+    each : (k : ℕ) (u : X) (v : Y) → slice_get (x ∷ xs) k ≡ Some u → slice_get (y ∷ ys) k ≡ Some v → Holds u v
+    each zero u v at there =
+        let one : x ≡ u = cc in
+        let two : y ≡ v = cc in
+        subst (λ (z : X). Holds z v) one (subst (Holds x) two first)
+    each (suc k) u v at there = rest.each k u v at there
+
+pub one_by_one-append : {X Y : Type 0} (Holds : X → Y → Type 0) (xs us : List X) (ys vs : List Y) → OneByOne Holds xs ys → OneByOne Holds us vs → OneByOne Holds (xs ++ us) (ys ++ vs)
+one_by_one-append Holds xs us ys vs p q = record {
+  count = omega (arith, length-append ys vs, length-append xs us, p.count, q.count);
+  each = λ k x y at there. elim (both_parts xs us ys vs p.count k x y at there) [
+    | inl h ↦ p.each k x y h.0 h.1
+    | inr h ↦ q.each h.0 x y h.1 h.2
+  ];
+}
 
 -- lists that belong together, one after another
 pub zip_both : {X Y : Type 0} (R : X → Y → Type 0) (us vs : List X) (xs ys : List Y) → AllZip R us xs → AllZip R vs ys → AllZip R (us ++ vs) (xs ++ ys)

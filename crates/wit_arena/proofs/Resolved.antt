@@ -1,16 +1,14 @@
 -- Files whose interfaces and then worlds were added have these arenas.
 use Rattle.std.proofs.Common.{◌≡◌, ℕ, true, false, List, ◌++◌, map, refl, sym, subst}
 use Rattle.wit_arena.proofs.Names.{AddsForeign, AddsInterfaces, AddsWorlds, AllDiffer, Fault, Interface, IsBrokenNames, IsOrder, Item, PackageFile, Required, TypeDef, World, WorldArenas, all_items, foreign_interfaces, foreign_worlds, in_order, interfaces_of, item_name, item_rows, prefix_worlds, visited, worlds_of}
-use Rattle.wit_arena.proofs.ByParts.{IsPackage}
+use Rattle.wit_arena.proofs.PackageIfDone.{IsPackage, package_of}
 use Rattle.wit_arena.proofs.Visits.{AreUsableUses}
 use Rattle.wit_arena.proofs.Prefix.{prefix_scopes}
 use Rattle.wit_arena.proofs.Interfaces.{AreOfSort, interfaces_sort, worlds_sort}
-use Rattle.wit_arena.proofs.Added.{InterfacesDone, interfaces_done}
-use Rattle.wit_arena.proofs.DoneWorlds.{AreWorldsDone}
+use Rattle.wit_arena.proofs.DoneWorlds.{InterfacesDone, interfaces_done, AreWorldsDone}
 use Rattle.wit_arena.proofs.Worlds.{worlds_done}
 use Rattle.wit_arena.proofs.OrderedItems.{are_interfaces, are_worlds}
 use Rattle.wit_arena.proofs.LegalScopes.{distinct_items}
-use Rattle.wit_arena.proofs.PackageIfDone.{package_of}
 
 module _ (files : List PackageFile) (places : List ℕ) (order : IsOrder (item_rows files) places) (names : (f : Fault) → IsBrokenNames files f → ⊥) (uses : AreUsableUses files (all_items files)) (es middle new : List TypeDef) (prefix is : List Interface) (wprefix : List World) (a : WorldArenas) (irs wrs : List Required) (foreign : AddsForeign files es prefix wprefix) (added : AddsInterfaces (map visited (foreign_interfaces files)) es middle prefix is irs (interfaces_of (in_order (all_items files) places))) (more : AddsWorlds (map visited (foreign_interfaces files)) (map visited (foreign_worlds files)) is middle new (prefix_worlds wprefix) a wrs (worlds_of (in_order (all_items files) places))) where
   abbrev differ : AllDiffer (map item_name (all_items files))

@@ -1,14 +1,18 @@
 -- What occurs in types, one after another.
-use Rattle.std.proofs.Common.{ℕ, List, [], ◌∷◌, ◌++◌, refl, sym, ap, ◌∙◌}
-use Rattle.wit_arena.proofs.Names.{Address, AreResolved, End, Env, Exprs, IsInterned, Occurrence, Of, Span, Stability, TypeDef, TypeDefKind, Whole, all_seen, append-nil, joined, keys, kind_of, one}
+use Rattle.std.proofs.Common.{ℕ, List, [], ◌∷◌, ◌++◌, refl, sym, ap, ◌∙◌, ◌≡◌, map, Some, subst, arith, ◌+◌, length, length-append}
+use Rattle.wit_arena.proofs.Names.{Address, AreAt, AreResolved, End, Env, Exprs, IsInterned, Occurrence, Of, Span, Stability, TypeDef, TypeDefKind, Whole, all_seen, append-nil, joined, keys, kind_of, one, Shape, Shapes, expr_of, exprs_of, seen, shape_occurrences, shapes_occurrences, AreFunctions, AreNames, Collects, Constructor, Def, Form, Function, FunctionKind, IsAt, IsFunction, IsKind, IsParam, Key, Method, OneByOne, Param, Role, SourceFunction, SourceParam, Static, Unknown, all_function_occurrences, all_params, at_within, flat_map, flat_map-flat_map, function_types, gathered, length-map, map_at, option_to_list, signature, slice_get, slice_get_within, AddsFunctions, AreMetadata, AreShapes, Freestanding, Names, OnSide, SaysParam, at_back, at_prefix, docs_of, env_of, flat_map-append, metadata, option_map, slice_get-map, AllDiffer, AreDistinct, AreRequired, Decls, FunctionKey, IsOccurrence, PackageFile, Required, ResolvedScope, ScopeName, Turned, TypeOwner, functions_at, local_name, local_names, name_exprs, scope, turn_handles}
 use Rattle.wit_types.specs.declared.types.«Type».{«Type» as Ty}
 use Rattle.wit_types.specs.declared.types.«Type».TheVariants.{Id}
-use Rattle.wit_arena.proofs.Places.{all_at_extended, all_at_joined, all_seen-joined}
-use Rattle.wit_arena.proofs.Occurrence.{keys-append, collects_append, collects_extended, names_kept, occur_whole, IsOnly}
+use Rattle.wit_arena.proofs.OneKind.{all_at_extended, all_at_joined, all_seen-joined, Extended, key_extended, at_extended}
+use Rattle.wit_arena.proofs.Occurrence.{keys-append, collects_extended, extends_then, names_kept, occur_whole, IsOnly, Has, no_defs, has_from, collects_append}
+use Rattle.wit_arena.proofs.Required.{one_by_one-append, one_by_one-more, one_by_one-none}
+use Rattle.wit_arena.proofs.FreeNames.{free_of, AreStated}
+use Rattle.wit_syntax.specs.Shape as shape
+use Rattle.wit_arena.specs.Occurrences as exprs
 
 -- nothing occurs
 pub resolved_none : (es : List TypeDef) (s : Address) (env : Env) → AreResolved es es s env [] End []
-resolved_none es s env = record { same = refl; from = λ decls ms m names. record { now = ms; collects = refl; occurrence = m; at = tt } }
+resolved_none es s env = record { same = refl; from = λ decls ms m names. record { now = ms; collects = refl; occurrence = m; holds = tt } }
 
 -- some types, and then others
 pub resolved_more : {old mid new : List TypeDef} {s : Address} {env : Env} {a b : List Occurrence} {es fs : Exprs} {ts us : List Ty} → AreResolved old mid s env a es ts → AreResolved mid new s env b fs us → AreResolved old new s env (a ++ b) (joined es fs) (ts ++ us)
@@ -17,12 +21,7 @@ resolved_more {old} {mid} {new} {s} {env} {a} {b} {es} {fs} {ts} {us} p q = reco
   from = λ decls ms m names. (
       let x = p.from decls ms m names in
       let y = q.from decls x.now x.occurrence (names_kept ms x.now a s env es p.same x.collects names) in
-      record {
-        now = y.now;
-        collects = collects_append a b ms x.now y.now x.collects y.collects;
-        occurrence = y.occurrence;
-        at = all_at_joined (keys y.now) es fs ts us (all_at_extended (collects_extended b x.now y.now y.collects) es ts x.at) y.at;
-      });
+      extends_then (λ ks. AreAt ks (joined es fs) (ts ++ us)) x y (all_at_joined (keys y.now) es fs ts us (all_at_extended (collects_extended b x.now y.now y.collects) es ts x.holds) y.holds));
 }
 
 -- the whole after its parts
@@ -31,11 +30,287 @@ resolved_whole {old} {mid} {new} {s} {env} {a} {es} kind given span i only p int
   same = keys-append a (record { key = Whole (kind_of kind).form es; span = span; given = given } ∷ []) ∙ ap (λ ks. ks ++ Whole (kind_of kind).form es ∷ []) p.same ∙ sym (append-nil (all_seen es ++ Whole (kind_of kind).form es ∷ []));
   from = λ decls ms m names. (
       let x = p.from decls ms m names in
-      let y = occur_whole decls x.now mid new kind given span es i only x.occurrence x.at interned in
+      let y = occur_whole decls x.now mid new kind given span es i only x.occurrence x.holds interned in
+      extends_then (λ ks. AreAt ks (one (Of (kind_of kind).form es)) (Id i ∷ [])) x y ((i, refl, y.holds), tt));
+}
+
+-- What occurs in types, by its keys.
+-- what occurs in types are the unnamed expressions in them
+mutual
+  pub keys-shape : (s : Address) (given : Stability) (x : Shape) → keys (shape_occurrences s given x) ≡ seen (expr_of s x)
+  keys-shape s given (shape.Of span form parts) = keys-append (shapes_occurrences s given parts) (record { key = Whole form (exprs_of s parts); span = span; given = given } ∷ []) ∙ ap (λ ks. ks ++ Whole form (exprs_of s parts) ∷ []) (keys-shapes s given parts)
+  keys-shape s given _ = refl
+
+  pub keys-shapes : (s : Address) (given : Stability) (xs : Shapes) → keys (shapes_occurrences s given xs) ≡ all_seen (exprs_of s xs)
+  keys-shapes s given shape.End = refl
+  keys-shapes s given (shape.More x xs) = keys-append (shape_occurrences s given x) (shapes_occurrences s given xs) ∙ ap (λ ks. ks ++ keys (shapes_occurrences s given xs)) (keys-shape s given x) ∙ ap (λ ks. seen (expr_of s x) ++ ks) (keys-shapes s given xs)
+
+-- What occurs in functions, and the types of functions of the package.
+-- the expressions in functions
+abbrev pub function_exprs : Address → List SourceFunction → Exprs
+function_exprs s fns = exprs_of s (gathered (flat_map signature fns))
+
+gathered_occurrences : (s : Address) (xs : List Shape) → flat_map (shape_occurrences s Unknown) xs ≡ shapes_occurrences s Unknown (gathered xs)
+gathered_occurrences s [] = refl
+gathered_occurrences s (x ∷ xs) = ap (λ ms. shape_occurrences s Unknown x ++ ms) (gathered_occurrences s xs)
+
+-- what occurs in functions are the unnamed expressions in them
+pub function_keys : (s : Address) (fns : List SourceFunction) → keys (all_function_occurrences s fns) ≡ all_seen (function_exprs s fns)
+function_keys s fns = ap keys (sym (flat_map-flat_map (shape_occurrences s Unknown) signature fns) ∙ gathered_occurrences s (flat_map signature fns)) ∙ keys-shapes s Unknown (gathered (flat_map signature fns))
+
+-- no name occurs in functions
+pub no_name_in_functions : (s : Address) (fns : List SourceFunction) (t : Address) (name : List ℕ) → Has (keys (all_function_occurrences s fns)) (Def t name) → ⊥
+no_name_in_functions s fns t name h = no_defs (function_exprs s fns) t name (subst (λ (ks : List Key). Has ks (Def t name)) (function_keys s fns) h)
+
+-- so names mean their places once functions occurred
+pub names_beside : (s : Address) (fns : List SourceFunction) (a b : List Occurrence) (t : Address) (env : Env) → Collects a (all_function_occurrences s fns) b → AreNames (keys a) t env → AreNames (keys b) t env
+names_beside s fns a b t env h names = names_kept a b (all_function_occurrences s fns) t env (function_exprs s fns) (function_keys s fns) h names
+
+-- an unnamed type that occurs in functions is written in the signature of one
+pub record IsInFunctions (s : Address) (fns : List SourceFunction) (form : Form) (parts : Exprs) : Type 0 where
+  pub index : ℕ
+  pub fn : SourceFunction
+  pub among : slice_get fns index ≡ Some fn
+  pub position : ℕ
+  pub shape : Shape
+  pub written : slice_get (signature fn) position ≡ Some shape
+  pub has : Has (seen (expr_of s shape)) (Whole form parts)
+
+pub whole_in_functions : (s : Address) (fns : List SourceFunction) (form : Form) (parts : Exprs) → Has (keys (all_function_occurrences s fns)) (Whole form parts) → IsInFunctions s fns form parts
+whole_in_functions s fns form parts h =
+    let f = has_from (λ (fn : SourceFunction). flat_map (shape_occurrences s Unknown) (signature fn)) fns (Whole form parts) h in
+    let x = has_from (shape_occurrences s Unknown) (signature f.1) (Whole form parts) f.3 in
+    record { index = f.0; fn = f.1; among = f.2; position = x.0; shape = x.1; written = x.2; has = subst (λ (ks : List Key). Has ks (Whole form parts)) (keys-shape s Unknown x.1) x.3 }
+
+-- a function is the written one over more keys, too
+kind_extended : {a b : List Key} → Extended a b → (s : Address) (role : Role) (k : FunctionKind) → IsKind (λ name r. slice_get a r ≡ Some (Def s name)) role k → IsKind (λ name r. slice_get b r ≡ Some (Def s name)) role k
+kind_extended g s (Method of form) k h = (h.0, h.1, key_extended g h.0 (Def s of.name.now) h.2)
+kind_extended g s (Static of form) k h = (h.0, h.1, key_extended g h.0 (Def s of.name.now) h.2)
+kind_extended g s (Constructor of) k h = (h.0, h.1, key_extended g h.0 (Def s of.name.now) h.2)
+kind_extended g s _ k h = h
+
+pub function_extended : {a b : List Key} → Extended a b → (s : Address) (fn : SourceFunction) (f : Function) → IsFunction a s fn f → IsFunction b s fn f
+function_extended g s fn f h = record {
+  name = h.name;
+  kind = kind_extended g s fn.role f.kind h.kind;
+  params = record {
+    count = h.params.count;
+    each = λ k w p at there. (let it = h.params.each k w p at there in (it.0, it.1, at_extended g (expr_of s w.shape) p.ty it.2));
+  };
+  result = record { count = h.result.count; each = λ k x t at there. at_extended g (expr_of s x) t (h.result.each k x t at there) };
+  span = h.span;
+  metadata = h.metadata;
+}
+
+pub functions_extended : {a b : List Key} → Extended a b → (s : Address) (fns : List SourceFunction) (fs : List Function) → AreFunctions a s fns fs → AreFunctions b s fns fs
+functions_extended g s fns fs h = record { count = h.count; each = λ k fn f at there. function_extended g s fn f (h.each k fn f at there) }
+
+-- types are at the places of shapes, one for each
+abbrev pub AreTyped : List Key → Address → List Shape → List Ty → Type 0
+AreTyped ks s xs ts = OneByOne (λ (x : Shape) (t : Ty). IsAt ks (expr_of s x) t) xs ts
+
+params_typed : (ks : List Key) (s : Address) (written : List SourceParam) (ps : List Param) → OneByOne (IsParam ks s) written ps → AreTyped ks s (map (λ p. p.shape) written) (map (λ p. p.ty) ps)
+params_typed ks s written ps h = record {
+  count = length-map ps (λ p. p.ty) ∙ h.count ∙ sym (length-map written (λ p. p.shape));
+  each = λ k x t at there. (
+      let w = map_at (λ (p : SourceParam). p.shape) written k x at in
+      let p = map_at (λ (p : Param). p.ty) ps k t there in
+      subst (λ (y : Shape). IsAt ks (expr_of s y) t) w.2 (subst (IsAt ks (expr_of s w.0.shape)) p.2 (h.each k w.0 p.0 w.1 p.1).2));
+}
+
+-- the types of a function of the package are at the places of its signature
+pub function_typed : (ks : List Key) (s : Address) (fn : SourceFunction) (f : Function) → IsFunction ks s fn f → AreTyped ks s (signature fn) (function_types f)
+function_typed ks s fn f h = one_by_one-append (λ (x : Shape) (t : Ty). IsAt ks (expr_of s x) t) (map (λ p. p.shape) (all_params fn)) (option_to_list fn.result) (map (λ (x : Param). x.ty) f.params) (option_to_list f.result) (params_typed ks s (all_params fn) f.params h.params) h.result
+
+-- each has one beside it
+pub type_of : {X Y : Type 0} {Holds : X → Y → Type 0} {xs : List X} {ys : List Y} → OneByOne Holds xs ys → (k : ℕ) (x : X) → slice_get xs k ≡ Some x → (y : Y) × (slice_get ys k ≡ Some y)
+type_of {X} {Y} {Holds} {xs} {ys} h k x at = let lt = slice_get_within xs k x at in let count = h.count in at_within ys k (omega arith)
+
+-- Functions added to the arena one after another, each from the types in its signature.
+pub functions_append : (old mid new : List TypeDef) (s : Address) (names : Names) (fns gns : List SourceFunction) (fs gs : List Function) → AddsFunctions old mid s names fns fs → AddsFunctions mid new s names gns gs → AddsFunctions old new s names (fns ++ gns) (fs ++ gs)
+functions_append old mid new s names fns gns fs gs p q = record {
+  from = λ decls ms m are_present. (
+      let x = p.from decls ms m are_present in
+      let y = q.from decls x.now x.occurrence (names_beside s fns ms x.now s (env_of names) x.collects are_present) in
+      let prefix = all_function_occurrences s fns in
+      let back = all_function_occurrences s gns in
+      let whole : all_function_occurrences s (fns ++ gns) ≡ prefix ++ back = flat_map-append (λ (fn : SourceFunction). flat_map (shape_occurrences s Unknown) (signature fn)) fns gns in
       record {
         now = y.now;
-        collects = collects_append a (record { key = Whole (kind_of kind).form es; span = span; given = given } ∷ []) ms x.now y.now x.collects y.collects;
+        collects = subst (λ (l : List Occurrence). Collects ms l y.now) (sym whole) (collects_append prefix back ms x.now y.now x.collects y.collects);
         occurrence = y.occurrence;
-        at = ((i, refl, y.at), tt);
+        holds = one_by_one-append (IsFunction (keys y.now) s) fns gns fs gs (functions_extended (collects_extended back x.now y.now y.collects) s fns fs x.holds) y.holds;
       });
 }
+
+pub shapes_none : (es : List TypeDef) (s : Address) (env : Env) → AreShapes es es s env [] []
+shapes_none es s env = resolved_none es s env
+
+gathered_exprs : (s : Address) (xs ys : List Shape) → exprs_of s (gathered (xs ++ ys)) ≡ joined (exprs_of s (gathered xs)) (exprs_of s (gathered ys))
+gathered_exprs s [] ys = refl
+gathered_exprs s (x ∷ xs) ys = ap (λ (es : Exprs). exprs.More (expr_of s x) es) (gathered_exprs s xs ys)
+
+pub shapes_append : (old mid new : List TypeDef) (s : Address) (env : Env) (xs ys : List Shape) (ts us : List Ty) → AreShapes old mid s env xs ts → AreShapes mid new s env ys us → AreShapes old new s env (xs ++ ys) (ts ++ us)
+shapes_append old mid new s env xs ys ts us p q = subst (λ (ms : List Occurrence). AreResolved old new s env ms (exprs_of s (gathered (xs ++ ys))) (ts ++ us)) (sym (flat_map-append (shape_occurrences s Unknown) xs ys)) (subst (λ (es : Exprs). AreResolved old new s env (flat_map (shape_occurrences s Unknown) xs ++ flat_map (shape_occurrences s Unknown) ys) es (ts ++ us)) (sym (gathered_exprs s xs ys)) (resolved_more p q))
+
+kind_present : (ks : List Key) (s : Address) (env : Env) (role : Role) (k : FunctionKind) → AreNames ks s env → IsKind (λ name r. env name ≡ Some r) role k → IsKind (λ name r. slice_get ks r ≡ Some (Def s name)) role k
+kind_present ks s env (Freestanding id form) k names h = h
+kind_present ks s env (Method of form) k names h = (h.0, h.1, names.present of.name.now h.0 h.2)
+kind_present ks s env (Static of form) k names h = (h.0, h.1, names.present of.name.now h.0 h.2)
+kind_present ks s env (Constructor of) k names h = (h.0, h.1, names.present of.name.now h.0 h.2)
+kind_present ks s env (OnSide side id form) k names h = h
+
+-- types at the places of shapes, one by one
+typed_of : (ks : List Key) (s : Address) (xs : List Shape) (ts : List Ty) → AreAt ks (exprs_of s (gathered xs)) ts → AreTyped ks s xs ts
+typed_of ks s [] [] h = one_by_one-none (λ (y : Shape) (u : Ty). IsAt ks (expr_of s y) u)
+typed_of ks s (x ∷ xs) (t ∷ ts) h = one_by_one-more (λ (y : Shape) (u : Ty). IsAt ks (expr_of s y) u) x t xs ts h.0 (typed_of ks s xs ts h.1)
+typed_of ks s [] (t ∷ ts) h = absurd h
+typed_of ks s (x ∷ xs) [] h = absurd h
+
+-- of as many types in front, those after are those of the shapes after
+typed_prefix : (ks : List Key) (s : Address) (xs ys : List Shape) (ts us : List Ty) → length ts ≡ length xs → AreTyped ks s (xs ++ ys) (ts ++ us) → AreTyped ks s xs ts
+typed_prefix ks s xs ys ts us long h = record { count = long; each = λ k x t at there. h.each k x t (at_prefix xs ys k x at) (at_prefix ts us k t there) }
+
+typed_back : (ks : List Key) (s : Address) (xs ys : List Shape) (ts us : List Ty) → length ts ≡ length xs → AreTyped ks s (xs ++ ys) (ts ++ us) → AreTyped ks s ys us
+typed_back ks s xs ys ts us long h = record {
+  count = (let a = length-append ts us in let b = length-append xs ys in let c = h.count in omega arith);
+  each = λ k x t at there. h.each (length xs + k) x t (at_back xs ys k x at) (subst (λ (n : ℕ). slice_get (ts ++ us) (n + k) ≡ Some t) long (at_back ts us k t there));
+}
+
+-- a function of the package is the written one apart from its types
+pub record SaysFunction (env : Env) (fn : SourceFunction) (f : Function) : Type 0 where
+  pub name : f.name ≡ fn.name
+  pub kind : IsKind (λ name r. env name ≡ Some r) fn.role f.kind
+  pub params : OneByOne SaysParam (all_params fn) f.params
+  pub span : f.span ≡ fn.span
+  pub metadata : AreMetadata (metadata (docs_of fn.docs) fn.attributes) f.docs f.stability f.external_id
+
+-- a function whose types are at their places is the written one
+function_is : (ks : List Key) (s : Address) (env : Env) (fn : SourceFunction) (f : Function) → AreNames ks s env → SaysFunction env fn f → AreAt ks (exprs_of s (gathered (signature fn))) (function_types f) → IsFunction ks s fn f
+function_is ks s env fn f names says at =
+    let typed = typed_of ks s (signature fn) (function_types f) at in
+    let shapes = map (λ (p : SourceParam). p.shape) (all_params fn) in
+    let types = map (λ (x : Param). x.ty) f.params in
+    let long : length types ≡ length shapes = length-map f.params (λ (x : Param). x.ty) ∙ says.params.count ∙ sym (length-map (all_params fn) (λ (p : SourceParam). p.shape)) in
+    let prefix = typed_prefix ks s shapes (option_to_list fn.result) types (option_to_list f.result) long typed in
+    let back = typed_back ks s shapes (option_to_list fn.result) types (option_to_list f.result) long typed in
+    record {
+      name = says.name;
+      kind = kind_present ks s env fn.role f.kind names says.kind;
+      params = record {
+        count = says.params.count;
+        each = λ k w p w_at p_at. (
+            let it = says.params.each k w p w_at p_at in
+            (it.0, it.1, prefix.each k w.shape p.ty (slice_get-map (λ (q : SourceParam). q.shape) (all_params fn) k ∙ ap (option_map (λ (q : SourceParam). q.shape)) w_at) (slice_get-map (λ (q : Param). q.ty) f.params k ∙ ap (option_map (λ (q : Param). q.ty)) p_at)));
+      };
+      result = back;
+      span = says.span;
+      metadata = says.metadata;
+    }
+
+-- one function
+pub function_one : (old new : List TypeDef) (s : Address) (names : Names) (fn : SourceFunction) (f : Function) → SaysFunction (env_of names) fn f → AreShapes old new s (env_of names) (signature fn) (function_types f) → AddsFunctions old new s names (fn ∷ []) (f ∷ [])
+function_one old new s names fn f says h = record {
+  from = λ decls ms m are_present. (
+      let x = h.from decls ms m are_present in
+      let more = flat_map (shape_occurrences s Unknown) (signature fn) in
+      let kept = names_kept ms x.now more s (env_of names) (exprs_of s (gathered (signature fn))) h.same x.collects are_present in
+      record {
+        now = x.now;
+        collects = subst (λ (l : List Occurrence). Collects ms l x.now) (sym (append-nil more)) x.collects;
+        occurrence = x.occurrence;
+        holds = one_by_one-more (IsFunction (keys x.now) s) fn f [] [] (function_is (keys x.now) s (env_of names) fn f kept says x.holds) (one_by_one-none (IsFunction (keys x.now) s));
+      });
+}
+
+-- What is once some scopes are done.
+-- A scope that is done: whose it is, its names as they were resolved, what they mean, its functions, those of the package, as they
+-- were made and as they are stated, and what its handles require.
+pub record DoneScope : Type 0 where
+  pub address : Address
+  pub owner : TypeOwner
+  pub names : List ScopeName
+  pub types : Names
+  pub functions : List SourceFunction
+  pub made : List Function
+  pub stated : List (FunctionKey × Function)
+  pub required : List Required
+
+abbrev pub done_address : DoneScope → Address
+done_address c = c.address
+
+abbrev pub turn_of : DoneScope → Turned
+turn_of c = record { address = c.address; names = c.names; functions = c.functions }
+
+abbrev pub resolved_scope_of : DoneScope → ResolvedScope
+resolved_scope_of c = record { address = c.address; types = c.types; functions = free_of c.stated }
+
+-- each name of a scope once, in another order
+pub record IsTurn (xs ys : List ScopeName) : Type 0 where
+  pub distinct : AreDistinct xs
+  pub differ : AreDistinct ys
+  pub among : (i : ℕ) (x : ScopeName) → slice_get ys i ≡ Some x → (p : ℕ) × (slice_get xs p ≡ Some x)
+  pub has : (p : ℕ) (x : ScopeName) → slice_get xs p ≡ Some x → (i : ℕ) × (slice_get ys i ≡ Some x)
+
+-- a scope of files is done
+pub record IsDoneScope (files : List PackageFile) (c : DoneScope) : Type 0 where
+  pub turn : IsTurn (scope files c.address) c.names
+  pub listed : map (λ p. p.0) c.types ≡ local_names c.names
+  pub functions : c.functions ≡ functions_at files c.address
+  pub stated : AreStated c.functions c.made c.stated
+
+-- a name of one of these scopes
+pub record IsNameOf (cs : List DoneScope) (s : Address) (name : List ℕ) : Type 0 where
+  pub place : ℕ
+  pub resolved_scope : DoneScope
+  pub at : slice_get cs place ≡ Some resolved_scope
+  pub scope : resolved_scope.address ≡ s
+  pub index : ℕ
+  pub x : ScopeName
+  pub among : slice_get resolved_scope.names index ≡ Some x
+  pub called : local_name x ≡ name
+
+-- an unnamed type that is written in a function of one of these scopes
+pub record IsInSignatureOf (cs : List DoneScope) (form : Form) (parts : Exprs) : Type 0 where
+  pub place : ℕ
+  pub resolved_scope : DoneScope
+  pub at : slice_get cs place ≡ Some resolved_scope
+  pub inside : IsInFunctions resolved_scope.address resolved_scope.functions form parts
+
+-- an unnamed type that is written in a name of one of these scopes
+pub record IsWholeOf (cs : List DoneScope) (form : Form) (parts : Exprs) : Type 0 where
+  pub place : ℕ
+  pub resolved_scope : DoneScope
+  pub at : slice_get cs place ≡ Some resolved_scope
+  pub index : ℕ
+  pub x : ScopeName
+  pub among : slice_get resolved_scope.names index ≡ Some x
+  pub has : Has (all_seen (name_exprs resolved_scope.address x)) (Whole form parts)
+
+-- These scopes are done: the arena is the list of first occurrences of what is written, their names mean their places, and so do the
+-- types of their functions.
+pub record IsDone (files : List PackageFile) (decls : Decls) (written : List Occurrence) (cs : List DoneScope) (es : List TypeDef) : Type 0 where
+  pub seen : List Occurrence
+  pub collects : Collects [] written seen
+  pub occurrence : IsOccurrence decls seen es
+  pub each : (t : ℕ) (c : DoneScope) → slice_get cs t ≡ Some c → IsDoneScope files c
+  pub own : (t : ℕ) (c : DoneScope) → slice_get cs t ≡ Some c → decls c.address ≡ (scope files c.address, c.owner)
+  pub are_present : (t : ℕ) (c : DoneScope) → slice_get cs t ≡ Some c → AreNames (keys seen) c.address (env_of c.types)
+  pub before : (j : ℕ) (s : Address) (name : List ℕ) → slice_get (keys seen) j ≡ Some (Def s name) → IsNameOf cs s name
+  pub unique : AllDiffer (map done_address cs)
+  pub made : (t : ℕ) (c : DoneScope) → slice_get cs t ≡ Some c → AreFunctions (keys seen) c.address c.functions c.made
+  pub required : (t : ℕ) (c : DoneScope) → slice_get cs t ≡ Some c → AreRequired files (keys seen) (turn_handles (turn_of c)) c.required
+
+-- so much of it is whatever their handles require
+pub record IsPresent (files : List PackageFile) (decls : Decls) (written : List Occurrence) (cs : List DoneScope) (es : List TypeDef) : Type 0 where
+  pub seen : List Occurrence
+  pub collects : Collects [] written seen
+  pub occurrence : IsOccurrence decls seen es
+  pub each : (t : ℕ) (c : DoneScope) → slice_get cs t ≡ Some c → IsDoneScope files c
+  pub own : (t : ℕ) (c : DoneScope) → slice_get cs t ≡ Some c → decls c.address ≡ (scope files c.address, c.owner)
+  pub are_present : (t : ℕ) (c : DoneScope) → slice_get cs t ≡ Some c → AreNames (keys seen) c.address (env_of c.types)
+  pub before : (j : ℕ) (s : Address) (name : List ℕ) → slice_get (keys seen) j ≡ Some (Def s name) → IsNameOf cs s name
+  pub made : (t : ℕ) (c : DoneScope) → slice_get cs t ≡ Some c → AreFunctions (keys seen) c.address c.functions c.made
+
+abbrev pub members : {files : List PackageFile} {decls : Decls} {written : List Occurrence} {cs : List DoneScope} {es : List TypeDef} → IsDone files decls written cs es → IsPresent files decls written cs es
+members d = record { seen = d.seen; collects = d.collects; occurrence = d.occurrence; each = d.each; own = d.own; are_present = d.are_present; before = d.before; made = d.made }

@@ -7,7 +7,7 @@ use Rattle.wit_values.specs.contracts.span.SpanPartialEq.TheImpl.{eq-value as sp
 use Rattle.wit_types.specs.contracts.docs.DocsPartialEq.TheImpl.{eq-value as docs_test}
 use Rattle.wit_types.specs.contracts.types.TypePartialEq.TheImpl.{eq-value as type_test}
 use Rattle.wit_types.proofs.Same.{Decides-row, Decides-text, Decides-type}
-use Rattle.wit_arena.proofs.Primitives.{primitive_type-injective}
+use Rattle.wit_arena.proofs.OneKind.{primitive_type-injective}
 
 abbrev same_primitive : Primitive → Primitive → Bool
 same_primitive p q = type_test.it (primitive_type p) (primitive_type q)

@@ -1,22 +1,82 @@
--- Interfaces, or worlds, that are done one after another, as scopes.
-use Rattle.std.proofs.Common.{◌≡◌, ℕ, suc, ◌+◌, List, [], ◌∷◌, ◌++◌, length, Some, inl, inr, refl, sym, ap, ◌∙◌, subst, append_assoc, arith, length-append, zero-add, add-zero}
-use Rattle.wit_arena.proofs.Names.{Address, AddsAfter, AddsEach, AllDiffer, AreDistinct, AreRequired, Decls, Defines, Function, FunctionKey, IsOrder, Item, Key, Names, Occurrence, PackageFile, Required, ResolvedScope, ScopeName, Turned, TypeDef, TypeOwner, address, all_occurrences, append-nil, at_either, at_part, at_seam, at_within, differ_at, flat_map, flat_map-append, foreign_use_occurrence, foreign_uses, functions, in_turn, in_turn_among, in_turn_distinct, in_turn_has, length-map, local_names, map, map-append, map_at, map_map, option_map, rows_of, scope, scope_names, slice_get, slice_get-map, slice_get_within, turn_handles, turn_occurrences}
+-- Scopes that are done, one after another.
+use Rattle.std.proofs.Common.{◌≡◌, ℕ, ◌+◌, List, [], ◌∷◌, ◌++◌, length, Some, inl, inr, sym, ap, ◌∙◌, subst, append_assoc, suc, refl, arith, length-append, zero-add, add-zero}
+use Rattle.wit_arena.proofs.Names.{Address, AddsFunctions, AreEnded, AreRequired, Decls, Def, Defines, Key, Occurrence, PackageFile, ScopeName, SourceFunction, TypeDef, all_function_occurrences, all_handles, all_types, at_back, at_either, at_prefix, at_seam, env_of, flat_map, flat_map_has, functions_at, keys, map, scope, slice_get, turn_handles, turn_occurrences, AddsAfter, AddsEach, AllDiffer, AreDistinct, Function, FunctionKey, IsOrder, Item, Names, OneByOne, Required, ResolvedScope, Turned, TypeOwner, address, all_occurrences, append-nil, at_part, at_within, differ_at, flat_map-append, foreign_use_occurrence, foreign_uses, functions, in_turn, in_turn_among, in_turn_distinct, in_turn_has, length-map, local_names, map-append, map_at, map_map, option_map, rows_of, scope_names, slice_get-map, slice_get_within}
+use Rattle.wit_arena.proofs.Occurrence.{Has, has_either, keys-append, collects_longer}
+use Rattle.wit_arena.proofs.FreeNames.{AreStated, free_of}
+use Rattle.wit_arena.proofs.Resolving.{no_name_in_functions, DoneScope, turn_of, resolved_scope_of, IsTurn, IsDone}
+use Rattle.wit_arena.proofs.Required.{required_extended, required_none, required_append, one_by_one-append, one_by_one-more, one_by_one-none}
+use Rattle.wit_arena.proofs.Turns.{all_name_occurrences, item_of, occurrences}
+use Rattle.wit_arena.proofs.FunctionPart.{AreWhole, DoneFunction, IsFunctionPart, scope_functions}
+use Rattle.wit_arena.proofs.DoneNames.{done_of, function_part_of, functions_count, functions_of_parts, names_of_functions, required_there}
 use Rattle.wit_arena.proofs.Ordered.{Ordered, ordered_names, turned, addresses}
-use Rattle.wit_arena.proofs.Members.{DoneScope, turn_of, resolved_scope_of, IsTurn, IsDone}
-use Rattle.wit_arena.proofs.Required.{required_none, required_append}
-use Rattle.wit_arena.proofs.DoneScopes.{AddsDone, done_more}
-use Rattle.wit_arena.proofs.FreeNames.{free_of, AreStated}
 use Rattle.wit_arena.proofs.Interfaces.{AreScopes, scope_of, functions_of}
-use Rattle.wit_arena.proofs.Turns.{item_of, occurrences}
 
+-- what the names of one scope more add, and then its functions, and what its handles require
+pub record AddsDone (files : List PackageFile) (decls : Decls) (cs : List DoneScope) (es es' : List TypeDef) (c : DoneScope) : Type 0 where
+  pub own : decls c.address ≡ (scope files c.address, c.owner)
+  pub turn : IsTurn (scope files c.address) c.names
+  pub functions : c.functions ≡ functions_at files c.address
+  pub stated : AreStated c.functions c.made c.stated
+  pub middle : List TypeDef
+  pub defines : Defines es middle (map resolved_scope_of cs) c.owner c.address [] c.types c.names
+  pub adds : AddsFunctions middle es' c.address c.types c.functions c.made
+  pub ended : AreEnded (env_of c.types) es' (all_handles (all_types c.names c.functions)) c.required
+
+-- a name that occurs in a scope is one of its names
+pub seen_in_turn : (s : Address) (xs : List ScopeName) (fns : List SourceFunction) (t : Address) (name : List ℕ) → Has (keys (all_name_occurrences s xs ++ all_function_occurrences s fns)) (Def t name) → Has (keys (all_name_occurrences s xs)) (Def t name)
+seen_in_turn s xs fns t name h = elim (has_either (keys (all_name_occurrences s xs)) (keys (all_function_occurrences s fns)) (Def t name) (subst (λ (l : List Key). Has l (Def t name)) (keys-append (all_name_occurrences s xs) (all_function_occurrences s fns)) h)) [
+  | inl named ↦ named
+  | inr other ↦ absurd (no_name_in_functions s fns t name other)
+]
+
+module _ (files : List PackageFile) (decls : Decls) (written : List Occurrence) (cs : List DoneScope) (es es' : List TypeDef) (c : DoneScope) (d : IsDone files decls written cs es) (fresh : (t : ℕ) (b : DoneScope) → slice_get cs t ≡ Some b → b.address ≡ c.address → ⊥) (a : AddsDone files decls cs es es' c) where
+  abbrev named : List Occurrence
+  named = all_name_occurrences c.address c.names
+
+  abbrev all : List DoneScope
+  all = cs ++ c ∷ []
+
+  abbrev gs : List DoneFunction
+  gs = flat_map scope_functions cs
+
+  names_step : IsFunctionPart files decls (written ++ named) all gs a.middle
+  names_step = names_of_functions files decls written cs gs es a.middle c (function_part_of files decls written cs es d) fresh a.own a.turn a.defines
+
+  functions_step : IsFunctionPart files decls (written ++ turn_occurrences (turn_of c)) all (gs ++ scope_functions c) es'
+  functions_step = subst (λ (l : List Occurrence). IsFunctionPart files decls l all (gs ++ scope_functions c) es') (append_assoc written named (all_function_occurrences c.address c.functions)) (functions_of_parts files decls (written ++ named) all gs a.middle es' names_step (length cs) c (at_seam cs c) c.functions c.made a.adds)
+
+  -- what its handles require
+  own_required : AreRequired files (keys functions_step.seen) (turn_handles (turn_of c)) c.required
+  own_required = required_there files decls (written ++ turn_occurrences (turn_of c)) all (gs ++ scope_functions c) es' functions_step (length cs) c (at_seam cs c) (all_handles (all_types c.names c.functions)) c.required a.ended
+
+  is_whole : AreWhole files all (gs ++ scope_functions c) (keys functions_step.seen)
+  is_whole = record {
+    whole = λ t b at. elim (at_either cs c t b at) [
+      | inl old ↦ record { functions = (d.each t b old).functions; stated = (d.each t b old).stated; count = (d.made t b old).count }
+      | inr new ↦ rw new.1 (record { functions = a.functions; stated = a.stated; count = functions_count files decls (written ++ named) all gs a.middle es' names_step (length cs) c (at_seam cs c) c.functions c.made a.adds })
+    ];
+    made = λ t k b g at there. elim (at_either cs c t b at) [
+      | inl old ↦ (let h = flat_map_has scope_functions cs t k b g old there in (h.0, at_prefix gs (scope_functions c) h.0 g h.1))
+      | inr new ↦ (length gs + k, at_back gs (scope_functions c) k g (ap (λ (y : DoneScope). slice_get (scope_functions y) k) (sym new.1) ∙ there))
+    ];
+    required = λ t b at. elim (at_either cs c t b at) [
+      | inl old ↦ required_extended files (collects_longer written (turn_occurrences (turn_of c)) [] d.seen functions_step.seen d.collects functions_step.collects) (turn_handles (turn_of b)) b.required (d.required t b old)
+      | inr new ↦ rw new.1 own_required
+    ];
+  }
+
+  -- one scope more
+  pub done_more : IsDone files decls (written ++ turn_occurrences (turn_of c)) all es'
+  done_more = done_of files decls (written ++ turn_occurrences (turn_of c)) all (gs ++ scope_functions c) es' functions_step is_whole
+
+-- Interfaces, or worlds, that are done one after another, as scopes.
 -- The first of some items, in their orders, are these scopes, and these are their entries in an arena: `Owner` is whom the package
 -- knows by a place in it, `Says` is what holds of an entry, `entry_resolved_scope` is the scope that it is, and `Makes` is what it makes of the
 -- functions of a scope.
 pub record AreLaid {X : Type 0} (Owner : ℕ → TypeOwner) (Says : Ordered → X → Type 0) (entry_resolved_scope : X → ResolvedScope) (Makes : Ordered → DoneScope → X → Type 0) (ws : List Item) (os : List Ordered) (xs : List X) (cs : List DoneScope) : Type 0 where
-  pub count : length xs ≡ length os
   pub prefix : (t : ℕ) (o : Ordered) → slice_get os t ≡ Some o → slice_get ws t ≡ Some o.item
   pub least : (t : ℕ) (o : Ordered) → slice_get os t ≡ Some o → IsOrder (rows_of (scope_names o.item)) o.order
-  pub says : (t : ℕ) (o : Ordered) (x : X) → slice_get os t ≡ Some o → slice_get xs t ≡ Some x → Says o x
+  pub says : OneByOne Says os xs
   pub turns : map turn_of cs ≡ map turned os
   pub types : map resolved_scope_of cs ≡ map entry_resolved_scope xs
   pub whose : (t : ℕ) (c : DoneScope) → slice_get cs t ≡ Some c → c.owner ≡ Owner t
@@ -53,7 +113,7 @@ module _ {X : Type 0} {Owner : ℕ → TypeOwner} {Says : Ordered → X → Type
   pub entry_of_item : (t : ℕ) (o : Ordered) → slice_get os t ≡ Some o → (x : X) × (slice_get xs t ≡ Some x)
   entry_of_item t o at =
       let lt = slice_get_within os t o at in
-      let count = l.count in
+      let count = l.says.count in
       at_within xs t (omega arith)
 
   -- the addresses of entries are those of items
@@ -81,10 +141,9 @@ laid_scope o i types made stated rs = record { address = address i.item; owner =
 module _ {X : Type 0} (Owner : ℕ → TypeOwner) (Says : Ordered → X → Type 0) (entry_resolved_scope : X → ResolvedScope) (Makes : Ordered → DoneScope → X → Type 0) (ws : List Item) where
   pub laid_none : AreLaid Owner Says entry_resolved_scope Makes ws [] [] []
   laid_none = record {
-    count = refl;
     prefix = λ t o at. absurd (let f : ⊥ = cc in f);
     least = λ t o at. absurd (let f : ⊥ = cc in f);
-    says = λ t o i at. absurd (let f : ⊥ = cc in f);
+    says = one_by_one-none Says;
     turns = refl;
     types = refl;
     whose = λ t c at. absurd (let f : ⊥ = cc in f);
@@ -94,10 +153,9 @@ module _ {X : Type 0} (Owner : ℕ → TypeOwner) (Says : Ordered → X → Type
   -- one more
   pub laid_more : (os : List Ordered) (xs xs' : List X) (cs : List DoneScope) (o : Ordered) (c : DoneScope) (added : X) → AreLaid Owner Says entry_resolved_scope Makes ws os xs cs → slice_get ws (length os) ≡ Some o.item → IsOrder (rows_of (scope_names o.item)) o.order → xs' ≡ xs ++ added ∷ [] → Says o added → turn_of c ≡ turned o → resolved_scope_of c ≡ entry_resolved_scope added → c.owner ≡ Owner (length xs) → Makes o c added → AreLaid Owner Says entry_resolved_scope Makes ws (os ++ o ∷ []) xs' (cs ++ c ∷ [])
   laid_more os xs xs' cs o c added l next least last says turn of whose makes =
-      let count = l.count in
+      let count = l.says.count in
       let long = same_length cs xs l.types in
       record {
-        count = ap length last ∙ length-append xs (added ∷ []) ∙ ap (λ m. m + 1) count ∙ sym (length-append os (o ∷ []));
         prefix = λ t p at. elim (at_either os o t p at) [
           | inl old ↦ l.prefix t p old
           | inr new ↦ rw (new.1, new.0) next
@@ -106,7 +164,7 @@ module _ {X : Type 0} (Owner : ℕ → TypeOwner) (Says : Ordered → X → Type
           | inl old ↦ l.least t p old
           | inr new ↦ rw new.1 least
         ];
-        says = λ t p x at there. both os p o (λ q y. Says q y) count t x at (ap (λ (y : List X). slice_get y t) (sym last) ∙ there) (λ old_p old_x. l.says t p x old_p old_x) says;
+        says = subst (OneByOne Says (os ++ o ∷ [])) (sym last) (one_by_one-append Says os (o ∷ []) xs (added ∷ []) l.says (one_by_one-more Says o added [] [] says (one_by_one-none Says)));
         turns = map-append turn_of cs (c ∷ []) ∙ ap (λ (x : List Turned). x ++ turn_of c ∷ []) l.turns ∙ ap (λ (x : Turned). map turned os ++ x ∷ []) turn ∙ sym (map-append turned os (o ∷ []));
         types = map-append resolved_scope_of cs (c ∷ []) ∙ ap (λ (x : List ResolvedScope). x ++ resolved_scope_of c ∷ []) l.types ∙ ap (λ (x : ResolvedScope). map entry_resolved_scope xs ++ x ∷ []) of ∙ sym (map-append entry_resolved_scope xs (added ∷ [])) ∙ ap (map entry_resolved_scope) (sym last);
         whose = λ t b at. elim (at_either cs c t b at) [
@@ -140,18 +198,6 @@ module _ {X : Type 0} (Owner : ℕ → TypeOwner) (Says : Ordered → X → Type
 
       same_length : (cs : List DoneScope) (xs : List X) → map resolved_scope_of cs ≡ map entry_resolved_scope xs → length cs ≡ length xs
       same_length cs xs same = sym (length-map cs resolved_scope_of) ∙ ap length same ∙ length-map xs entry_resolved_scope
-
-      both : {Y : Type 0} (ys : List Y) (y z : Y) (Holds : Y → X → Type 0) → length xs ≡ length ys → (t : ℕ) (x : X) → slice_get (ys ++ z ∷ []) t ≡ Some y → slice_get (xs ++ added ∷ []) t ≡ Some x → (slice_get ys t ≡ Some y → slice_get xs t ≡ Some x → Holds y x) → Holds z added → Holds y x
-      both {Y} ys y z Holds count t x at there old new = elim (at_either ys z t y at) [
-        | inl old_y ↦ elim (at_either xs added t x there) [
-          | inl old_x ↦ old old_y old_x
-          | inr new_x ↦ absurd (let lt = slice_get_within ys t y old_y in let same = new_x.0 in let f : ⊥ = omega arith in f)
-        ]
-        | inr new_y ↦ elim (at_either xs added t x there) [
-          | inl old_x ↦ absurd (let lt = slice_get_within xs t x old_x in let same = new_y.0 in let f : ⊥ = omega arith in f)
-          | inr new_x ↦ subst (λ (w : Y). Holds w x) (sym new_y.1) (subst (Holds z) (sym new_x.1) new)
-        ]
-      ]
 
 pub occurrences-append : (ts : List Turned) (t : Turned) → occurrences (ts ++ t ∷ []) ≡ occurrences ts ++ turn_occurrences t
 occurrences-append ts t =
@@ -213,7 +259,7 @@ module _ {X : Type 0} (Owner : ℕ → TypeOwner) (Says : Ordered → X → Type
         let c = laid_scope (Owner place) o a.types a.made a.stated rs in
         let long : length us ≡ length os = sym (ap length d.all) ∙ length-map os item_of in
         let next : slice_get ws (length os) ≡ Some w = subst (λ (n : ℕ). slice_get ws n ≡ Some w) long there in
-        let at_place : slice_get ws place ≡ Some w = subst (λ (n : ℕ). slice_get ws n ≡ Some w) (sym l.count) next in
+        let at_place : slice_get ws place ≡ Some w = subst (λ (n : ℕ). slice_get ws n ≡ Some w) (sym l.says.count) next in
         let turn : IsTurn (scope files s) (in_turn names a.order) = subst (λ (x : List ScopeName). IsTurn x (in_turn names a.order)) (sym (scope_of files ws items place w at_place)) (in_turn_is names a.order a.least a.distinct) in
         let fresh : (t : ℕ) (b : DoneScope) → slice_get (first ++ cs) t ≡ Some b → b.address ≡ s → ⊥ = λ t b at same. elim (at_part first cs t b at) [
           | inl h ↦ apart place w at_place h.0 b h.1 same

@@ -3,8 +3,7 @@ use Rattle.std.proofs.Common.{◌≡◌, ℕ, List, [], ◌∷◌, take, Some, N
 use Rattle.wit_arena.proofs.Names.{AreAt, At, Decls, Def, End, Expr, Exprs, IsAt, IsBelow, IsEntry, IsKeyed, Key, More, Of, Prim, TypeDef, TypeDefKind, Use, Whole, at_take, at_within, kind_of, name_exprs, slice_get, slice_get_within}
 use Rattle.wit_types.specs.declared.types.«Type».{«Type» as Ty}
 use Rattle.wit_arena.proofs.Parts.{HasPart}
-use Rattle.wit_arena.proofs.Primitives.{primitive_below}
-use Rattle.wit_arena.proofs.Places.{all_at_untaken, all_at_injective}
+use Rattle.wit_arena.proofs.OneKind.{primitive_below, all_at_untaken, all_at_injective}
 
 module _ (decls : Decls) (ks : List Key) (es : List TypeDef) (m : IsKeyed decls ks es) where
   -- the key of an entry, and the entry of a key

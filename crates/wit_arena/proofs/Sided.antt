@@ -1,74 +1,103 @@
--- What is on the sides of a world is done, one after another: its functions, and the interfaces that are written there.
-use Rattle.std.proofs.Common.{◌≡◌, ℕ, suc, ◌+◌, false, List, [], ◌∷◌, ◌++◌, length, map, Some, inl, inr, refl, sym, ap, ◌∙◌, subst, append_assoc, arith, length-append}
-use Rattle.wit_arena.proofs.Names.{Address, AddsFunctions, AddsInterface, AddsSides, AllDiffer, AreEnded, AreRequired, Collects, Decls, Def, Extern, Function, HasFunctions, Id, Interface, InterfaceItem, IsFunction, Item, Key, Link, Occurrence, PackageFile, Required, ResolvedScope, ScopeName, SideFunction, SideInline, SideItem, SideLink, SourceFunction, Turned, TypeDef, address, after_one, all_function_occurrences, all_handles, all_types, append-nil, at_back, at_either, at_part, at_prefix, at_seam, differ_head, differ_tail, env_of, flat_map, functions, functions_at, functions_imported, in_turn, interface_functions, is_world, item_function, item_inline, keys, map-append, scope, scope_names, slice_get, turn_handles, turn_occurrences, written_types, «Type» as Written}
-use Rattle.wit_types.specs.declared.types.TypeOwner.TheVariants as owner
+-- Written types by their parts: the shapes of these, and the names in them.
+use Rattle.std.proofs.Common.{◌≡◌, List, [], ◌∷◌, ◌++◌, refl, sym, ap, ◌∙◌, append_assoc, Vec, ℕ, suc, ◌+◌, false, length, map, Some, inl, inr, subst, arith, length-append}
+use Rattle.wit_arena.proofs.Names.{Address, Both', Err', Global, Id, Neither, None', Ok', ResultTypes, Row_of-Type, Shape, Shapes, Some', Span, Stability, all_handles, all_shapes, all_words, append-nil, end_of-Type, expr_of, exprs_of, handles, head, joined, more_of-Type, part_types, result_shapes, result_types, row_handles, row_shapes, row_types, shape_occurrences, shape_of, shapes_occurrences, tuple_types, words, «Type» as Written, AddsFunctions, AddsInterface, AddsSides, AllDiffer, AreEnded, AreRequired, Collects, Decls, Extern, Function, Interface, InterfaceItem, Item, Key, Link, Names, Occurrence, PackageFile, Required, ResolvedScope, ScopeName, SideFunction, SideInline, SideItem, SideLink, SourceFunction, Turned, TypeDef, address, after_one, all_function_occurrences, all_types, at_back, at_either, at_prefix, at_seam, differ_head, differ_tail, env_of, flat_map, functions, functions_at, functions_imported, in_turn, interface_functions, is_world, item_function, item_inline, keys, map-append, scope, scope_names, slice_get, turn_handles, turn_occurrences, written_types}
+use Rattle.wit_syntax.proofs.Common.{More, Of, Prim}
+use Rattle.wit_syntax.specs.Shape.{End}
 use Rattle.wit_arena.proofs.Ordered.{Ordered, turned, side_turns}
-use Rattle.wit_arena.proofs.Added.{defines_wider}
-use Rattle.wit_arena.proofs.DoneNames.{done_function, done_function_from, names_of_functions}
-use Rattle.wit_arena.proofs.FunctionPart.{DoneFunction, done_functions, scope_functions, IsFunctionPart}
-use Rattle.wit_arena.proofs.DoneWorlds.{function_part_declared}
-use Rattle.wit_arena.proofs.FreeNames.{AreStated}
+use Rattle.wit_arena.proofs.DoneWorlds.{defines_wider}
+use Rattle.wit_arena.proofs.DoneNames.{done_function, names_of_functions, functions_count, functions_of_parts, required_since}
+use Rattle.wit_arena.proofs.FunctionPart.{DoneFunction, done_functions, scope_functions, IsFunctionPart, IsScopeWhole}
 use Rattle.wit_arena.proofs.Inside.{IsInside, AreInside}
 use Rattle.wit_arena.proofs.ScopesInTurn.{laid_scope, in_turn_is}
-use Rattle.wit_arena.proofs.Occurrence.{collects_append, collects_from, collects_extended, collects_longer}
-use Rattle.wit_arena.proofs.Required.{in_scope, ended_required, required_none, required_append, required_extended}
-use Rattle.wit_arena.proofs.Signatures.{function_extended, names_beside, no_name_in_functions}
-use Rattle.wit_arena.proofs.Members.{DoneScope, turn_of, resolved_scope_of, IsTurn}
-use Rattle.wit_arena.proofs.Stating.{stated_placed}
+use Rattle.wit_arena.proofs.Required.{in_scope, required_none, required_append}
+use Rattle.wit_arena.proofs.Resolving.{DoneScope, turn_of, resolved_scope_of, IsTurn}
+use Rattle.wit_arena.proofs.Settled.{stated_placed}
 use Rattle.wit_arena.proofs.Turns.{item_of, function_turn, occurrences, all_name_occurrences}
-use Rattle.wit_arena.proofs.Written.{all_handles-append}
+use Rattle.wit_type_tree.specs.declared.types.«Type».TheVariants as written
+use Rattle.wit_arena.specs.Occurrences as exprs
+use Rattle.wit_types.specs.declared.types.TypeOwner.TheVariants as owner
 
-module _ (files : List PackageFile) (decls : Decls) (written : List Occurrence) (cs : List DoneScope) (gs : List DoneFunction) (es es' : List TypeDef) (d : IsFunctionPart files decls written cs gs es) (t : ℕ) (c : DoneScope) (at_c : slice_get cs t ≡ Some c) (fns : List SourceFunction) (fs : List Function) (adds : AddsFunctions es es' c.address c.types fns fs) where
-  abbrev s : Address
-  s = c.address
+pub row_shapes-all : {m : _} (ts : Row_of-Type m) → row_shapes ts ≡ all_shapes (row_types ts)
+row_shapes-all end_of-Type = refl
+row_shapes-all (more_of-Type t rest) = ap (More (shape_of t)) (row_shapes-all rest)
 
-  abbrev rest_after : List Occurrence
-  rest_after = all_function_occurrences s fns
+pub result_shapes-all : (of : ResultTypes) → result_shapes of ≡ all_shapes (result_types of)
+result_shapes-all Neither = refl
+result_shapes-all _ = refl
 
-  abbrev more : List DoneFunction
-  more = done_functions s fns fs
+-- the parts of a shape
+abbrev pub inner : Shape → Shapes
+inner (Of span form parts) = parts
+inner x = End
 
-  added : HasFunctions decls d.seen es' s fns fs
-  added = adds.from decls d.seen d.occurrence (d.are_present t c at_c)
+-- the parts of a type's shape are types: what a handle lends is a name alone
+abbrev pub IsOfTypes : Written → Type 0
+IsOfTypes (written.Borrow span id) = ⊥
+IsOfTypes t = Unit {0}
 
-  pub functions_count : length fs ≡ length fns
-  functions_count = added.are.count
+-- the parts of a type's shape are the shapes of its parts
+pub inner-parts : (t : Written) → IsOfTypes t → inner (shape_of t) ≡ all_shapes (part_types t)
+inner-parts (written.Result span of) h = result_shapes-all of
+inner-parts (written.Tuple' span shape ts) h = row_shapes-all ts
+inner-parts (written.Borrow span id) h = absurd h
+inner-parts (written.Future' span None') h = refl
+inner-parts (written.Stream' span None') h = refl
+inner-parts _ h = refl
 
-  all_made : (k : ℕ) (g : DoneFunction) → slice_get (gs ++ more) k ≡ Some g → IsFunction (keys added.now) g.address g.fn g.made
-  all_made k g at = elim (at_part gs more k g at) [
-    | inl h ↦ function_extended (collects_extended rest_after d.seen added.now added.collects) g.address g.fn g.made (d.made h.0 g h.1)
-    | inr h ↦ (
-        let one = done_function_from s fns fs h.0 g h.1 in
-        subst (λ (x : Address). IsFunction (keys added.now) x g.fn g.made) (sym one.whose) (added.are.each h.0 g.fn g.made one.written one.made_at))
-  ]
+-- of a tuple, too
+pub tuple_inner : (span : Span) (v : Vec Written Global) → inner (shape_of (written.Tuple span v)) ≡ all_shapes v.items
+tuple_inner span v = inner-parts (written.Tuple span v) tt ∙ ap all_shapes (tuple_types span v)
 
-  -- functions of a scope that is there
-  pub functions_of_parts : IsFunctionPart files decls (written ++ rest_after) cs (gs ++ more) es'
-  functions_of_parts = record {
-    seen = added.now;
-    collects = collects_append written rest_after [] d.seen added.now d.collects added.collects;
-    occurrence = added.occurrence;
-    each = d.each;
-    own = d.own;
-    are_present = λ k b at. names_beside s fns d.seen added.now b.address (env_of b.types) added.collects (d.are_present k b at);
-    before = λ j x name at. elim (collects_from rest_after d.seen added.now added.collects j (Def x name) at) [
-      | inl was ↦ d.before was.0 x name was.1
-      | inr new ↦ absurd (no_name_in_functions s fns x name new)
-    ];
-    unique = d.unique;
-    made = all_made;
-  }
+-- types after others
+pub all_exprs-append : (s : Address) (ts us : List Written) → exprs_of s (all_shapes (ts ++ us)) ≡ joined (exprs_of s (all_shapes ts)) (exprs_of s (all_shapes us))
+all_exprs-append s [] us = refl
+all_exprs-append s (t ∷ ts) us = ap (exprs.More (expr_of s (shape_of t))) (all_exprs-append s ts us)
 
--- what handles require, where it is in the arena by now, and what occurred since
-required_since : (files : List PackageFile) (decls : Decls) (written more : List Occurrence) (cs : List DoneScope) (gs : List DoneFunction) (es : List TypeDef) (d : IsFunctionPart files decls written cs gs es) (t : ℕ) (c : DoneScope) → slice_get cs t ≡ Some c → (ids : List Id) (rs : List Required) → AreEnded (env_of c.types) es ids rs → (seen : List Occurrence) → Collects [] (written ++ more) seen → AreRequired files (keys seen) (map (in_scope c.address) ids) rs
-required_since files decls written more cs gs es d t c at ids rs ended seen collects = required_extended files (collects_longer written more [] d.seen seen d.collects collects) (map (in_scope c.address) ids) rs (ended_required files decls (keys d.seen) es d.occurrence.keyed (λ j x name there. function_part_declared files decls written cs gs es x name d (d.before j x name there)) c.address (env_of c.types) (d.are_present t c at) ids rs ended)
+pub all_occurrences-append : (s : Address) (given : Stability) (ts us : List Written) → shapes_occurrences s given (all_shapes (ts ++ us)) ≡ shapes_occurrences s given (all_shapes ts) ++ shapes_occurrences s given (all_shapes us)
+all_occurrences-append s given [] us = refl
+all_occurrences-append s given (t ∷ ts) us = ap (λ ms. shape_occurrences s given (shape_of t) ++ ms) (all_occurrences-append s given ts us) ∙ sym (append_assoc (shape_occurrences s given (shape_of t)) (shapes_occurrences s given (all_shapes ts)) (shapes_occurrences s given (all_shapes us)))
 
--- a scope has its functions, as they were made and are stated
-pub record IsScopeWhole (files : List PackageFile) (c : DoneScope) : Type 0 where
-  pub functions : c.functions ≡ functions_at files c.address
-  pub stated : AreStated c.functions c.made c.stated
-  pub count : length c.made ≡ length c.functions
+pub all_words-append : (ts us : List Written) → all_words (all_shapes (ts ++ us)) ≡ all_words (all_shapes ts) ++ all_words (all_shapes us)
+all_words-append [] us = refl
+all_words-append (t ∷ ts) us = ap (λ ids. words (shape_of t) ++ ids) (all_words-append ts us) ∙ sym (append_assoc (words (shape_of t)) (all_words (all_shapes ts)) (all_words (all_shapes us)))
 
+-- a definition that is one type has the names of the type
+pub words-head : (x : Shape) → all_words (head x).parts ≡ words x
+words-head (Prim p) = refl
+words-head _ = refl
+
+-- the names in handles, of types and of further ones
+pub all_handles-append : (ts us : List Written) → all_handles (ts ++ us) ≡ all_handles ts ++ all_handles us
+all_handles-append [] us = refl
+all_handles-append (t ∷ ts) us = ap (λ (l : List Id). handles t ++ l) (all_handles-append ts us) ∙ sym (append_assoc (handles t) (all_handles ts) (all_handles us))
+
+row_handles-all : {m : _} (ts : Row_of-Type m) → row_handles ts ≡ all_handles (row_types ts)
+row_handles-all end_of-Type = refl
+row_handles-all (more_of-Type t rest) = ap (λ (l : List Id). handles t ++ l) (row_handles-all rest)
+
+-- a type is no handle itself
+abbrev pub IsNoHandle : Written → Type 0
+IsNoHandle (written.Own span id) = ⊥
+IsNoHandle (written.Borrow span id) = ⊥
+IsNoHandle t = Unit {0}
+
+-- the handles in a type that is none are those in its parts
+pub handles-parts : (t : Written) → IsNoHandle t → handles t ≡ all_handles (part_types t)
+handles-parts (written.Own span id) h = absurd h
+handles-parts (written.Borrow span id) h = absurd h
+handles-parts (written.List' span p t) h = sym (append-nil (handles t))
+handles-parts (written.FixedLengthList' span p t size) h = sym (append-nil (handles t))
+handles-parts (written.Map' span p key q value) h = ap (λ (l : List Id). handles key ++ l) (sym (append-nil (handles value)))
+handles-parts (written.Option' span p t) h = sym (append-nil (handles t))
+handles-parts (written.Result span (Ok' p t)) h = sym (append-nil (handles t))
+handles-parts (written.Result span (Err' p t)) h = sym (append-nil (handles t))
+handles-parts (written.Result span (Both' p t q u)) h = ap (λ (l : List Id). handles t ++ l) (sym (append-nil (handles u)))
+handles-parts (written.Tuple' span shape ts) h = row_handles-all ts
+handles-parts (written.Future' span (Some' p t)) h = sym (append-nil (handles t))
+handles-parts (written.Stream' span (Some' p t)) h = sym (append-nil (handles t))
+handles-parts _ h = refl
+
+-- What is on the sides of a world is done, one after another: its functions, and the interfaces that are written there.
 -- an interface that is written in a world can come next, at a place
 pub record IsFreshInside (files : List PackageFile) (decls : Decls) (cs : List DoneScope) (place : ℕ) (i : Item) : Type 0 where
   pub interface : is_world i ≡ false
@@ -83,8 +112,16 @@ pub record AreAsStated (files : List PackageFile) (ks : List Key) (s : Address) 
   pub by_functions : AreRequired files ks (map (in_scope s) (all_handles (flat_map written_types (flat_map item_function xs)))) own
   pub in_all : AreRequired files ks (flat_map turn_handles turns) rs
 
+-- what functions on the sides of a world require
+abbrev pub side_required : (ccs : List ResolvedScope) (count : ℕ) (s : Address) (names : Names) (old new : List TypeDef) (is is' : List Interface) (fs : List Function) (rs : List Required) (xs : List SideItem) (inside : List Item) → AddsSides ccs count s names old new is is' fs rs xs inside → List Required
+side_required ccs count s names old new is is' fs rs [] inside a = []
+side_required ccs count s names old new is is' fs rs (SideFunction fn ∷ xs) inside a = a.3 ++ side_required ccs count s names a.0 new is is' a.2 a.4 xs inside a.9
+side_required ccs count s names old new is is' fs rs (SideLink link ∷ xs) inside a = side_required ccs count s names old new is is' fs rs xs inside a
+side_required ccs count s names old new is is' fs rs (SideInline x name items ∷ xs) [] a = []
+side_required ccs count s names old new is is' fs rs (SideInline x name items ∷ xs) (i ∷ inside) a = side_required ccs count s names a.0 new (is ++ a.1 ∷ []) is' fs a.3 xs inside a.6
+
 -- What is on the sides of a world is done: the interfaces that are written there, which are the first of these items, and its functions.
-pub record AreSided (files : List PackageFile) (decls : Decls) (written : List Occurrence) (cs : List DoneScope) (gs : List DoneFunction) (place : ℕ) (s : Address) (new : List TypeDef) (is is' : List Interface) (fs : List Function) (rs : List Required) (xs : List SideItem) (inside : List Item) : Type 0 where
+pub record AreSided (files : List PackageFile) (decls : Decls) (written : List Occurrence) (cs : List DoneScope) (gs : List DoneFunction) (place : ℕ) (s : Address) (new : List TypeDef) (is is' : List Interface) (fs : List Function) (rs : List Required) (xs : List SideItem) (inside : List Item) (own_required : List Required) : Type 0 where
   pub ordered : List Ordered
   pub scopes : List DoneScope
   pub added : List Interface
@@ -99,12 +136,11 @@ pub record AreSided (files : List PackageFile) (decls : Decls) (written : List O
   pub own : (k : ℕ) (g : DoneFunction) → slice_get (done_functions s (flat_map item_function xs) fs) k ≡ Some g → (j : ℕ) × (slice_get more j ≡ Some g)
   pub within : (t k : ℕ) (c : DoneScope) (g : DoneFunction) → slice_get scopes t ≡ Some c → slice_get (scope_functions c) k ≡ Some g → (j : ℕ) × (slice_get more j ≡ Some g)
   pub whole : (t : ℕ) (c : DoneScope) → slice_get scopes t ≡ Some c → IsScopeWhole files c
-  pub own_required : List Required
   pub as_stated : (seen : List Occurrence) → Collects [] (written ++ occurrences (side_turns s xs ordered)) seen → AreAsStated files (keys seen) s xs (side_turns s xs ordered) scopes own_required rs
 
 -- nothing more is there
-sided_none : (files : List PackageFile) (decls : Decls) (written : List Occurrence) (cs : List DoneScope) (gs : List DoneFunction) (place : ℕ) (s : Address) (es : List TypeDef) (is : List Interface) (inside : List Item) → IsFunctionPart files decls written cs gs es → AreSided files decls written cs gs place s es is is [] [] [] inside
-sided_none files decls written cs gs place s es is inside d = record {
+sided_none : (files : List PackageFile) (decls : Decls) (written : List Occurrence) (cs : List DoneScope) (gs : List DoneFunction) (place : ℕ) (s : Address) (es new : List TypeDef) (is is' : List Interface) (fs : List Function) (rs : List Required) (inside : List Item) → IsFunctionPart files decls written cs gs es → (new ≡ es) × (is' ≡ is) × (fs ≡ []) × (rs ≡ []) → AreSided files decls written cs gs place s new is is' fs rs [] inside []
+sided_none files decls written cs gs place s es new is is' fs rs inside d a = rw (a.0, a.1, a.2, a.3) (record {
   ordered = [];
   scopes = [];
   added = [];
@@ -119,9 +155,8 @@ sided_none files decls written cs gs place s es is inside d = record {
   own = λ k g at. absurd (let f : ⊥ = cc in f);
   within = λ t k c g at there. absurd (let f : ⊥ = cc in f);
   whole = λ t c at. absurd (let f : ⊥ = cc in f);
-  own_required = [];
   as_stated = λ seen collects. record { each = λ t c at. absurd (let f : ⊥ = cc in f); by_functions = required_none files (keys seen); in_all = required_none files (keys seen) };
-}
+})
 
 -- a function, and what comes after it
 module _ (files : List PackageFile) (decls : Decls) (written : List Occurrence) (cs : List DoneScope) (gs : List DoneFunction) (place : ℕ) (old mid new : List TypeDef) (is is' : List Interface) (fn : SourceFunction) (f : Function) (fs : List Function) (own rest : List Required) (xs : List SideItem) (inside : List Item) (d : IsFunctionPart files decls written cs gs old) (t : ℕ) (c : DoneScope) (at_c : slice_get cs t ≡ Some c) (adds : AddsFunctions old mid c.address c.types (fn ∷ []) (f ∷ [])) (ended : AreEnded (env_of c.types) mid (all_handles (written_types fn)) own) where
@@ -134,11 +169,11 @@ module _ (files : List PackageFile) (decls : Decls) (written : List Occurrence) 
   pub function_step : IsFunctionPart files decls (written ++ seen_there) cs (gs ++ one ∷ []) mid
   function_step = functions_of_parts files decls written cs gs old mid d t c at_c (fn ∷ []) (f ∷ []) adds
 
-  module _ (r : AreSided files decls (written ++ seen_there) cs (gs ++ one ∷ []) place c.address new is is' fs rest xs inside) where
+  module _ (others : List Required) (r : AreSided files decls (written ++ seen_there) cs (gs ++ one ∷ []) place c.address new is is' fs rest xs inside others) where
     abbrev sides : List Turned
     sides = side_turns c.address xs r.ordered
 
-    stated_function : (seen : List Occurrence) → Collects [] (written ++ (seen_there ++ occurrences sides)) seen → AreAsStated files (keys seen) c.address (SideFunction fn ∷ xs) (function_turn c.address fn ∷ sides) r.scopes (own ++ r.own_required) (own ++ rest)
+    stated_function : (seen : List Occurrence) → Collects [] (written ++ (seen_there ++ occurrences sides)) seen → AreAsStated files (keys seen) c.address (SideFunction fn ∷ xs) (function_turn c.address fn ∷ sides) r.scopes (own ++ others) (own ++ rest)
     stated_function seen collects =
         let rest_after : Collects [] ((written ++ seen_there) ++ occurrences sides) seen = subst (λ (l : List Occurrence). Collects [] l seen) (sym (append_assoc written seen_there (occurrences sides))) collects in
         let it = r.as_stated seen rest_after in
@@ -149,11 +184,11 @@ module _ (files : List PackageFile) (decls : Decls) (written : List Occurrence) 
         let together : map (in_scope c.address) ids ++ map (in_scope c.address) later ≡ map (in_scope c.address) (all_handles (written_types fn ++ flat_map written_types (flat_map item_function xs))) = sym (map-append (in_scope c.address) ids later) ∙ ap (map (in_scope c.address)) (sym (all_handles-append (written_types fn) (flat_map written_types (flat_map item_function xs)))) in
         record {
           each = it.each;
-          by_functions = subst (λ (hs : List (Address × Id)). AreRequired files (keys seen) hs (own ++ r.own_required)) together (required_append files (keys seen) (map (in_scope c.address) ids) (map (in_scope c.address) later) own r.own_required here it.by_functions);
+          by_functions = subst (λ (hs : List (Address × Id)). AreRequired files (keys seen) hs (own ++ others)) together (required_append files (keys seen) (map (in_scope c.address) ids) (map (in_scope c.address) later) own others here it.by_functions);
           in_all = required_append files (keys seen) (turn_handles (function_turn c.address fn)) (flat_map turn_handles sides) own rest (subst (λ (hs : List (Address × Id)). AreRequired files (keys seen) hs own) alone here) it.in_all;
         }
 
-    pub sided_function : AreSided files decls written cs gs place c.address new is is' (f ∷ fs) (own ++ rest) (SideFunction fn ∷ xs) inside
+    pub sided_function : AreSided files decls written cs gs place c.address new is is' (f ∷ fs) (own ++ rest) (SideFunction fn ∷ xs) inside (own ++ others)
     sided_function = record {
       ordered = r.ordered;
       scopes = r.scopes;
@@ -172,13 +207,12 @@ module _ (files : List PackageFile) (decls : Decls) (written : List Occurrence) 
       ];
       within = λ k j b g at there. (let it = r.within k j b g at there in (suc it.0, it.1));
       whole = r.whole;
-      own_required = own ++ r.own_required;
       as_stated = stated_function;
     }
 
 -- an interface by its path adds nothing
-sided_link : (files : List PackageFile) (decls : Decls) (written : List Occurrence) (cs : List DoneScope) (gs : List DoneFunction) (place : ℕ) (s : Address) (new : List TypeDef) (is is' : List Interface) (fs : List Function) (rs : List Required) (link : Link) (xs : List SideItem) (inside : List Item) → AreSided files decls written cs gs place s new is is' fs rs xs inside → AreSided files decls written cs gs place s new is is' fs rs (SideLink link ∷ xs) inside
-sided_link files decls written cs gs place s new is is' fs rs link xs inside r = record {
+sided_link : (files : List PackageFile) (decls : Decls) (written : List Occurrence) (cs : List DoneScope) (gs : List DoneFunction) (place : ℕ) (s : Address) (new : List TypeDef) (is is' : List Interface) (fs : List Function) (rs : List Required) (link : Link) (xs : List SideItem) (inside : List Item) (others : List Required) → AreSided files decls written cs gs place s new is is' fs rs xs inside others → AreSided files decls written cs gs place s new is is' fs rs (SideLink link ∷ xs) inside others
+sided_link files decls written cs gs place s new is is' fs rs link xs inside others r = record {
   ordered = r.ordered;
   scopes = r.scopes;
   added = r.added;
@@ -193,7 +227,6 @@ sided_link files decls written cs gs place s new is is' fs rs link xs inside r =
   own = r.own;
   within = r.within;
   whole = r.whole;
-  own_required = r.own_required;
   as_stated = λ seen collects. (let it = r.as_stated seen collects in record { each = it.each; by_functions = it.by_functions; in_all = it.in_all });
 }
 
@@ -239,14 +272,14 @@ module _ (files : List PackageFile) (decls : Decls) (written : List Occurrence) 
     count = functions_count files decls (written ++ named) (cs ++ b ∷ []) gs a.middle mid names_step (length cs) b (at_seam cs b) (functions i) a.functions a.rest_after.adds;
   }
 
-  module _ (s : Address) (new : List TypeDef) (is is' : List Interface) (fs : List Function) (rest : List Required) (x : Extern) (name : Id) (items : List InterfaceItem) (xs : List SideItem) (inside : List Item) (r : AreSided files decls (written ++ turn_occurrences (turned o)) (cs ++ b ∷ []) (gs ++ scope_functions b) (suc place) s new (is ++ added ∷ []) is' fs rest xs inside) where
+  module _ (s : Address) (new : List TypeDef) (is is' : List Interface) (fs : List Function) (rest : List Required) (x : Extern) (name : Id) (items : List InterfaceItem) (xs : List SideItem) (inside : List Item) (others : List Required) (r : AreSided files decls (written ++ turn_occurrences (turned o)) (cs ++ b ∷ []) (gs ++ scope_functions b) (suc place) s new (is ++ added ∷ []) is' fs rest xs inside others) where
     abbrev rest_turns : List Turned
     rest_turns = side_turns s xs r.ordered
 
     abbrev all : List DoneScope
     all = b ∷ r.scopes
 
-    stated_inline : (seen : List Occurrence) → Collects [] (written ++ (turn_occurrences (turned o) ++ occurrences rest_turns)) seen → AreAsStated files (keys seen) s (SideInline x name items ∷ xs) (turned o ∷ rest_turns) all r.own_required (own ++ rest)
+    stated_inline : (seen : List Occurrence) → Collects [] (written ++ (turn_occurrences (turned o) ++ occurrences rest_turns)) seen → AreAsStated files (keys seen) s (SideInline x name items ∷ xs) (turned o ∷ rest_turns) all others (own ++ rest)
     stated_inline seen collects =
         let rest_after : Collects [] ((written ++ turn_occurrences (turned o)) ++ occurrences rest_turns) seen = subst (λ (l : List Occurrence). Collects [] l seen) (sym (append_assoc written (turn_occurrences (turned o)) (occurrences rest_turns))) collects in
         let it = r.as_stated seen rest_after in
@@ -269,7 +302,7 @@ module _ (files : List PackageFile) (decls : Decls) (written : List Occurrence) 
       | inr later ↦ prefix_more g (r.within later.0 j c g later.1 there)
     ]
 
-    pub sided_inline : AreSided files decls written cs gs place s new is is' fs (own ++ rest) (SideInline x name items ∷ xs) (i ∷ inside)
+    pub sided_inline : AreSided files decls written cs gs place s new is is' fs (own ++ rest) (SideInline x name items ∷ xs) (i ∷ inside) others
     sided_inline = record {
       ordered = o ∷ r.ordered;
       scopes = all;
@@ -288,7 +321,6 @@ module _ (files : List PackageFile) (decls : Decls) (written : List Occurrence) 
         | inl same ↦ subst (λ (y : DoneScope). IsScopeWhole files y) same inline_whole
         | inr later ↦ r.whole later.0 c later.1
       ];
-      own_required = r.own_required;
       as_stated = stated_inline;
     }
 
@@ -303,17 +335,19 @@ fresh_later files decls cs place i b other f = record {
 }
 
 -- what is on the sides of a world, where its names are done
-pub are_sided : (files : List PackageFile) (decls : Decls) (written : List Occurrence) (cs : List DoneScope) (gs : List DoneFunction) (es new : List TypeDef) (ccs : List ResolvedScope) (count t : ℕ) (c : DoneScope) (is is' : List Interface) (fs : List Function) (rs : List Required) (xs : List SideItem) (inside : List Item) → IsFunctionPart files decls written cs gs es → slice_get cs t ≡ Some c → ((k : ℕ) (x : ResolvedScope) → slice_get ccs k ≡ Some x → (j : ℕ) × (slice_get (map resolved_scope_of cs) j ≡ Some x)) → AllDiffer (map address inside) → ((k : ℕ) (i : Item) → slice_get inside k ≡ Some i → IsFreshInside files decls cs ((count + length is) + k) i) → AddsSides ccs count c.address c.types es new is is' fs rs xs inside → AreSided files decls written cs gs (count + length is) c.address new is is' fs rs xs inside
-are_sided files decls written cs gs es new ccs count t c is is' fs rs [] inside d at known differ fresh a = rw (a.0, a.1, a.2, a.3) (sided_none files decls written cs gs (count + length is) c.address es is inside d)
+pub are_sided : (files : List PackageFile) (decls : Decls) (written : List Occurrence) (cs : List DoneScope) (gs : List DoneFunction) (es new : List TypeDef) (ccs : List ResolvedScope) (count t : ℕ) (c : DoneScope) (is is' : List Interface) (fs : List Function) (rs : List Required) (xs : List SideItem) (inside : List Item) → IsFunctionPart files decls written cs gs es → slice_get cs t ≡ Some c → ((k : ℕ) (x : ResolvedScope) → slice_get ccs k ≡ Some x → (j : ℕ) × (slice_get (map resolved_scope_of cs) j ≡ Some x)) → AllDiffer (map address inside) → ((k : ℕ) (i : Item) → slice_get inside k ≡ Some i → IsFreshInside files decls cs ((count + length is) + k) i) → (a : AddsSides ccs count c.address c.types es new is is' fs rs xs inside) → AreSided files decls written cs gs (count + length is) c.address new is is' fs rs xs inside (side_required ccs count c.address c.types es new is is' fs rs xs inside a)
+are_sided files decls written cs gs es new ccs count t c is is' fs rs [] inside d at known differ fresh a = sided_none files decls written cs gs (count + length is) c.address es new is is' fs rs inside d a
 are_sided files decls written cs gs es new ccs count t c is is' fs rs (SideFunction fn ∷ xs) inside d at known differ fresh a =
+    let others = side_required ccs count c.address c.types a.0 new is is' a.2 a.4 xs inside a.9 in
     let step = function_step files decls written cs gs (count + length is) es a.0 new is is' fn a.1 a.2 a.3 a.4 xs inside d t c at a.7 a.8 in
     let r = are_sided files decls (written ++ all_function_occurrences c.address (fn ∷ [])) cs (gs ++ done_function c.address fn a.1 ∷ []) a.0 new ccs count t c is is' a.2 a.4 xs inside step at known differ fresh a.9 in
-    let whole = sided_function files decls written cs gs (count + length is) es a.0 new is is' fn a.1 a.2 a.3 a.4 xs inside d t c at a.7 a.8 r in
-    subst (λ (l : List Function). AreSided files decls written cs gs (count + length is) c.address new is is' l rs (SideFunction fn ∷ xs) inside) (sym a.5) (subst (λ (l : List Required). AreSided files decls written cs gs (count + length is) c.address new is is' (a.1 ∷ a.2) l (SideFunction fn ∷ xs) inside) (sym a.6) whole)
-are_sided files decls written cs gs es new ccs count t c is is' fs rs (SideLink link ∷ xs) inside d at known differ fresh a = sided_link files decls written cs gs (count + length is) c.address new is is' fs rs link xs inside (are_sided files decls written cs gs es new ccs count t c is is' fs rs xs inside d at known differ fresh a)
+    let whole = sided_function files decls written cs gs (count + length is) es a.0 new is is' fn a.1 a.2 a.3 a.4 xs inside d t c at a.7 a.8 others r in
+    subst (λ (l : List Function). AreSided files decls written cs gs (count + length is) c.address new is is' l rs (SideFunction fn ∷ xs) inside (a.3 ++ others)) (sym a.5) (subst (λ (l : List Required). AreSided files decls written cs gs (count + length is) c.address new is is' (a.1 ∷ a.2) l (SideFunction fn ∷ xs) inside (a.3 ++ others)) (sym a.6) whole)
+are_sided files decls written cs gs es new ccs count t c is is' fs rs (SideLink link ∷ xs) inside d at known differ fresh a = sided_link files decls written cs gs (count + length is) c.address new is is' fs rs link xs inside (side_required ccs count c.address c.types es new is is' fs rs xs inside a) (are_sided files decls written cs gs es new ccs count t c is is' fs rs xs inside d at known differ fresh a)
 are_sided files decls written cs gs es new ccs count t c is is' fs rs (SideInline x name items ∷ xs) [] d at known differ fresh a = absurd a
 are_sided files decls written cs gs es new ccs count t c is is' fs rs (SideInline x name items ∷ xs) (i ∷ inside) d at known differ fresh a =
     let place = count + length is in
+    let others = side_required ccs count c.address c.types a.0 new (is ++ a.1 ∷ []) is' fs a.3 xs inside a.6 in
     let first : IsFreshInside files decls cs place i = subst (λ (n : ℕ). IsFreshInside files decls cs n i) (let same : (count + length is) + 0 ≡ count + length is = omega arith in same) (fresh 0 i refl) in
     let next : DoneScope = b files decls written cs gs ccs place es a.0 a.1 a.2 i d known first a.5 in
     let turn : Turned = turned (o files decls written cs gs ccs place es a.0 a.1 a.2 i d known first a.5) in
@@ -322,5 +356,5 @@ are_sided files decls written cs gs es new ccs count t c is is' fs rs (SideInlin
     let known_more : (k : ℕ) (y : ResolvedScope) → slice_get ccs k ≡ Some y → (j : ℕ) × (slice_get (map resolved_scope_of (cs ++ next ∷ [])) j ≡ Some y) = λ k y h. (let it = known k y h in (it.0, ap (λ (l : List ResolvedScope). slice_get l it.0) (map-append resolved_scope_of cs (next ∷ [])) ∙ at_prefix (map resolved_scope_of cs) (map resolved_scope_of (next ∷ [])) it.0 y it.1)) in
     let fresh_more = λ (k : ℕ) (j : Item) (h : slice_get inside k ≡ Some j). subst (λ (n : ℕ). IsFreshInside files decls (cs ++ next ∷ []) n j) (let same : (count + length is) + suc k ≡ (count + length (is ++ a.1 ∷ [])) + k = omega (arith, longer) in same) (fresh_later files decls cs ((count + length is) + suc k) j next (λ same. differ_head address i inside differ k j h (sym same)) (fresh (suc k) j h)) in
     let r = are_sided files decls (written ++ turn_occurrences turn) (cs ++ next ∷ []) (gs ++ scope_functions next) a.0 new ccs count t c (is ++ a.1 ∷ []) is' fs a.3 xs inside step (at_prefix cs (next ∷ []) t c at) known_more (differ_tail address i inside differ) fresh_more a.6 in
-    let spot : AreSided files decls (written ++ turn_occurrences turn) (cs ++ next ∷ []) (gs ++ scope_functions next) (suc place) c.address new (is ++ a.1 ∷ []) is' fs a.3 xs inside = subst (λ (n : ℕ). AreSided files decls (written ++ turn_occurrences turn) (cs ++ next ∷ []) (gs ++ scope_functions next) n c.address new (is ++ a.1 ∷ []) is' fs a.3 xs inside) (let same : count + length (is ++ a.1 ∷ []) ≡ suc (count + length is) = omega (arith, longer) in same) r in
-    subst (λ (l : List Required). AreSided files decls written cs gs place c.address new is is' fs l (SideInline x name items ∷ xs) (i ∷ inside)) (sym a.4) (sided_inline files decls written cs gs ccs place es a.0 a.1 a.2 i d known first a.5 c.address new is is' fs a.3 x name items xs inside spot)
+    let spot : AreSided files decls (written ++ turn_occurrences turn) (cs ++ next ∷ []) (gs ++ scope_functions next) (suc place) c.address new (is ++ a.1 ∷ []) is' fs a.3 xs inside others = subst (λ (n : ℕ). AreSided files decls (written ++ turn_occurrences turn) (cs ++ next ∷ []) (gs ++ scope_functions next) n c.address new (is ++ a.1 ∷ []) is' fs a.3 xs inside others) (let same : count + length (is ++ a.1 ∷ []) ≡ suc (count + length is) = omega (arith, longer) in same) r in
+    subst (λ (l : List Required). AreSided files decls written cs gs place c.address new is is' fs l (SideInline x name items ∷ xs) (i ∷ inside) others) (sym a.4) (sided_inline files decls written cs gs ccs place es a.0 a.1 a.2 i d known first a.5 c.address new is is' fs a.3 x name items xs inside others spot)

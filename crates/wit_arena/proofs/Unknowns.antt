@@ -1,10 +1,10 @@
 -- The types of unknown form are exactly the start of the arena: one for each name that is used from another package.
 use Rattle.std.proofs.Common.{◌≡◌, ◌↔◌, ℕ, ◌<◌, true, false, List, [], ◌++◌, length, Option, Some, None, inl, inr, refl, sym, ap, ◌∙◌, subst, arith}
 use Rattle.wit_arena.proofs.Names.{Address, Attribute, Collects, Decls, Def, Defined, ForeignName, ForeignNamed, ForeignUse, Id, IsAnonymousForm, Item, Key, Occurrence, PackageFile, ScopeName, TypeDef, TypeOwner, UnknownForm, Used, Whole, about_name, all_scopes, at_within, cases_Bool, first_foreign_uses, firsts_at, foreign_use_occurrence, foreign_uses, is_foreign, item_at, keys, kind_of, local_name, map, option_map, option_map_or, same_foreign_use, scope, scope_names, slice_get, slice_get-map, slice_get_within}
-use Rattle.wit_arena.proofs.Places.{Extended, key_extended}
+use Rattle.wit_arena.proofs.OneKind.{Extended, key_extended}
 use Rattle.wit_arena.proofs.Shape.{key_of}
 use Rattle.wit_arena.proofs.Forms.{body_known}
-use Rattle.wit_arena.proofs.Members.{DoneScope, IsPresent}
+use Rattle.wit_arena.proofs.Resolving.{DoneScope, IsPresent}
 use Rattle.wit_arena.proofs.Itemizing.{own_names}
 use Rattle.wit_arena.proofs.ForeignUses.{foreign_use_key, keys-foreign_uses, foreign_uses_seen, used_at, used_name_at}
 use Rattle.wit_arena.proofs.Occurrence.{collects_longer}

@@ -3,7 +3,7 @@ use Rattle.std.proofs.Common.{◌≡◌, ℕ, List, [], ◌∷◌, ◌++◌, Som
 use Rattle.wit_arena.proofs.Names.{Address, Def, Exprs, Form, Key, ScopeName, SourceFunction, Whole, all_function_occurrences, all_seen, keys, local_name, name_exprs, name_occurrences, slice_get}
 use Rattle.wit_arena.proofs.Occurrence.{Has, has_either, keys-append, has_from}
 use Rattle.wit_arena.proofs.DefinitionPart.{name_keys, parts_keys}
-use Rattle.wit_arena.proofs.Signatures.{IsInFunctions, whole_in_functions}
+use Rattle.wit_arena.proofs.Resolving.{IsInFunctions, whole_in_functions}
 use Rattle.wit_arena.proofs.Turns.{parts_occurrences, all_name_occurrences}
 
 -- an unnamed type that occurs in a name occurs in its parts

@@ -5,8 +5,8 @@ use Rattle.wit_types.specs.declared.types.TypeOwner.TheVariants as owner
 use Rattle.wit_arena.proofs.Visits.{AreUsableUses}
 use Rattle.wit_arena.proofs.Ordered.{Ordered, all_turns, all_inside}
 use Rattle.wit_syntax.specs.Source as source
-use Rattle.wit_arena.proofs.Added.{InterfacesDone, WorldOwner, inside_of, interface_list, world_list, decls, defines_wider, prefix_apart, resolved_scopes_among, next_world, inline_declared, world_item_declared}
-use Rattle.wit_arena.proofs.Sided.{AreSided, IsFreshInside, are_sided}
+use Rattle.wit_arena.proofs.DoneWorlds.{InterfacesDone, WorldOwner, inside_of, interface_list, world_list, decls, defines_wider, prefix_apart, resolved_scopes_among, next_world, inline_declared, world_item_declared, scopes_of, all_within, own_order, AreWorldsDone, prefix_longer, flat_map_longer, scope_either}
+use Rattle.wit_arena.proofs.Sided.{AreSided, IsFreshInside, are_sided, side_required}
 use Rattle.wit_arena.proofs.DoneNames.{function_part_of, names_of_functions}
 use Rattle.wit_arena.proofs.FunctionPart.{DoneFunction, scope_functions, IsFunctionPart}
 use Rattle.wit_arena.proofs.Prefix.{prefix_scopes}
@@ -14,8 +14,7 @@ use Rattle.wit_arena.proofs.Indexing.{interfaces_at-append, worlds_at-append}
 use Rattle.wit_arena.proofs.Inside.{inside_at, inside_scopes-count, inside_count}
 use Rattle.wit_arena.proofs.Interfaces.{AreItems, AreOfSort, item_scopes, inline_scopes, scope_of, functions_of, items_declared, interface_address, world_address}
 use Rattle.wit_arena.proofs.ScopesInTurn.{laid_scope, laid_addresses, laid_place, ordered_at, ordered_addresses, none_is_next, in_turn_is}
-use Rattle.wit_arena.proofs.Members.{DoneScope, resolved_scope_of, IsTurn}
-use Rattle.wit_arena.proofs.DoneWorlds.{scopes_of, all_within, own_order, AreWorldsDone, prefix_longer, flat_map_longer, scope_either}
+use Rattle.wit_arena.proofs.Resolving.{DoneScope, resolved_scope_of, IsTurn}
 use Rattle.wit_arena.proofs.Turns.{item_of, own_item, all_name_occurrences}
 
 module _ (files : List PackageFile) (is ws : List Item) (interfaces : AreOfSort false is) (worlds : AreOfSort true ws) (is_items : AreItems files is) (ws_items : AreItems files ws) (uses : AreUsableUses files (all_items files)) (es : List TypeDef) (prefix : List Interface) (wprefix : List World) (foreign : AddsForeign files es prefix wprefix) (middle : List TypeDef) (xs : List Interface) (irs : List Required) (d : InterfacesDone files is ws prefix is middle xs irs) where
@@ -39,7 +38,7 @@ module _ (files : List PackageFile) (is ws : List Item) (interfaces : AreOfSort 
   long_prefix : length (prefix ++ xs) ≡ length ss + length is
   long_prefix =
       let ahead : length prefix ≡ length ss = foreign.interfaces.count ∙ sym (length-map (foreign_interfaces files) visited) in
-      let own : length xs ≡ length is = d.laid.count ∙ sym (length-map d.ordered item_of) ∙ ap length d.all in
+      let own : length xs ≡ length is = d.laid.says.count ∙ sym (length-map d.ordered item_of) ∙ ap length d.all in
       length-append prefix xs ∙ ap (λ n. n + length xs) ahead ∙ ap (λ n. length ss + n) own
 
   -- the addresses of all interfaces
@@ -84,7 +83,7 @@ module _ (files : List PackageFile) (is ws : List Item) (interfaces : AreOfSort 
     place = length-map e.ordered own_order ∙ sym (length-map e.ordered own_item) ∙ ap length e.all
 
     own_place : length e.own ≡ length us
-    own_place = e.laid.count ∙ place
+    own_place = e.laid.says.count ∙ place
 
     at_own : slice_get ws (length e.own) ≡ Some w
     at_own = ap (slice_get ws) own_place ∙ next
@@ -242,5 +241,5 @@ module _ (files : List PackageFile) (is ws : List Item) (interfaces : AreOfSort 
           }
 
       -- and so is what is on its sides, as far as it was added
-      pub sides_done : (new : List TypeDef) (js : List Interface) (fs : List Function) (rs : List Required) (items : List SideItem) (inside : List Item) → ((k : ℕ) (i : Item) → slice_get inside k ≡ Some i → slice_get (inline_items w) k ≡ Some i) → AddsSides known (length (prefix ++ xs)) s types mid new a.inside js fs rs items inside → AreSided files (decls files is ws) (written ++ named) (first ++ c ∷ []) made_before (length (prefix ++ xs) + length a.inside) s new a.inside js fs rs items inside
+      pub sides_done : (new : List TypeDef) (js : List Interface) (fs : List Function) (rs : List Required) (items : List SideItem) (inside : List Item) → ((k : ℕ) (i : Item) → slice_get inside k ≡ Some i → slice_get (inline_items w) k ≡ Some i) → (sides : AddsSides known (length (prefix ++ xs)) s types mid new a.inside js fs rs items inside) → AreSided files (decls files is ws) (written ++ named) (first ++ c ∷ []) made_before (length (prefix ++ xs) + length a.inside) s new a.inside js fs rs items inside (side_required known (length (prefix ++ xs)) s types mid new a.inside js fs rs items inside sides)
       sides_done new js fs rs items inside among sides = are_sided files (decls files is ws) (written ++ named) (first ++ c ∷ []) made_before mid new known (length (prefix ++ xs)) (length first) c a.inside js fs rs items inside names_done (at_seam first c) (known_among (c ∷ [])) (differ_by address inside (λ i j x y at_i at_j same. differ_at address (inline_items w) (inline_items_differ w) i j x y (among i x at_i) (among j y at_j) same)) (λ k i at. fresh_inside k i (among k i at)) sides

@@ -1,29 +1,24 @@
 -- Worlds that were added are done, after interfaces, each with the interfaces that are written in it.
 use Rattle.std.proofs.Common.{◌≡◌, ℕ, suc, ◌+◌, true, false, List, [], ◌∷◌, ◌++◌, length, map, Some, inl, inr, refl, sym, ap, ◌∙◌, subst, append_assoc, arith, length-append, zero-add, add-zero}
-use Rattle.wit_arena.proofs.Names.{Address, AddsForeign, AddsWorld, AddsWorlds, AreRequired, Collects, Exported, Function, FunctionKey, Id, Imported, Interface, Item, Names, Occurrence, PackageFile, Required, ScopeName, SourceFunction, Turned, TypeDef, World, WorldArenas, address, all_handles, all_items, all_occurrences, append-nil, at_back, at_either, at_prefix, at_seam, env_of, flat_map, flat_map-append, flat_map_has, foreign_interfaces, foreign_worlds, functions, functions_at, functions_items, import_types, in_turn, includes, inline_items, interfaces_at, item_function, keys, length-map, local_names, map-append, name_types, prefix_worlds, scope_names, settled, side_items, slice_get, turn_handles, visited, world_functions, worlds_at, written_types, «Type» as Written}
+use Rattle.wit_arena.proofs.Names.{Address, AddsForeign, AddsWorld, AddsWorlds, AreRequired, Collects, Exported, Function, FunctionKey, Id, Imported, Interface, Item, Names, Occurrence, PackageFile, Required, ScopeName, SourceFunction, Turned, TypeDef, World, WorldArenas, address, all_handles, all_items, all_occurrences, append-nil, at_back, at_either, at_prefix, at_seam, flat_map, flat_map-append, flat_map_has, foreign_interfaces, foreign_worlds, functions, functions_items, import_types, in_turn, includes, inline_items, interfaces_at, item_function, keys, length-map, local_names, map-append, name_types, nil_from_length, prefix_worlds, resolved_scopes, scope_names, settled, side_items, slice_get, turn_handles, visited, world_functions, worlds_at, written_types, «Type» as Written}
 use Rattle.wit_arena.proofs.Visits.{AreUsableUses}
 use Rattle.wit_arena.proofs.Ordered.{Ordered, OrderedWorld, addresses, turned, side_turns, world_turns, all_turns, all_inside}
-use Rattle.wit_arena.proofs.Added.{InterfacesDone, WorldOwner, inside_of, interface_list, world_list, decls}
-use Rattle.wit_arena.proofs.Sided.{AreAsStated, AreSided}
-use Rattle.wit_arena.proofs.DoneNames.{done_of}
-use Rattle.wit_arena.proofs.FunctionPart.{AreWhole, DoneFunction, done_functions, scope_functions, IsFunctionPart}
+use Rattle.wit_arena.proofs.DoneWorlds.{InterfacesDone, WorldOwner, inside_of, interface_list, world_list, decls, inline_count, SaysWorld, MakesWorld, world_resolved_scope, DoneWorld, own_scope, scopes_of, all_within, own_order, AreWorldsDone, includes_wider, named_world, own_types, written_more, scopes_more, handles_more, one_of_three}
+use Rattle.wit_arena.proofs.Sided.{AreAsStated, AreSided, side_required, all_handles-append}
+use Rattle.wit_arena.proofs.DoneNames.{done_of, required_there}
+use Rattle.wit_arena.proofs.FunctionPart.{AreWhole, DoneFunction, done_functions, scope_functions, IsFunctionPart, IsScopeWhole}
 use Rattle.wit_arena.proofs.FreeNames.{free_of, AreStated}
 use Rattle.wit_arena.proofs.Prefix.{prefix_scopes}
 use Rattle.wit_arena.proofs.Inside.{AreInside, inside_append}
 use Rattle.wit_arena.proofs.Interfaces.{AreItems, AreOfSort, item_scopes, functions_of, world_address}
 use Rattle.wit_arena.proofs.ScopesInTurn.{AreLaid, laid_none, laid_more}
 use Rattle.wit_arena.proofs.Occurrence.{collects_one, collects_longer}
-use Rattle.wit_arena.proofs.Places.{Extended, extended_trans}
-use Rattle.wit_arena.proofs.Required.{in_scope, ended_required, required_none, required_append, required_extended}
-use Rattle.wit_arena.proofs.SideItems.{side_types, side_items_wider}
-use Rattle.wit_arena.proofs.Members.{DoneScope, turn_of, resolved_scope_of, IsDone}
-use Rattle.wit_arena.proofs.Settled.{settled_none, settled_types}
-use Rattle.wit_arena.proofs.Stating.{stated_settled}
-use Rattle.wit_arena.proofs.DoneWorlds.{none_left, inline_count, SaysWorld, MakesWorld, world_resolved_scope, DoneWorld, own_scope, scopes_of, all_within, own_order, AreWorldsDone, includes_wider, named_world, own_types, written_more, scopes_more, handles_more, one_of_three, function_part_declared}
-use Rattle.wit_arena.proofs.Requiring.{requiring, function_part_requiring}
+use Rattle.wit_arena.proofs.OneKind.{Extended, extended_trans}
+use Rattle.wit_arena.proofs.Required.{in_scope, required_none, required_append, required_extended}
+use Rattle.wit_arena.proofs.Settled.{side_types, side_items_wider, settled_none, settled_types, stated_settled}
+use Rattle.wit_arena.proofs.Resolving.{DoneScope, turn_of, resolved_scope_of, IsDone}
 use Rattle.wit_arena.proofs.WorldSides.{place, next_place, long_inside, inside_split, world_added, interface_added, c, names_done, sides_done}
 use Rattle.wit_arena.proofs.Turns.{item_of, own_item, occurrences, all_name_occurrences}
-use Rattle.wit_arena.proofs.Written.{all_handles-append}
 
 module _ (files : List PackageFile) (is ws : List Item) (interfaces : AreOfSort false is) (worlds : AreOfSort true ws) (is_items : AreItems files is) (ws_items : AreItems files ws) (uses : AreUsableUses files (all_items files)) (es : List TypeDef) (prefix : List Interface) (wprefix : List World) (foreign : AddsForeign files es prefix wprefix) (middle : List TypeDef) (xs : List Interface) (irs : List Required) (d : InterfacesDone files is ws prefix is middle xs irs) where
   abbrev ss : List Address
@@ -69,18 +64,19 @@ module _ (files : List PackageFile) (is ws : List Item) (interfaces : AreOfSort 
       stated_all : AreStated (functions w) adds.functions both
       stated_all = subst (λ (l : List SourceFunction). AreStated l adds.functions both) (sym (functions_items w)) (stated_settled all_addresses w.top turns_names adds.types (side_items w) adds.functions inside_addresses (includes w) adds.imports.0 adds.exports.0 adds.added adds.imports.2 adds.exports.2 adds.imports.1 adds.exports.1)
 
-      abbrev opened : DoneScope
-      opened = c files is ws interfaces worlds is_items ws_items uses es prefix wprefix foreign middle xs irs d us old a qs e w next adds.middle adds.types adds.adds adds.functions both []
-
-      opened_names : IsFunctionPart files (decls files is ws) (written ++ all_name_occurrences s turns_names) (first ++ opened ∷ []) made_before adds.middle
-      opened_names = names_done files is ws interfaces worlds is_items ws_items uses es prefix wprefix foreign middle xs irs d us old a qs e w next adds.middle adds.types adds.adds adds.functions both []
-
-      sided : AreSided files (decls files is ws) (written ++ all_name_occurrences s turns_names) (first ++ opened ∷ []) made_before (length (prefix ++ xs) + length a.inside) s new a.inside b.inside adds.functions adds.rest (side_items w) (inline_items w)
-      sided = sides_done files is ws interfaces worlds is_items ws_items uses es prefix wprefix foreign middle xs irs d us old a qs e w next adds.middle adds.types adds.adds adds.functions both [] new b.inside adds.functions adds.rest (side_items w) (inline_items w) (λ k i at. at) adds.sides
+      -- what the functions on its sides require
+      abbrev functions_required : List Required
+      functions_required = side_required (resolved_scopes ss (prefix ++ xs)) (length (prefix ++ xs)) s adds.types adds.middle new a.inside b.inside adds.functions adds.rest (side_items w) (inline_items w) adds.sides
 
       -- its scope, with what its handles require
       abbrev closed : DoneScope
-      closed = requiring opened (adds.own ++ sided.own_required)
+      closed = c files is ws interfaces worlds is_items ws_items uses es prefix wprefix foreign middle xs irs d us old a qs e w next adds.middle adds.types adds.adds adds.functions both (adds.own ++ functions_required)
+
+      closed_names : IsFunctionPart files (decls files is ws) (written ++ all_name_occurrences s turns_names) (first ++ closed ∷ []) made_before adds.middle
+      closed_names = names_done files is ws interfaces worlds is_items ws_items uses es prefix wprefix foreign middle xs irs d us old a qs e w next adds.middle adds.types adds.adds adds.functions both (adds.own ++ functions_required)
+
+      sided : AreSided files (decls files is ws) (written ++ all_name_occurrences s turns_names) (first ++ closed ∷ []) made_before (length (prefix ++ xs) + length a.inside) s new a.inside b.inside adds.functions adds.rest (side_items w) (inline_items w) functions_required
+      sided = sides_done files is ws interfaces worlds is_items ws_items uses es prefix wprefix foreign middle xs irs d us old a qs e w next adds.middle adds.types adds.adds adds.functions both (adds.own ++ functions_required) new b.inside adds.functions adds.rest (side_items w) (inline_items w) (λ k i at. at) adds.sides
 
       abbrev sides : List Turned
       sides = side_turns s (side_items w) sided.ordered
@@ -89,10 +85,10 @@ module _ (files : List PackageFile) (is ws : List Item) (interfaces : AreOfSort 
       all_scopes_now = (first ++ closed ∷ []) ++ sided.scopes
 
       function_part : IsFunctionPart files (decls files is ws) ((written ++ all_name_occurrences s turns_names) ++ occurrences sides) all_scopes_now (made_before ++ sided.more) new
-      function_part = function_part_requiring files (decls files is ws) ((written ++ all_name_occurrences s turns_names) ++ occurrences sides) first sided.scopes opened (adds.own ++ sided.own_required) (made_before ++ sided.more) new sided.function_part
+      function_part = sided.function_part
 
       -- what is required on its sides
-      as_stated : AreAsStated files (keys function_part.seen) s (side_items w) sides sided.scopes sided.own_required adds.rest
+      as_stated : AreAsStated files (keys function_part.seen) s (side_items w) sides sided.scopes functions_required adds.rest
       as_stated = sided.as_stated function_part.seen function_part.collects
 
       -- all that are written in it are there
@@ -103,27 +99,27 @@ module _ (files : List PackageFile) (is ws : List Item) (interfaces : AreOfSort 
           let own = length-map sided.ordered item_of in
           let used = sided.consumed in
           let count = inline_count [] w (side_items w) in
-          let none : sided.left ≡ [] = none_left sided.left (omega (arith, long, parts, own, used, count)) in
+          let none : sided.left ≡ [] = nil_from_length sided.left (omega (arith, long, parts, own, used, count)) in
           sym (append-nil (map item_of sided.ordered)) ∙ ap (λ (l : List Item). map item_of sided.ordered ++ l) (sym none) ∙ sided.items
 
-      extended_names : Extended (keys opened_names.seen) (keys function_part.seen)
-      extended_names = collects_longer (written ++ all_name_occurrences s turns_names) (occurrences sides) [] opened_names.seen function_part.seen opened_names.collects function_part.collects
+      extended_names : Extended (keys closed_names.seen) (keys function_part.seen)
+      extended_names = collects_longer (written ++ all_name_occurrences s turns_names) (occurrences sides) [] closed_names.seen function_part.seen closed_names.collects function_part.collects
 
       extended_before : Extended (keys e.done.seen) (keys function_part.seen)
-      extended_before = extended_trans (collects_longer written (all_name_occurrences s turns_names) [] e.done.seen opened_names.seen e.done.collects opened_names.collects) extended_names
+      extended_before = extended_trans (collects_longer written (all_name_occurrences s turns_names) [] e.done.seen closed_names.seen e.done.collects closed_names.collects) extended_names
 
       -- what its names require
       names_required : AreRequired files (keys function_part.seen) (map (in_scope s) (all_handles (flat_map name_types turns_names))) adds.own
-      names_required = required_extended files extended_names (map (in_scope s) (all_handles (flat_map name_types turns_names))) adds.own (ended_required files (decls files is ws) (keys opened_names.seen) adds.middle opened_names.occurrence.keyed (λ j t name at. function_part_declared files (decls files is ws) (written ++ all_name_occurrences s turns_names) (first ++ opened ∷ []) made_before adds.middle t name opened_names (opened_names.before j t name at)) s (env_of adds.types) (opened_names.are_present (length first) opened (at_seam first opened)) (all_handles (flat_map name_types turns_names)) adds.own adds.ended)
+      names_required = required_extended files extended_names (map (in_scope s) (all_handles (flat_map name_types turns_names))) adds.own (required_there files (decls files is ws) (written ++ all_name_occurrences s turns_names) (first ++ closed ∷ []) made_before adds.middle closed_names (length first) closed (at_seam first closed) (all_handles (flat_map name_types turns_names)) adds.own adds.ended)
 
       -- and with them its functions
       own_required : AreRequired files (keys function_part.seen) (turn_handles (turn_of closed)) closed.required
       own_required =
           let ts : List Written = flat_map name_types turns_names in
           let fns : List Written = flat_map written_types (functions w) in
-          let functions_required : AreRequired files (keys function_part.seen) (map (in_scope s) (all_handles fns)) sided.own_required = subst (λ (l : List SourceFunction). AreRequired files (keys function_part.seen) (map (in_scope s) (all_handles (flat_map written_types l))) sided.own_required) (sym (functions_items w)) as_stated.by_functions in
+          let by_functions : AreRequired files (keys function_part.seen) (map (in_scope s) (all_handles fns)) functions_required = subst (λ (l : List SourceFunction). AreRequired files (keys function_part.seen) (map (in_scope s) (all_handles (flat_map written_types l))) functions_required) (sym (functions_items w)) as_stated.by_functions in
           let whole : map (in_scope s) (all_handles (ts ++ fns)) ≡ map (in_scope s) (all_handles ts) ++ map (in_scope s) (all_handles fns) = ap (map (in_scope s)) (all_handles-append ts fns) ∙ map-append (in_scope s) (all_handles ts) (all_handles fns) in
-          subst (λ (hs : List (Address × Id)). AreRequired files (keys function_part.seen) hs (adds.own ++ sided.own_required)) (sym whole) (required_append files (keys function_part.seen) (map (in_scope s) (all_handles ts)) (map (in_scope s) (all_handles fns)) adds.own sided.own_required names_required functions_required)
+          subst (λ (hs : List (Address × Id)). AreRequired files (keys function_part.seen) hs (adds.own ++ functions_required)) (sym whole) (required_append files (keys function_part.seen) (map (in_scope s) (all_handles ts)) (map (in_scope s) (all_handles fns)) adds.own functions_required names_required by_functions)
 
       -- its functions, as they are written and as they are on its sides
       by_items : (k : ℕ) → slice_get (scope_functions closed) k ≡ slice_get (done_functions s (flat_map item_function (side_items w)) adds.functions) k
@@ -150,9 +146,7 @@ module _ (files : List PackageFile) (is ws : List Item) (interfaces : AreOfSort 
 
       all_of : AreWhole files all_scopes_now (made_before ++ sided.more) (keys function_part.seen)
       all_of = record {
-        functions = of_each (λ (x : DoneScope). x.functions ≡ functions_at files x.address) (λ k x at. (e.done.each k x at).functions) (sym (functions_of files ws (item_scopes files ws ws_items) (length us) w next)) (λ k x at. (sided.whole k x at).functions);
-        stated = of_each (λ (x : DoneScope). AreStated x.functions x.made x.stated) (λ k x at. (e.done.each k x at).stated) stated_all (λ k x at. (sided.whole k x at).stated);
-        count = of_each (λ (x : DoneScope). length x.made ≡ length x.functions) (λ k x at. (e.done.made k x at).count) (sided.count ∙ ap length (sym (functions_items w))) (λ k x at. (sided.whole k x at).count);
+        whole = of_each (IsScopeWhole files) (λ k x at. record { functions = (e.done.each k x at).functions; stated = (e.done.each k x at).stated; count = (e.done.made k x at).count }) (record { functions = sym (functions_of files ws (item_scopes files ws ws_items) (length us) w next); stated = stated_all; count = sided.count ∙ ap length (sym (functions_items w)) }) sided.whole;
         made = made_among;
         required = of_each (λ (x : DoneScope). AreRequired files (keys function_part.seen) (turn_handles (turn_of x)) x.required) (λ k x at. required_extended files extended_before (turn_handles (turn_of x)) x.required (e.done.required k x at)) own_required as_stated.each;
       }
@@ -184,7 +178,7 @@ module _ (files : List PackageFile) (is ws : List Item) (interfaces : AreOfSort 
           subst (λ (ms : List Occurrence). AreRequired files (keys ms) (flat_map turn_handles (flat_map world_turns (e.ordered ++ world ∷ []))) (qs ++ rs)) same (subst (λ (hs : List (Address × Id)). AreRequired files (keys function_part.seen) hs (qs ++ rs)) (sym (handles_more e.ordered world s turns_names refl)) (subst (λ (ts : List Required). AreRequired files (keys function_part.seen) (old_handles ++ (own_handles ++ side_handles)) (qs ++ ts)) (sym adds.requires) whole))
 
       listed : map (λ p. p.0) adds.types ≡ local_names turns_names
-      listed = (opened_names.each (length first) opened (at_seam first opened)).listed
+      listed = (closed_names.each (length first) closed (at_seam first closed)).listed
 
       is_resolved_scope : resolved_scope_of closed ≡ world_resolved_scope adds.added
       is_resolved_scope =

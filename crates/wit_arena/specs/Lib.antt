@@ -1,17 +1,12 @@
 pub mod Kind
-pub mod Expr
 pub mod Occurrences
-pub mod EntryEnds
 pub mod SourceFunctions
-pub mod SideItems
 pub mod UnfoldedTypes
 pub mod OneByOne
 pub mod Whole
 pub mod Made
 pub mod Faithful
 pub mod Resolving
-pub mod ResolvedArenas
-pub mod Adding
 pub mod SplitOccurrences
 pub mod Common
 pub mod Names

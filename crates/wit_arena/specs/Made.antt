@@ -8,10 +8,8 @@ use Rattle.wit_functions.specs.declared.function.FunctionKind.TheVariants as kin
 use Rattle.wit_model.specs.declared.world.WorldKey.TheVariants as key
 use Rattle.wit_model.specs.declared.world.WorldItem.TheVariants as item
 use Rattle.wit_arena.specs.Kind.{kind_of}
-use Rattle.wit_arena.specs.Expr.{Expr, Prim, Use, Of, Exprs, End, More, expr_of, name_exprs}
-use Rattle.wit_arena.specs.Occurrences.{Key, Def, Whole, Occurrence, keys, stability_at}
-use Rattle.wit_arena.specs.SourceFunctions.{kinds_of}
-use Rattle.wit_arena.specs.SideItems.{link_item, inline_entry, settled}
+use Rattle.wit_arena.specs.Occurrences.{Expr, Prim, Use, Of, Exprs, End, More, expr_of, name_exprs, Key, Def, Whole, Occurrence, keys, stability_at}
+use Rattle.wit_arena.specs.SourceFunctions.{kinds_of, link_item, inline_entry, settled}
 use Rattle.wit_arena.specs.Whole.{Turned, turn_handles, all_occurrences, AreRequired, place_at, owner_at, dep, renamed, first_docs}
 
 -- the type of an expression, where this gives the place of what occurs

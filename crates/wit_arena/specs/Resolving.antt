@@ -1,15 +1,18 @@
--- What resolving types and names does to the arena, from whatever occurred before.
-use Rattle.std.specs.Prelude.{◌≡◌, ℕ, List, [], ◌∷◌, ◌++◌, length, map, Option, Some, None, ◌⊎◌, slice_get, nat_eq, IsSome}
-use Rattle.wit_arena.specs.Names.{Address, AreDistinct, Function, Id, Interface, InterfaceNamed, Metadata, ScopeName, SourceFunction, Span, Stability, TypeDef, TypeDefKind, TypeOwner, Type_, Used, flat_map, insert_entry, local_name, local_names, lookup, metadata, no_docs, pointwise, unwrap_or, «Type» as Ty}
+-- What resolving does: to the arena of types, from whatever occurred before, and to those of interfaces and worlds.
+use Rattle.std.specs.Prelude.{◌≡◌, ℕ, List, [], ◌∷◌, ◌++◌, length, map, Option, Some, None, ◌⊎◌, slice_get, nat_eq, IsSome, ◌+◌}
+use Rattle.wit_arena.specs.Names.{Address, AreDistinct, Exported, ForeignUse, Function, Id, Imported, Interface, InterfaceNamed, IsOrder, Item, Metadata, PackageFile, Param, ScopeName, Shape, Shapes, SideFunction, SideInline, SideItem, SideLink, SourceFunction, SourceParam, Span, Stability, TypeDef, TypeDefKind, TypeOwner, Type_, Unknown, Used, World, WorldNamed, about, address, all_handles, all_types, declared_metadata, first_foreign_uses, flat_map, foreign_interfaces, foreign_worlds, functions as item_functions, in_turn, includes, inline_items, insert_entry, local_name, local_names, lookup, metadata, name_types, no_docs, pointwise, rows_of, scope_names, side_items, unwrap_or, visited, written_types, «Type» as Ty}
 use Rattle.wit_type_tree.specs.declared.leaves.Attribute.{Attribute}
 use Rattle.wit_tree.specs.declared.tree.UseName.{UseName}
+use Rattle.wit_arena.specs.Occurrences.{Expr, Prim, Use, Of, Exprs, End, More, exprs_of, Key, Def, Whole, Occurrence, keys, IsSeen, Collects, AreAt, Decls, IsOccurrence, name_occurrences, all_function_occurrences, settled, shape_occurrences}
+use Rattle.wit_arena.specs.UnfoldedTypes.{At, IsInterface, IsWorld, IsForeignWorld}
+use Rattle.wit_arena.specs.SourceFunctions.{AreFunctions, freestanding_names, placed_functions, HasSide}
+use Rattle.wit_arena.specs.Kind.{IsResource, IsUnknown as IsUnknownEntry, entry_end}
+use Rattle.wit_types.specs.declared.types.TypeDefKind.TheVariants.{Unknown as UnknownKind}
+use Rattle.wit_arena.specs.OneByOne.{OneByOne}
+use Rattle.wit_arena.specs.Whole.{owner_at, foreign_use_occurrence, IsForeignInterface, type_imports, AreIncludes}
 use Rattle.wit_types.specs.declared.types.«Type».TheVariants as type
 use Rattle.wit_types.specs.declared.types.TypeOwner.TheVariants as owner
-use Rattle.wit_arena.specs.Expr.{Expr, Prim, Use, Of, Exprs, End, More}
-use Rattle.wit_arena.specs.Occurrences.{Key, Def, Whole, Occurrence, keys, IsSeen, Collects, AreAt, Decls, IsOccurrence, name_occurrences, all_function_occurrences, settled}
-use Rattle.wit_arena.specs.UnfoldedTypes.{At}
-use Rattle.wit_arena.specs.SourceFunctions.{AreFunctions, freestanding_names}
-use Rattle.wit_arena.specs.EntryEnds.{IsResource, IsUnknown as IsUnknownEntry, entry_end}
+use Rattle.wit_syntax.specs.Shape as shape
 
 -- what the names of a scope mean
 abbrev pub Env : Type 0
@@ -42,17 +45,17 @@ abbrev mutual
   all_seen End = []
   all_seen (More e es) = seen e ++ all_seen es
 
--- what occurred, extended by what occurs in types, and their places
-pub record IsExtended (decls : Decls) (ms : List Occurrence) (new : List TypeDef) (more : List Occurrence) (es : Exprs) (tys : List Ty) : Type 0 where
+-- what occurred, extended by these, with the new arena of it, where something holds of all keys
+pub record Extends (decls : Decls) (ms more : List Occurrence) (new : List TypeDef) (Holds : List Key → Type 0) : Type 0 where
   pub now : List Occurrence
   pub collects : Collects ms more now
   pub occurrence : IsOccurrence decls now new
-  pub at : AreAt (keys now) es tys
+  pub holds : Holds (keys now)
 
 -- From whatever occurred, the new arena is that with what occurs in the types, and they are at their places.
 pub record AreResolved (old new : List TypeDef) (s : Address) (env : Env) (more : List Occurrence) (es : Exprs) (tys : List Ty) : Type 0 where
   pub same : keys more ≡ all_seen es
-  pub from : (decls : Decls) (ms : List Occurrence) → IsOccurrence decls ms old → AreNames (keys ms) s env → IsExtended decls ms new more es tys
+  pub from : (decls : Decls) (ms : List Occurrence) → IsOccurrence decls ms old → AreNames (keys ms) s env → Extends decls ms more new (λ ks. AreAt ks es tys)
 
 -- the unnamed type of a kind and a stability, written at a span
 abbrev pub unnamed : TypeDefKind → Stability → Span → TypeDef
@@ -113,17 +116,9 @@ pub record AreKnown (ks : List Key) (s : Address) (cs : List ResolvedScope) : Ty
   pub names : (t : ℕ) (c : ResolvedScope) → slice_get cs t ≡ Some c → AreNames ks c.address (env_of c.types)
   pub others : (t : ℕ) (c : ResolvedScope) → slice_get cs t ≡ Some c → c.address ≡ s → ⊥
 
--- what occurred, extended by what occurs in names of a scope, and what the names then mean
-pub record IsDefined (decls : Decls) (ms : List Occurrence) (new : List TypeDef) (s : Address) (names names' : Names) (xs : List ScopeName) : Type 0 where
-  pub now : List Occurrence
-  pub collects : Collects ms (flat_map (name_occurrences s) xs) now
-  pub occurrence : IsOccurrence decls now new
-  pub are_present : AreNames (keys now) s (env_of names')
-  pub listed : map (λ p. p.0) names' ≡ map (λ p. p.0) names ++ local_names xs
-
 -- From whatever occurred, the new arena is that with what occurs in the names; `cs` are the scopes that they may use.
 pub record Defines (old new : List TypeDef) (cs : List ResolvedScope) (o : TypeOwner) (s : Address) (names names' : Names) (xs : List ScopeName) : Type 0 where
-  pub from : (decls : Decls) (ms : List Occurrence) → AreOwned decls o s xs → AreDistinct xs → AreNew (keys ms) s xs → AreKnown (keys ms) s cs → IsOccurrence decls ms old → AreNames (keys ms) s (env_of names) → IsDefined decls ms new s names names' xs
+  pub from : (decls : Decls) (ms : List Occurrence) → AreOwned decls o s xs → AreDistinct xs → AreNew (keys ms) s xs → AreKnown (keys ms) s cs → IsOccurrence decls ms old → AreNames (keys ms) s (env_of names) → Extends decls ms (flat_map (name_occurrences s) xs) new (λ ks. AreNames ks s (env_of names') × (names_in names' ≡ names_in names ++ local_names xs))
 
 -- a name was put into a table
 pub record IsStored (names names' : Names) (name : List ℕ) : Type 0 where
@@ -154,16 +149,9 @@ pub record IsNameIndex (called : List ℕ → Address) (all : List Address) (by_
   pub present : (name : List ℕ) (t : ℕ) → env_of by_name name ≡ Some t → slice_get all t ≡ Some (called name)
   pub has : (t : ℕ) (name : List ℕ) → slice_get all t ≡ Some (called name) → IsSome (env_of by_name name)
 
--- what occurred, extended by what occurs in functions of a scope, and the functions over that
-pub record HasFunctions (decls : Decls) (ms : List Occurrence) (new : List TypeDef) (s : Address) (fns : List SourceFunction) (fs : List Function) : Type 0 where
-  pub now : List Occurrence
-  pub collects : Collects ms (all_function_occurrences s fns) now
-  pub occurrence : IsOccurrence decls now new
-  pub are : AreFunctions (keys now) s fns fs
-
 -- From whatever occurred, the new arena is that with what occurs in functions of a scope, whose names these are.
 pub record AddsFunctions (old new : List TypeDef) (s : Address) (names : Names) (fns : List SourceFunction) (fs : List Function) : Type 0 where
-  pub from : (decls : Decls) (ms : List Occurrence) → IsOccurrence decls ms old → AreNames (keys ms) s (env_of names) → HasFunctions decls ms new s fns fs
+  pub from : (decls : Decls) (ms : List Occurrence) → IsOccurrence decls ms old → AreNames (keys ms) s (env_of names) → Extends decls ms (all_function_occurrences s fns) new (λ ks. AreFunctions ks s fns fs)
 
 -- a type of another package that a handle needs to be a resource, and where it is written
 abbrev pub Required : Type 0
@@ -174,3 +162,114 @@ Required = ℕ × Span
 abbrev pub AreEnded : Env → List TypeDef → List Id → List Required → Type 0
 AreEnded env es [] rs = rs ≡ []
 AreEnded env es (id ∷ ids) rs = (place : ℕ) × (steps : ℕ) × (env id.name.now ≡ Some place) × (((entry_end steps es place ≡ Some IsResource) × AreEnded env es ids rs) ⊎ ((unknown : ℕ) × (rest : List Required) × (entry_end steps es place ≡ Some (IsUnknownEntry unknown)) × (rs ≡ (unknown, id.span) ∷ rest) × AreEnded env es ids rest))
+
+-- shapes, one after another
+abbrev pub gathered : List Shape → Shapes
+gathered [] = shape.End
+gathered (x ∷ xs) = shape.More x (gathered xs)
+
+-- From whatever occurred, the new arena is that with what occurs in these types, and they mean those.
+abbrev pub AreShapes : List TypeDef → List TypeDef → Address → Env → List Shape → List Ty → Type 0
+AreShapes old new s env xs ts = AreResolved old new s env (flat_map (shape_occurrences s Unknown) xs) (exprs_of s (gathered xs)) ts
+
+-- a parameter of the package is the written one apart from its type
+abbrev pub SaysParam : SourceParam → Param → Type 0
+SaysParam w p = (p.name ≡ w.name) × (p.span ≡ w.span)
+
+-- what the names of a scope add to the arena of types, in the order of its table; `cs` are the scopes that they may use
+pub record AddsScope (old new : List TypeDef) (cs : List ResolvedScope) (o : TypeOwner) (xs : List ScopeName) (types : Names) : Type 0 where
+  pub order : List ℕ
+  pub least : IsOrder (rows_of xs) order
+  pub distinct : AreDistinct xs
+  pub defines : (s : Address) → Defines old new cs o s [] types (in_turn xs order)
+
+-- what the functions of an item add to the arena of types, after its names in turn, and what its handles require
+pub record AddsAfter (old new : List TypeDef) (item : Item) (order : List ℕ) (names : Names) (fs : List Function) (rs : List Required) : Type 0 where
+  pub adds : AddsFunctions old new (address item) names (item_functions item) fs
+  pub ended : AreEnded (env_of names) new (all_handles (all_types (in_turn (scope_names item) order) (item_functions item))) rs
+
+-- what an interface adds to the arena of types, where it is at this place, and these are the scopes that it may use
+pub record AddsInterface (cs : List ResolvedScope) (place : ℕ) (old new : List TypeDef) (added : Interface) (rs : List Required) (item : Item) : Type 0 where
+  pub says : IsInterface (about item.declared).called (about item.declared).id.span (declared_metadata item.declared) added
+  pub middle : List TypeDef
+  pub adds : AddsScope old middle cs (owner.Interface place) (scope_names item) added.types
+  pub functions : List Function
+  pub rest_after : AddsAfter middle new item adds.order added.types functions rs
+  pub are_present : added.functions ≡ placed_functions functions
+
+-- what a declared interface adds to the arenas, where those at these addresses are of other packages
+pub record AddsDeclared (foreign : List Address) (old new : List TypeDef) (is is' : List Interface) (rs : List Required) (item : Item) : Type 0 where
+  pub added : Interface
+  pub last : is' ≡ is ++ added ∷ []
+  pub adds : AddsInterface (resolved_scopes foreign is) (length is) old new added rs item
+
+-- the addresses of worlds: at first of those of other packages
+abbrev pub worlds_at : List Address → List World → List Address
+worlds_at [] ws = map (λ w. WorldNamed w.name) ws
+worlds_at (s ∷ ss) [] = []
+worlds_at (s ∷ ss) (w ∷ ws) = s ∷ worlds_at ss ws
+
+-- the addresses of interfaces: at first of those of other packages
+abbrev pub interfaces_at : List Address → List Interface → List Address
+interfaces_at foreign is = map (λ c. c.address) (resolved_scopes foreign is)
+
+-- What is on the sides of a world adds to the arenas, one after another, after its names: functions, and the interfaces that are written
+-- there, which are these items, after so many others; `cs` are the scopes that these may use.
+abbrev pub AddsSides : List ResolvedScope → ℕ → Address → Names → List TypeDef → List TypeDef → List Interface → List Interface → List Function → List Required → List SideItem → List Item → Type 0
+AddsSides cs count s names old new is is' fs rs [] inside = (new ≡ old) × (is' ≡ is) × (fs ≡ []) × (rs ≡ [])
+AddsSides cs count s names old new is is' fs rs (SideFunction fn ∷ xs) inside = (mid : List TypeDef) × (f : Function) × (more : List Function) × (own : List Required) × (rest : List Required) × (fs ≡ f ∷ more) × (rs ≡ own ++ rest) × AddsFunctions old mid s names (fn ∷ []) (f ∷ []) × AreEnded (env_of names) mid (all_handles (written_types fn)) own × AddsSides cs count s names mid new is is' more rest xs inside
+AddsSides cs count s names old new is is' fs rs (SideLink link ∷ xs) inside = AddsSides cs count s names old new is is' fs rs xs inside
+AddsSides cs count s names old new is is' fs rs (SideInline x name items ∷ xs) [] = ⊥
+AddsSides cs count s names old new is is' fs rs (SideInline x name items ∷ xs) (i ∷ inside) = (mid : List TypeDef) × (added : Interface) × (own : List Required) × (rest : List Required) × (rs ≡ own ++ rest) × AddsInterface cs (count + length is) old mid added own i × AddsSides cs count s names mid new (is ++ added ∷ []) is' fs rest xs inside
+
+-- the worlds of the arena, and the interfaces that are written in them, with their addresses
+pub record WorldArenas : Type 0 where
+  pub worlds : List World
+  pub inside : List Interface
+  pub addresses : List Address
+
+-- what a world adds to the arenas, where these are the declared interfaces, and at first those at these addresses
+pub record AddsWorld (foreign others : List Address) (is : List Interface) (old new : List TypeDef) (a b : WorldArenas) (rs : List Required) (item : Item) : Type 0 where
+  pub added : World
+  pub last : b.worlds ≡ a.worlds ++ added ∷ []
+  pub more : b.addresses ≡ a.addresses ++ map address (inline_items item)
+  pub says : IsWorld (about item.declared).id.name.now (about item.declared).id.span (declared_metadata item.declared) added
+  pub types : Names
+  pub middle : List TypeDef
+  pub adds : AddsScope old middle (resolved_scopes foreign is) (owner.World (length a.worlds)) (scope_names item) types
+  pub own : List Required
+  pub ended : AreEnded (env_of types) middle (all_handles (flat_map name_types (in_turn (scope_names item) adds.order))) own
+  pub functions : List Function
+  pub rest : List Required
+  pub requires : rs ≡ own ++ rest
+  pub sides : AddsSides (resolved_scopes foreign is) (length is) (address item) types middle new a.inside b.inside functions rest (side_items item) (inline_items item)
+  pub imports : HasSide (interfaces_at foreign is ++ b.addresses) (map address (inline_items item)) item Imported functions (type_imports (in_turn (scope_names item) adds.order) types) added.imports
+  pub exports : HasSide (interfaces_at foreign is ++ b.addresses) (map address (inline_items item)) item Exported functions [] added.exports
+  pub includes : AreIncludes (worlds_at others a.worlds) item added.includes
+
+-- what items add to the arenas, one after another, and what they require, where `Adds` says what one of them does
+abbrev pub AddsEach : {X : Type 0} → (List TypeDef → List TypeDef → X → X → List Required → Item → Type 0) → List TypeDef → List TypeDef → X → X → List Required → List Item → Type 0
+AddsEach Adds old new x x' rs [] = (new ≡ old) × (x' ≡ x) × (rs ≡ [])
+AddsEach {X} Adds old new x x' rs (w ∷ ws) = (mid : List TypeDef) × (between : X) × (own : List Required) × (rest : List Required) × (rs ≡ own ++ rest) × Adds old mid x between own w × AddsEach Adds mid new between x' rest ws
+
+-- what interfaces add, after those of other packages
+abbrev pub AddsInterfaces : List Address → List TypeDef → List TypeDef → List Interface → List Interface → List Required → List Item → Type 0
+AddsInterfaces foreign old new is is' rs items = AddsEach (AddsDeclared foreign) old new is is' rs items
+
+-- what worlds add, where these are the declared interfaces
+abbrev pub AddsWorlds : List Address → List Address → List Interface → List TypeDef → List TypeDef → WorldArenas → WorldArenas → List Required → List Item → Type 0
+AddsWorlds foreign others is old new a b rs items = AddsEach (AddsWorld foreign others is) old new a b rs items
+
+-- the arenas with these worlds in front
+abbrev pub prefix_worlds : List World → WorldArenas
+prefix_worlds ws = record { worlds = ws; inside = []; addresses = [] }
+
+-- the entry of a name of another package: nothing is known of it but whose it is
+abbrev pub foreign_type : List PackageFile → ForeignUse → TypeDef
+foreign_type files t = named (owner_at (map visited (foreign_interfaces files)) (map visited (foreign_worlds files)) t.from) t.id.name.now UnknownKind (metadata no_docs t.attributes) t.id.span
+
+-- what other packages' items put before the arenas: the names that are taken from them, and their interfaces and worlds
+pub record AddsForeign (files : List PackageFile) (es : List TypeDef) (is : List Interface) (ws : List World) : Type 0 where
+  pub types : es ≡ map (foreign_type files) (first_foreign_uses files)
+  pub interfaces : OneByOne (IsForeignInterface files (keys (map foreign_use_occurrence (first_foreign_uses files)))) (foreign_interfaces files) is
+  pub worlds : OneByOne IsForeignWorld (foreign_worlds files) ws

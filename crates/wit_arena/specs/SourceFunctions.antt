@@ -1,15 +1,14 @@
--- What the functions of a package say: each is a written function, whose types are at the places of their expressions.
-use Rattle.std.specs.Prelude.{◌≡◌, ℕ, List, [], ◌∷◌, map, Some, slice_get, codes}
-use Rattle.wit_arena.specs.Names.{Address, AreMetadata, Constructor, Freestanding, Function, FunctionKind, Method, OnSide, Param, Role, Shape, SourceFunction, SourceParam, Static, WorldItem, WorldKey, all_params, docs_of, metadata, option_to_list, placed, «Type» as Ty}
+-- What the functions of a package say, each a written one, whose types are at the places of their expressions; and what is on the sides of a world, after types.
+use Rattle.std.specs.Prelude.{◌≡◌, ℕ, List, [], ◌∷◌, map, Some, slice_get, codes, Option, if◌then◌else◌, ◌++◌}
+use Rattle.wit_arena.specs.Names.{Address, AreMetadata, Constructor, Extern, ExternalId, Freestanding, Function, FunctionKind, Id, Include, Item, Link, Method, OnSide, Param, Role, Shape, SideFunction, SideInline, SideItem, SideLink, SourceFunction, SourceParam, Span, Static, TopName, UsePath, WorldItem, WorldKey, WorldSide, all_params, docs_of, function_of, includes, metadata, no_docs, option_map_or, option_to_list, path_id, path_scope, placed, role_side, same_side, side_items, stability_of, stated_text, «Type» as Ty}
 use Rattle.wit_names.specs.Prefix.{rest_after}
 use Rattle.wit_type_tree.specs.declared.types.FuncForm.{FuncForm}
+use Rattle.wit_arena.specs.Occurrences.{expr_of, Key, Def, IsAt}
+use Rattle.wit_arena.specs.OneByOne.{OneByOne}
 use Rattle.wit_type_tree.specs.declared.types.FuncForm.TheVariants as form
 use Rattle.wit_functions.specs.declared.function.FunctionKind.TheVariants as kind
 use Rattle.wit_model.specs.declared.world.WorldKey.TheVariants as key
 use Rattle.wit_model.specs.declared.world.WorldItem.TheVariants as item
-use Rattle.wit_arena.specs.Expr.{expr_of}
-use Rattle.wit_arena.specs.Occurrences.{Key, Def, IsAt}
-use Rattle.wit_arena.specs.OneByOne.{OneByOne}
 
 -- the kind of a function that is no resource's, and, over the place of its resource, that of a method and that of a static function
 pub record Kinds : Type 0 where
@@ -24,13 +23,13 @@ kinds_of form.Async = record { freestanding = kind.AsyncFreestanding; method = k
 kinds_of form.Getter = record { freestanding = kind.Getter; method = kind.MethodGetter; static = kind.StaticGetter }
 kinds_of form.Setter = record { freestanding = kind.Setter; method = kind.MethodSetter; static = kind.StaticSetter }
 
--- the kind of a function of a role, over the place of its resource
-abbrev pub IsKind : List Key → Address → Role → FunctionKind → Type 0
-IsKind ks s (Freestanding id form) k = k ≡ (kinds_of form).freestanding
-IsKind ks s (Method of form) k = (r : ℕ) × (k ≡ (kinds_of form).method r) × (slice_get ks r ≡ Some (Def s of.name.now))
-IsKind ks s (Static of form) k = (r : ℕ) × (k ≡ (kinds_of form).static r) × (slice_get ks r ≡ Some (Def s of.name.now))
-IsKind ks s (Constructor of) k = (r : ℕ) × (k ≡ kind.Constructor r) × (slice_get ks r ≡ Some (Def s of.name.now))
-IsKind ks s (OnSide side id form) k = k ≡ (kinds_of form).freestanding
+-- the kind of a function of a role, over the place of its resource, where `Is` says which name is at which place
+abbrev pub IsKind : (List ℕ → ℕ → Type 0) → Role → FunctionKind → Type 0
+IsKind Is (Freestanding id form) k = k ≡ (kinds_of form).freestanding
+IsKind Is (Method of form) k = (r : ℕ) × (k ≡ (kinds_of form).method r) × Is of.name.now r
+IsKind Is (Static of form) k = (r : ℕ) × (k ≡ (kinds_of form).static r) × Is of.name.now r
+IsKind Is (Constructor of) k = (r : ℕ) × (k ≡ kind.Constructor r) × Is of.name.now r
+IsKind Is (OnSide side id form) k = k ≡ (kinds_of form).freestanding
 
 -- a parameter of the package is the written one
 abbrev pub IsParam : List Key → Address → SourceParam → Param → Type 0
@@ -39,7 +38,7 @@ IsParam ks s written p = (p.name ≡ written.name) × (p.span ≡ written.span) 
 -- a function of the package is the written one
 pub record IsFunction (ks : List Key) (s : Address) (written : SourceFunction) (f : Function) : Type 0 where
   pub name : f.name ≡ written.name
-  pub kind : IsKind ks s written.role f.kind
+  pub kind : IsKind (λ name r. slice_get ks r ≡ Some (Def s name)) written.role f.kind
   pub params : OneByOne (IsParam ks s) (all_params written) f.params
   pub result : OneByOne (λ (x : Shape) (t : Ty). IsAt ks (expr_of s x) t) (option_to_list written.result) (option_to_list f.result)
   pub span : f.span ≡ written.span
@@ -68,3 +67,43 @@ placed_functions fs = placed Some (map by_name fs)
 -- in a world, a function is at its name
 abbrev pub function_item : Function → WorldKey × WorldItem
 function_item f = (key.Name f.name, item.Function f)
+
+-- an interface without a name of its own goes by its place
+abbrev pub link_key : Option Id → ℕ → WorldKey
+link_key name place = option_map_or (λ (id : Id). key.Name id.name.now) name (key.Interface place)
+
+-- it is where its name does, or else its path
+abbrev pub link_span : Option Id → UsePath → Span
+link_span name path = option_map_or (λ (id : Id). id.span) name (path_id path).span
+
+-- an interface that is imported or exported, at its place, with what is stated of it there
+abbrev pub link_item : Link → ℕ → WorldKey × WorldItem
+link_item link place = (link_key link.name place, item.Interface place (stability_of link.attributes) (stated_text ExternalId link.attributes) (docs_of link.docs) (link_span link.name link.path))
+
+-- an interface that is written there, at its place: what is stated of it is stated of the interface, but for the name that it has elsewhere
+abbrev pub inline_entry : Extern → Id → ℕ → WorldKey × WorldItem
+inline_entry x name place = (key.Name name.name.now, item.Interface place (stability_of x.attributes.items) (stated_text ExternalId x.attributes.items) no_docs name.span)
+
+-- what is on a side is there before the others; what is on the other one does not
+abbrev pub put_on : WorldSide → WorldSide → WorldKey × WorldItem → List (WorldKey × WorldItem) → List (WorldKey × WorldItem)
+put_on side own x xs = if same_side side own then x ∷ xs else xs
+
+-- These are on a side, where these are the written ones, and these functions were made; the interfaces of the package have these addresses,
+-- and those that are written there have those.
+abbrev pub AreSideItems : List Address → List TopName → WorldSide → List SideItem → List Function → List Address → List (WorldKey × WorldItem) → Type 0
+AreSideItems interfaces top side [] fs ss xs = xs ≡ []
+AreSideItems interfaces top side (SideFunction fn ∷ written) (f ∷ fs) ss xs = (rest : List (WorldKey × WorldItem)) × (xs ≡ put_on side (role_side fn.role) (function_item f) rest) × AreSideItems interfaces top side written fs ss rest
+AreSideItems interfaces top side (SideLink link ∷ written) fs ss xs = (place : ℕ) × (rest : List (WorldKey × WorldItem)) × (slice_get interfaces place ≡ Some (path_scope top link.path)) × (xs ≡ put_on side link.side (link_item link place) rest) × AreSideItems interfaces top side written fs ss rest
+AreSideItems interfaces top side (SideInline x name items ∷ written) fs (s ∷ ss) xs = (place : ℕ) × (rest : List (WorldKey × WorldItem)) × (slice_get interfaces place ≡ Some s) × (xs ≡ put_on side x.side (inline_entry x name place) rest) × AreSideItems interfaces top side written fs ss rest
+AreSideItems interfaces top side written fs ss xs = ⊥
+
+-- A side of a world with these includes: where there is none, each setter that is written before its getter comes directly after it, as in
+-- an interface; with an include, whose getters may come, all stays as it is written.
+abbrev pub settled : List Include → List (WorldKey × WorldItem) → List (WorldKey × WorldItem)
+settled [] xs = placed function_of xs
+settled (i ∷ is) xs = xs
+
+-- A world of an item has these entries on a side: after some, what the item has there, and each setter after its getter where it includes
+-- nothing.
+abbrev pub HasSide : List Address → List Address → Item → WorldSide → List Function → List (WorldKey × WorldItem) → List (WorldKey × WorldItem) → Type 0
+HasSide interfaces inside i side fs before entries = (on : List (WorldKey × WorldItem)) × AreSideItems interfaces i.top side (side_items i) fs inside on × (entries ≡ settled (includes i) (before ++ on))
