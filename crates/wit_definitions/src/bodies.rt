@@ -23,7 +23,8 @@ use wit_values::{Row, Text};
 
 /// A field of this type.
 fn field(alloc: Global, field: &tree::Field<'_>, ty: Type) -> Result<Field, AllocError>
-    ensures { IfOk result (λ r. (field_member r ≡ member field.now.docs field.now.name) × (r.ty ≡ ty)) }
+    ensures member { IfOk result (λ r. field_member r ≡ member field.now.docs field.now.name) }
+    ensures typed { IfOk result (λ r. r.ty ≡ ty) }
 {
     Ok(Field {
         name: Text::from_str(alloc, field.name.name)?,
@@ -43,7 +44,7 @@ fn resolve_fields(
     fields: &[tree::Field<'_>],
 ) -> ParseResult<Row<Field>>
     ensures members { IfOk result (λ made. map field_member made ≡ map (λ f. member f.docs f.name) fields.now) }
-    ensures resolves { ResolvesTypes scope.entry given.now types.old types.new required.old.items required.new.items (field_types fields.now) (map (λ f. f.ty)) result }
+    ensures resolves { ResolvesTypes scope.entry given.now types.old types.new required.old required.new (field_types fields.now) (map (λ f. f.ty)) result }
 {
     let mut resolved = Vec::with_capacity(alloc, fields.len())?;
     for written in fields {
@@ -77,7 +78,8 @@ fn flags(alloc: Global, flags: &[tree::Flag<'_>]) -> Result<Row<Flag>, AllocErro
 
 /// A case of a variant, with the type of what it holds.
 fn case(alloc: Global, case: &tree::Case<'_>, ty: Option<Type>) -> Result<Case, AllocError>
-    ensures { IfOk result (λ r. (case_member r ≡ (member case.now.docs case.now.name, is_some ty)) × (r.ty ≡ ty)) }
+    ensures member { IfOk result (λ r. case_member r ≡ (member case.now.docs case.now.name, is_some ty)) }
+    ensures typed { IfOk result (λ r. r.ty ≡ ty) }
 {
     Ok(Case {
         name: Text::from_str(alloc, case.name.name)?,
@@ -97,7 +99,7 @@ fn resolve_case(
     written: &tree::Case<'_>,
 ) -> ParseResult<Case>
     ensures member { IfOk result (λ made. case_member made ≡ (member written.now.docs written.now.name, is_some written.now.ty)) }
-    ensures resolves { ResolvesTypes scope.entry given.now types.old types.new required.old.items required.new.items (option_to_list written.now.ty) (λ c. option_to_list c.ty) result }
+    ensures resolves { ResolvesTypes scope.entry given.now types.old types.new required.old required.new (option_to_list written.now.ty) (λ c. option_to_list c.ty) result }
 {
     match &written.ty {
         Some(ty) => {
@@ -118,7 +120,7 @@ fn resolve_cases(
     cases: &[tree::Case<'_>],
 ) -> ParseResult<Row<Case>>
     ensures members { IfOk result (λ made. map case_member made ≡ map (λ c. (member c.docs c.name, is_some c.ty)) cases.now) }
-    ensures resolves { ResolvesTypes scope.entry given.now types.old types.new required.old.items required.new.items (case_types cases.now) (filter_map (λ c. c.ty)) result }
+    ensures resolves { ResolvesTypes scope.entry given.now types.old types.new required.old required.new (case_types cases.now) (filter_map (λ c. c.ty)) result }
 {
     let mut resolved = Vec::with_capacity(alloc, cases.len())?;
     for written in cases {
@@ -159,7 +161,7 @@ fn resolve_plain(
     given: &Stability,
     ty: &tree::Type<'_>,
 ) -> ParseResult<TypeDefKind>
-    ensures { ResolvesBody scope.entry given.now types.old types.new required.old.items required.new.items (Plain ty.now) result }
+    ensures { ResolvesBody scope.entry given.now types.old types.new required.old required.new (Plain ty.now) result }
 {
     if let tree::Type::Own(_, id) = ty {
         let resource = find_resource(alloc, types, scope, required, *id)?;
@@ -180,7 +182,7 @@ pub fn resolve_body(
     given: &Stability,
     body: &tree::TypeBody<'_>,
 ) -> ParseResult<TypeDefKind>
-    ensures { ResolvesBody scope.entry given.now types.old types.new required.old.items required.new.items body.now result }
+    ensures { ResolvesBody scope.entry given.now types.old types.new required.old required.new body.now result }
 {
     match body {
         tree::TypeBody::Record { span, fields } => {

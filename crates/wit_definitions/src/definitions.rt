@@ -1,5 +1,5 @@
 //! Definitions, as named entries of the arena.
-ghost use Rattle.wit_entries.specs.Defining.{DefinesOne};
+ghost use Rattle.wit_entries.specs.EntryFaults.{DefinesOne};
 
 use crate::bodies::resolve_body;
 use std::alloc::Global;

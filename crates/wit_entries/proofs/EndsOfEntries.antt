@@ -5,8 +5,7 @@ use Rattle.wit_types.specs.declared.types.«Type».TheVariants as type
 use Rattle.wit_types.specs.declared.types.TypeDefKind.TheVariants as kind
 use Rattle.wit_types.specs.declared.types.Handle.TheVariants as handle
 use Rattle.wit_entries.specs.declared.ends.End.{End}
-use Rattle.wit_entries.specs.EndsOfEntries.{end_means, EndsNext, AreAsStated}
-use Rattle.wit_entries.specs.EntryFaults.{end_in}
+use Rattle.wit_entries.specs.EntryFaults.{end_in, end_means, EndsNext, AreAsStated}
 use Rattle.wit_entries.proofs.Ending.{found_in}
 
 -- where the last entry ends

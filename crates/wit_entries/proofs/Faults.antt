@@ -3,8 +3,7 @@ use Rattle.std.proofs.Common.{◌≡◌, ℕ, suc, List, [], ◌∷◌, ◌++◌
 use Rattle.wit_arena.proofs.Common.{Env, Fault, Global, Id, IsOther, Span, TypeBody, TypeDef, body_types, entry_end, entry_end-same, found_end, option_or, slice_get, slice_get_within, «Type» as Written}
 use Rattle.wit_type_tree.specs.declared.types.«Type».TheVariants as written
 use Rattle.wit_walk.proofs.Common.{empty_fault, list_fault, none_both, or_none_both, tuple_fault, type_kept}
-use Rattle.wit_entries.specs.EntryFaults.{end_in, name_fault, end_fault, handled_fault, handle_fault, written_fault, types_fault, body_fault}
-use Rattle.wit_entries.specs.Requiring.{IsExtended}
+use Rattle.wit_entries.specs.EntryFaults.{end_in, name_fault, end_fault, handled_fault, handle_fault, written_fault, types_fault, body_fault, IsExtended}
 
 -- a name in a handle ends at a resource, or at a type of another package: so it does in a grown arena
 end_extended : (es more : List TypeDef) (id : Id) (place : ℕ) (o : Option TypeDef) → slice_get es place ≡ o → end_fault id (end_in es place) ≡ None → end_fault id (end_in (es ++ more) place) ≡ None

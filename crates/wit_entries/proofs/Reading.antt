@@ -6,30 +6,24 @@ use Rattle.wit_syntax.specs.Shape.{Body}
 use Rattle.wit_types.specs.declared.types.«Type».{«Type» as Ty}
 use Rattle.wit_types.specs.declared.types.«Type».TheVariants.{Id}
 use Rattle.wit_type_tree.specs.declared.types.«Type».TheVariants as written
-use Rattle.wit_arena.specs.Expr as exprs
-use Rattle.wit_arena.proofs.UnnamedKinds.{only_anonymous}
+use Rattle.wit_arena.specs.Occurrences as exprs
+use Rattle.wit_arena.proofs.Occurrence.{only_anonymous}
 use Rattle.wit_arena.proofs.Resolving.{resolved_more, resolved_whole}
 use Rattle.wit_entries.specs.declared.types.Reading.{Reading}
 use Rattle.wit_entries.specs.declared.types.Reading.TheVariants as reading
-use Rattle.wit_entries.specs.ResolvedForms.{IsResolved, AreParts, AreTypes, IsKindOf, IsLeaf, IsForm, IsRead, named_kind}
+use Rattle.wit_entries.specs.ResolvedForms.{AreParts, AreTypes, IsKindOf, IsLeaf, IsForm, IsRead, named_kind}
 
 -- the type of a name
-pub resolved_word : (es : List TypeDef) (env : Env) (given : Stability) (id : Name) (i : ℕ) → env id.name.now ≡ Some i → IsResolved es es env given (Word id) (Id i)
-resolved_word es env given id i found s = record { same = refl; from = λ decls ms m names. record { now = ms; collects = refl; occurrence = m; at = ((i, refl, names.present id.name.now i found), tt) } }
+pub resolved_word : (es : List TypeDef) (env : Env) (given : Stability) (id : Name) (i : ℕ) → env id.name.now ≡ Some i → AreParts es es env given (one (Word id)) (Id i ∷ [])
+resolved_word es env given id i found s = record { same = refl; from = λ decls ms m names. record { now = ms; collects = refl; occurrence = m; holds = ((i, refl, names.present id.name.now i found), tt) } }
 
 -- the type of a form, once it is interned
-pub whole_present : (old mid new : List TypeDef) (env : Env) (given : Stability) (x : Shape) (k : TypeDefKind) (span : Span) (i : ℕ) → IsForm old mid env given x k span → IsInterned mid new k given span i → IsResolved old new env given x (Id i)
+pub whole_present : (old mid new : List TypeDef) (env : Env) (given : Stability) (x : Shape) (k : TypeDefKind) (span : Span) (i : ℕ) → IsForm old mid env given x k span → IsInterned mid new k given span i → AreParts old new env given (one x) (Id i ∷ [])
 whole_present old mid new env given (Prim p) k span i form interned s = absurd form
 whole_present old mid new env given (Word id) k span i form interned s = absurd form
 whole_present old mid new env given (Of at f parts) k span i form interned s =
-    rw (form.0, ← form.1) (resolved_whole k given span i (only_anonymous k (subst IsAnonymousForm (sym form.1) form.2)) (form.3 s) interned)
-
--- a type by itself as one part
-pub alone : {old new : List TypeDef} {env : Env} {ty : Ty} (given : Stability) (x : Shape) → IsResolved old new env given x ty → AreParts old new env given (one x) (ty ∷ [])
-alone {old} {new} {env} {ty} given x is s = subst (λ ms. AreResolved old new s env ms (exprs.one (expr_of s x)) (ty ∷ [])) (sym (append-nil (shape_occurrences s given x))) (is s)
-
-pub types_one : {old new : List TypeDef} {env : Env} {ty : Ty} (given : Stability) (t : Written) → IsResolved old new env given (shape_of t) ty → AreTypes old new env given (t ∷ []) (ty ∷ [])
-types_one given t is s = alone given (shape_of t) is s
+    subst (λ ms. AreResolved old new s env ms (exprs.one (expr_of s (Of at f parts))) (Id i ∷ [])) (sym (append-nil (shape_occurrences s given (Of at f parts))))
+    (rw (form.0, ← form.1) (resolved_whole k given span i (only_anonymous k (subst IsAnonymousForm (sym form.1) form.2)) (form.3 s) interned))
 
 pub types_then : {old mid new : List TypeDef} {env : Env} {tys uys : List Ty} (given : Stability) (ts us : List Written) → AreTypes old mid env given ts tys → AreTypes mid new env given us uys → AreTypes old new env given (ts ++ us) (tys ++ uys)
 types_then given ts us p q s = rw (all_exprs-append s ts us, all_occurrences-append s given ts us) (resolved_more (p s) (q s))
@@ -41,7 +35,7 @@ leaf_head (Of span form parts) leaf = absurd leaf
 
 -- under a name it is the kind of the head
 pub read_kind : (old new : List TypeDef) (env : Env) (given : Stability) (x : Shape) (r : Reading) → IsRead old new env given x r → IsKindOf old new env given (head x) (named_kind r)
-read_kind old new env given x (reading.Leaf t) read = rw (leaf_head x read.0) (record { form = refl; parts = alone given x read.1 })
+read_kind old new env given x (reading.Leaf t) read = rw (leaf_head x read.0) (record { form = refl; parts = read.1 })
 read_kind old new env given (Prim p) (reading.Form k span) read = absurd read
 read_kind old new env given (Word id) (reading.Form k span) read = absurd read
 read_kind old new env given (Of at form parts) (reading.Form k span) read = record { form = read.1; parts = read.3 }

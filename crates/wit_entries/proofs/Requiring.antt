@@ -1,8 +1,7 @@
 -- Arenas that grow, and what handles require, one after another.
 use Rattle.std.proofs.Common.{◌≡◌, ℕ, suc, List, [], ◌∷◌, ◌++◌, Some, inl, inr, refl, sym, ap, ◌∙◌, subst, append_assoc}
 use Rattle.wit_arena.proofs.Common.{AreEnded, Env, Id, IsNoHandle, IsResource, IsUnknown, Required, TypeDef, all_handles, all_handles-append, append-nil, ended_append, ended_more, handles, handles-parts, part_types, «Type» as Written}
-use Rattle.wit_entries.specs.EntryFaults.{end_in}
-use Rattle.wit_entries.specs.Requiring.{IsExtended, Requires}
+use Rattle.wit_entries.specs.EntryFaults.{end_in, IsExtended, Requires}
 
 pub extended_then : (old mid new : List TypeDef) → IsExtended old mid → IsExtended mid new → IsExtended old new
 extended_then old mid new p q = record { more = p.more ++ q.more; is = q.is ∙ ap (λ (l : List TypeDef). l ++ q.more) p.is ∙ append_assoc old p.more q.more }

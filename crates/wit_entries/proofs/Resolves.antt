@@ -7,11 +7,10 @@ use Rattle.wit_types.specs.declared.types.«Type».{«Type» as Ty}
 use Rattle.wit_types.specs.declared.types.«Type».TheVariants as type
 use Rattle.wit_entries.specs.declared.types.Reading.{Reading}
 use Rattle.wit_entries.specs.declared.types.Reading.TheVariants as reading
-use Rattle.wit_entries.specs.EntryFaults.{handle_fault, lost_in, name_fault, types_fault, written_fault}
-use Rattle.wit_entries.specs.Requiring.{IsExtended, Resolved, Stopped}
+use Rattle.wit_entries.specs.EntryFaults.{handle_fault, lost_in, name_fault, types_fault, written_fault, IsExtended, Resolved, Stopped}
 use Rattle.wit_entries.specs.ResolvedForms.{AreParts, AreTypes, IsForm, IsRead}
 use Rattle.wit_entries.proofs.Faults.{types_extended, written_extended}
-use Rattle.wit_entries.proofs.Reading.{types_one, types_then, whole_present}
+use Rattle.wit_entries.proofs.Reading.{types_then, whole_present}
 use Rattle.wit_entries.proofs.Requiring.{extended_then, requires_extended, requires_none, requires_one, requires_parts, requires_types}
 use Rattle.wit_entries.specs.declared.names.TypeScope.{TypeScope}
 
@@ -54,7 +53,7 @@ memory_stopped {old} {mid} {new} p q memory = record { extended = extended_then 
 -- a type that was read, as one by itself
 pub one_read : {old new : List TypeDef} {a b : List Required} (scope : TypeScope) (given : Stability) (t : Written) (ty : Ty) → IsTypeRead scope given old new a b t (reading.Leaf ty) → ResolvedTypes scope given old new a b (t ∷ []) (ty ∷ [])
 one_read {old} {new} {a} {b} scope given t ty p = record {
-  made = types_one given t p.made.1;
+  made = p.made.1;
   handled = requires_one (env_of scope.names.now) new t a b p.handled;
   extended = p.extended;
   first = or_none (written_fault (lost_in scope.functions) (env_of scope.names.now) new t) ∙ p.first;
@@ -62,7 +61,7 @@ one_read {old} {new} {a} {b} scope given t ty p = record {
 
 pub one_interned : {old mid new : List TypeDef} {a b : List Required} (scope : TypeScope) (given : Stability) (t : Written) (k : TypeDefKind) (span : Span) (i : ℕ) → IsTypeRead scope given old mid a b t (reading.Form k span) → IsInterned mid new k given span i → IsExtended mid new → ResolvedTypes scope given old new a b (t ∷ []) (type.Id i ∷ [])
 one_interned {old} {mid} {new} {a} {b} scope given t k span i p interned more = record {
-  made = types_one given t (whole_present old mid new (env_of scope.names.now) given (shape_of t) k span i p.made interned);
+  made = whole_present old mid new (env_of scope.names.now) given (shape_of t) k span i p.made interned;
   handled = requires_one (env_of scope.names.now) new t a b (requires_extended (env_of scope.names.now) mid new (handles t) a b more p.handled);
   extended = extended_then old mid new p.extended more;
   first = or_none (written_fault (lost_in scope.functions) (env_of scope.names.now) new t) ∙ written_extended (lost_in scope.functions) (env_of scope.names.now) mid new t more p.first;

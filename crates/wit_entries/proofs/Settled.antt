@@ -7,7 +7,7 @@ use Rattle.wit_types.specs.declared.types.Case.{Case}
 use Rattle.wit_types.specs.declared.types.Handle.{Handle}
 use Rattle.wit_types.specs.declared.types.«Type».{«Type» as Ty}
 use Rattle.wit_types.specs.declared.types.TypeDefKind.TheVariants as kind
-use Rattle.wit_entries.specs.FirstStability.{known, slot_stability}
+use Rattle.wit_entries.specs.EntryFaults.{known, slot_stability}
 
 -- a known one is the first of all after it
 first_here : (x : Stability) (xs : List Stability) (s : Stability) → known x ≡ Some s → known (first_known (x ∷ xs)) ≡ Some s

@@ -8,6 +8,10 @@ use Rattle.wit_intern.specs.contracts.key.InternKeyHash.TheImpl.{hash_input-valu
 use Rattle.wit_intern.specs.declared.key.InternKey.{InternKey}
 use Rattle.wit_intern.specs.TypeKeys.{key_of}
 use Rattle.wit_intern.specs.FiniteMap.{FiniteMap, set_at}
+use Rattle.std.specs.BTreeMap as tree
+use Rattle.std.specs.Ordering.{nat_cmp}
+use Rattle.wit_intern.specs.contracts.key.InternKeyOrd.TheImpl.{cmp-value as key_cmp}
+use Rattle.wit_entries.specs.declared.unnamed_table.KeyTable.{KeyTable}
 
 -- the hash of a key
 abbrev pub key_hash_of : InternKey → ℕ
@@ -41,3 +45,11 @@ inner_of k = None
 -- the unnamed type of a kind is not right after the unnamed type that it is made of
 abbrev pub IsNotAfter : List TypeDef → TypeDefKind → Type 0
 IsNotAfter types kind = (i : ℕ) (inner e : TypeDef) → inner_of kind ≡ Some i → At types i inner → inner.name ≡ None → At types (i + 1) e → IsUnnamedOf kind e → ⊥
+
+-- the place at a hash, if one is there
+abbrev pub key_hashes_at : KeyTable → ℕ → Option ℕ
+key_hashes_at table = tree.get nat_cmp table.key_hashes
+
+-- the place at a key itself, if one is there
+abbrev pub keys_at : KeyTable → FiniteMap
+keys_at table = tree.get key_cmp.it table.keys

@@ -1,21 +1,17 @@
 -- What a written type is once its parts are resolved.
-use Rattle.std.specs.Prelude.{◌≡◌, List, [], ◌∷◌, Result}
-use Rattle.wit_arena.specs.Common.{Address, AreResolved, Body, Env, Of, ParseError, Prim, Required, Shape, Shapes, Span, Stability, TypeDef, TypeDefKind, Type_, Word, all_handles, all_shapes, env_of, handles, kind_of, shape_occurrences, shape_of, shapes_occurrences, «Type» as Ty}
+use Rattle.std.specs.Prelude.{◌≡◌, List, [], ◌∷◌, Result, Vec}
+use Rattle.wit_arena.specs.Common.{Address, AreResolved, Body, Env, Global, Of, ParseError, Prim, Required, Shape, Shapes, Span, Stability, TypeDef, TypeDefKind, Type_, Word, all_handles, all_shapes, env_of, handles, kind_of, shape_of, shapes_occurrences, «Type» as Ty}
 use Rattle.wit_type_tree.specs.declared.types.«Type».{«Type» as Written}
 use Rattle.wit_type_tree.specs.declared.types.«Type».TheVariants as written
-use Rattle.wit_arena.specs.Expr.{one, expr_of, exprs_of}
+use Rattle.wit_syntax.specs.Shape.{one}
+use Rattle.wit_arena.specs.Occurrences.{exprs_of}
 use Rattle.wit_arena.specs.Faithful.{IsAnonymousForm}
-use Rattle.wit_entries.specs.EntryFaults.{lost_in, types_fault, written_fault}
-use Rattle.wit_entries.specs.Requiring.{Resolves}
+use Rattle.wit_entries.specs.EntryFaults.{lost_in, types_fault, written_fault, Resolves}
 use Rattle.wit_entries.specs.declared.types.Reading.{Reading}
 use Rattle.wit_entries.specs.declared.types.Reading.TheVariants as reading
 use Rattle.wit_entries.specs.declared.names.TypeScope.{TypeScope}
 
--- from whatever occurred, the new arena is that with what occurs in a type, which is in a definition of this stability, and it means this
-abbrev pub IsResolved : List TypeDef → List TypeDef → Env → Stability → Shape → Ty → Type 0
-IsResolved old new env given x ty = (s : Address) → AreResolved old new s env (shape_occurrences s given x) (one (expr_of s x)) (ty ∷ [])
-
--- the same of the parts of a form, and of types, one after another
+-- from whatever occurred, the new arena is that with what occurs in the parts of a form, or in types, in a definition of this stability, and they mean these
 abbrev pub AreParts : List TypeDef → List TypeDef → Env → Stability → Shapes → List Ty → Type 0
 AreParts old new env given xs tys = (s : Address) → AreResolved old new s env (shapes_occurrences s given xs) (exprs_of s xs) tys
 
@@ -46,7 +42,7 @@ IsForm old new env given (Of at form parts) kind span = (at ≡ span) × ((kind_
 
 -- a primitive or a name is a type by now, and a form is a kind
 abbrev pub IsRead : List TypeDef → List TypeDef → Env → Stability → Shape → Reading → Type 0
-IsRead old new env given x (reading.Leaf ty) = IsLeaf x × IsResolved old new env given x ty
+IsRead old new env given x (reading.Leaf ty) = IsLeaf x × AreParts old new env given (one x) (ty ∷ [])
 IsRead old new env given x (reading.Form kind span) = IsForm old new env given x kind span
 
 -- the kind that this is under a name by itself: another word for a type, or the kind
@@ -55,9 +51,9 @@ named_kind (reading.Leaf ty) = Type_ ty
 named_kind (reading.Form kind span) = kind
 
 -- a call reads a type
-abbrev pub Reads : TypeScope → Stability → (old new : List TypeDef) → (before after : List Required) → Written → Result Reading ParseError → Type 0
-Reads s given old new before after t r = Resolves (env_of s.names.now) old new before after (handles t) (written_fault (lost_in s.functions) (env_of s.names.now) new t) (IsRead old new (env_of s.names.now) given (shape_of t)) r
+abbrev pub Reads : TypeScope → Stability → (old new : List TypeDef) → (before after : Vec Required Global) → Written → Result Reading ParseError → Type 0
+Reads s given old new before after t r = Resolves (env_of s.names.now) old new before.items after.items (handles t) (written_fault (lost_in s.functions) (env_of s.names.now) new t) (IsRead old new (env_of s.names.now) given (shape_of t)) r
 
 -- a call resolves types, one after another, to those in what it makes
-abbrev pub ResolvesTypes : {T : Type 0} → TypeScope → Stability → (old new : List TypeDef) → (before after : List Required) → List Written → (T → List Ty) → Result T ParseError → Type 0
-ResolvesTypes s given old new before after ts types r = Resolves (env_of s.names.now) old new before after (all_handles ts) (types_fault (lost_in s.functions) (env_of s.names.now) new ts) (λ x. AreTypes old new (env_of s.names.now) given ts (types x)) r
+abbrev pub ResolvesTypes : {T : Type 0} → TypeScope → Stability → (old new : List TypeDef) → (before after : Vec Required Global) → List Written → (T → List Ty) → Result T ParseError → Type 0
+ResolvesTypes s given old new before after ts types r = Resolves (env_of s.names.now) old new before.items after.items (all_handles ts) (types_fault (lost_in s.functions) (env_of s.names.now) new ts) (λ x. AreTypes old new (env_of s.names.now) given ts (types x)) r

@@ -1,8 +1,7 @@
 //! Where the entries of an arena end, through names that are other words for a type.
 ghost use Rattle.std.specs.Prelude.{◌≡◌, List, Some, [], ◌∷◌, ◌++◌, length, IfOk, OnOk, OnErr};
 ghost use Rattle.wit_types.specs.declared.types.TypeDef.{TypeDef};
-ghost use Rattle.wit_entries.specs.EndsOfEntries.{EndsNext, AreAsStated, end_means};
-ghost use Rattle.wit_entries.specs.EntryFaults.{end_in};
+ghost use Rattle.wit_entries.specs.EntryFaults.{end_in, EndsNext, AreAsStated, end_means};
 
 use std::alloc::AllocError;
 use wit_types::{Arena, Type, TypeDef, TypeDefKind, TypeId, TypePlace};

@@ -6,11 +6,8 @@ ghost use Rattle.wit_arena.specs.UnfoldedTypes.{At};
 ghost use Rattle.wit_arena.specs.Resolving.{IsUnnamedOf, IsInterned, named, unnamed};
 ghost use Rattle.wit_intern.specs.TypeKeys.{key_of};
 ghost use Rattle.wit_notes.specs.BorrowedMetadata.{metadata_view};
-ghost use Rattle.wit_entries.specs.Known.{AreKnown, IsFoundOr, IsMissing, IsSet, IsNotAfter, inner_of};
-ghost use Rattle.wit_entries.specs.UnnamedTypes.{key_hashes_at, keys_at};
-ghost use Rattle.wit_entries.specs.EntryFaults.{end_in};
-ghost use Rattle.wit_entries.specs.EndsOfEntries.{end_means};
-ghost use Rattle.wit_entries.specs.Requiring.{IsExtended};
+ghost use Rattle.wit_entries.specs.Known.{AreKnown, IsFoundOr, IsMissing, IsSet, IsNotAfter, inner_of, key_hashes_at, keys_at};
+ghost use Rattle.wit_entries.specs.EntryFaults.{end_in, end_means, IsExtended};
 
 use crate::ends::{End, add_entry, end_at};
 use crate::settling::settled;
@@ -50,9 +47,8 @@ impl Drop for Entries {
 impl Model for Entries {
     ghost use Rattle.std.specs.Prelude.{List};
     ghost use Rattle.wit_types.specs.declared.types.TypeDef.{TypeDef};
-    ghost use Rattle.wit_entries.specs.Known.{AreKnown};
-    ghost use Rattle.wit_entries.specs.UnnamedTypes.{key_hashes_at, keys_at};
-    ghost use Rattle.wit_entries.specs.EndsOfEntries.{AreAsStated};
+    ghost use Rattle.wit_entries.specs.Known.{AreKnown, key_hashes_at, keys_at};
+    ghost use Rattle.wit_entries.specs.EntryFaults.{AreAsStated};
 
     ghost Value = { List TypeDef };
 

@@ -6,9 +6,8 @@ ghost use Rattle.wit_syntax.specs.Fault.{fault_of, no_resource};
 ghost use Rattle.wit_first.specs.First.{Finds, Reports};
 ghost use Rattle.wit_arena.specs.Resolving.{env_of};
 ghost use Rattle.wit_walk.specs.Functions.{is_free, lost_word};
-ghost use Rattle.wit_rules.specs.BorrowedFunctions.{function_view};
-ghost use Rattle.wit_entries.specs.EntryFaults.{lost_in, name_fault};
-ghost use Rattle.wit_entries.specs.Requiring.{FindsResource};
+ghost use Rattle.wit_rules.specs.Signatures.{function_view};
+ghost use Rattle.wit_entries.specs.EntryFaults.{lost_in, name_fault, FindsResource};
 
 use crate::ends::End;
 use crate::entries::Entries;
@@ -116,7 +115,7 @@ pub fn find_resource(
     required: &mut Vec<Required>,
     id: Id<'_>,
 ) -> ParseResult<TypeId>
-    ensures { FindsResource scope.entry types.now required.old.items required.new.items id.entry result }
+    ensures { FindsResource scope.entry types.now required.old required.new id.entry result }
 {
     let place = find_name(alloc, scope, id)?;
     match types.end(place) {

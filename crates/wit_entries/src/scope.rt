@@ -2,7 +2,7 @@
 ghost use Rattle.std.specs.Prelude.{◌≡◌, OnOk};
 ghost use Rattle.wit_arena.specs.Resolving.{IsAdded};
 ghost use Rattle.wit_notes.specs.BorrowedMetadata.{metadata_view};
-ghost use Rattle.wit_entries.specs.Requiring.{IsExtended};
+ghost use Rattle.wit_entries.specs.EntryFaults.{IsExtended};
 
 use crate::entries::Entries;
 use std::alloc::{AllocError, Global};

@@ -5,7 +5,7 @@ ghost use Rattle.wit_types.specs.InnerTypes.{handled, slots};
 ghost use Rattle.wit_syntax.specs.Metadata.{first_known};
 ghost use Rattle.wit_arena.specs.Kind.{kind_of};
 ghost use Rattle.wit_arena.specs.Occurrences.{stability_at, settled as the_settled};
-ghost use Rattle.wit_entries.specs.FirstStability.{known as the_known, slot_stability};
+ghost use Rattle.wit_entries.specs.EntryFaults.{known as the_known, slot_stability};
 
 use std::alloc::AllocError;
 use wit_types::type_slots::{slot, slot_count};

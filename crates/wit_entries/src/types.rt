@@ -58,7 +58,7 @@ pub fn read(
     given: &Stability,
     ty: &tree::Type<'_>,
 ) -> ParseResult<Reading>
-    ensures { Reads scope.entry given.now types.old types.new required.old.items required.new.items ty.now result }
+    ensures { Reads scope.entry given.now types.old types.new required.old required.new ty.now result }
 {
     if let tree::Type::Primitive(_, primitive) = ty {
         return Ok(Reading::Leaf(primitive_type(*primitive)));
@@ -92,7 +92,7 @@ fn read_form(
 ) -> ParseResult<Reading>
     requires form { IsLeaf (shape_of ty.now) → ⊥ }
     requires unlisted { IsList ty.now → ⊥ }
-    ensures { Reads scope.entry given.now types.old types.new required.old.items required.new.items ty.now result }
+    ensures { Reads scope.entry given.now types.old types.new required.old required.new ty.now result }
 {
     match ty {
         tree::Type::FixedLengthList(span, item, size) => {
@@ -145,7 +145,7 @@ fn resolve_result(
     parts: &tree::ResultTypes<'_>,
 ) -> ParseResult<Result_>
     ensures there { IfOk result (λ r. (is_some r.ok ≡ is_some (ok_type parts.now)) × (is_some r.err ≡ is_some (err_type parts.now))) }
-    ensures resolves { ResolvesTypes scope.entry given.now types.old types.new required.old.items required.new.items (result_types parts.now) (λ r. (kind_of (Result r)).parts) result }
+    ensures resolves { ResolvesTypes scope.entry given.now types.old types.new required.old required.new (result_types parts.now) (λ r. (kind_of (Result r)).parts) result }
 {
     match parts {
         tree::ResultTypes::Neither => Ok(Result_ {
@@ -186,7 +186,7 @@ fn resolve_optional(
     ty: &Option<Box<tree::Type<'_>>>,
 ) -> ParseResult<Option<Type>>
     ensures there { IfOk result (λ o. is_some o ≡ is_some ty.now) }
-    ensures resolves { ResolvesTypes scope.entry given.now types.old types.new required.old.items required.new.items (boxed_types ty.now) option_to_list result }
+    ensures resolves { ResolvesTypes scope.entry given.now types.old types.new required.old required.new (boxed_types ty.now) option_to_list result }
 {
     match ty {
         Some(ty) => {
@@ -207,7 +207,7 @@ fn resolve_types(
     given: &Stability,
     parts: &[tree::Type<'_>],
 ) -> ParseResult<Row<Type>>
-    ensures { ResolvesTypes scope.entry given.now types.old types.new required.old.items required.new.items parts.now (λ r. r) result }
+    ensures { ResolvesTypes scope.entry given.now types.old types.new required.old required.new parts.now (λ r. r) result }
 {
     let mut resolved = Vec::with_capacity(alloc, parts.len())?;
     for part in parts {
@@ -229,7 +229,7 @@ pub fn resolve_type(
     given: &Stability,
     ty: &tree::Type<'_>,
 ) -> ParseResult<Type>
-    ensures { ResolvesTypes scope.entry given.now types.old types.new required.old.items required.new.items (ty.now ∷ []) (λ t. t ∷ []) result }
+    ensures { ResolvesTypes scope.entry given.now types.old types.new required.old required.new (ty.now ∷ []) (λ t. t ∷ []) result }
 {
     let reading = read(alloc, types, scope, required, given, ty)?;
     match reading {

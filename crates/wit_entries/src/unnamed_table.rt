@@ -1,7 +1,6 @@
 //! A table that finds unnamed types by what they are.
 ghost use Rattle.std.specs.Prelude.{◌≡◌, Some, OnOk, OnErr};
-ghost use Rattle.wit_entries.specs.Known.{IsSet, key_hash_of};
-ghost use Rattle.wit_entries.specs.UnnamedTypes.{key_hashes_at, keys_at};
+ghost use Rattle.wit_entries.specs.Known.{IsSet, key_hash_of, key_hashes_at, keys_at};
 
 use std::alloc::{AllocError, Global};
 use std::collections::BTreeMap;

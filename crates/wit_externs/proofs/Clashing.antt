@@ -3,8 +3,8 @@ use Rattle.std.proofs.Common.{◌≡◌, ℕ, ◌+◌, Bool, List, [], ◌∷◌
 use Rattle.wit_arena.proofs.Common.{AllDiffer, Constructor, Err, Exported, Freestanding, FuncForm, Id, Imported, Method, Ok, OnOk, OnSide, Result, Role, SideItem, Span, Static, WorldSide, append-nil, item_side, items_on, names_on, role_side, same_side, slice_get}
 use Rattle.wit_refusals.specs.NameScopes.{Name, AreUsed}
 use Rattle.wit_sides.specs.SideNames.{only_on}
-use Rattle.wit_rules.specs.BorrowedFunctions.{across_of}
-use Rattle.wit_signatures.specs.ForeignName.{name_key}
+use Rattle.wit_rules.specs.Signatures.{across_of}
+use Rattle.wit_signatures.specs.FunctionsOfScope.{name_key}
 use Rattle.wit_externs.specs.Clash.{item_names, names_of_items}
 use Rattle.wit_externs.proofs.Named.{keys_more}
 use Rattle.wit_externs.proofs.Steps.{kept_next, kept_one}

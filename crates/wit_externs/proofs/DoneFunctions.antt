@@ -4,10 +4,9 @@ use Rattle.wit_arena.proofs.Common.{Address, AddsFunctions, All-push, All-same, 
 use Rattle.wit_refusals.specs.NameScopes.{Name}
 use Rattle.wit_rules.specs.declared.function_scope.FunctionScope.{FunctionScope}
 use Rattle.wit_rules.specs.declared.borrowed.BorrowedFunction.{BorrowedFunction}
-use Rattle.wit_rules.specs.BorrowedFunctions.{function_view}
-use Rattle.wit_entries.specs.Requiring.{IsExtended, Requires}
-use Rattle.wit_rules.specs.Signatures.{functions_view}
-use Rattle.wit_signatures.specs.ForeignName.{name_of_function, name_of_made}
+use Rattle.wit_rules.specs.Signatures.{function_view, functions_view}
+use Rattle.wit_entries.specs.EntryFaults.{IsExtended, Requires}
+use Rattle.wit_signatures.specs.FunctionsOfScope.{name_of_function, name_of_made}
 use Rattle.wit_entries.proofs.Requiring.{extended_then, requires_types}
 
 -- the first functions of a scope are resolved

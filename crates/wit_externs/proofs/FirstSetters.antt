@@ -1,16 +1,15 @@
 -- The first setter without its getter, by the names of a scope or of a side among which are those of functions, in their order.
 use Rattle.std.proofs.Common.{◌≡◌, ◌⊎◌, ◌||◌, ◌&&◌, not, ℕ, suc, Bool, true, false, List, [], ◌∷◌, ◌++◌, map, take, Option, Some, None, Result, Ok, Err, inl, inr, refl, sym, ap, ◌∙◌, subst, arith, Contains}
 use Rattle.wit_arena.proofs.Common.{Exported, Fault, Id, IfErr, Imported, OnOk, ParseError, Refused, SideFunction, SideInline, SideItem, SideLink, SourceFunction, WorldSide, and_parts, any_found, at_contains, at_take, bytes_eq, cases_Bool, cond-false, cond-true, contains_at, false_from_ne_true, fault_of, flat_map, getter_of, if◌then◌else◌, is_label, is_setter, item_function, item_side, items_on, kept_at, list_any, lone_setter, map_at, name_equal, name_itself, names_on, not-true, on_side, option_map_or, option_or, or_parts, role_side, same_side, slice_get}
-use Rattle.wit_walk.proofs.Common.{Finds, any_some, first_in, in-at, in_some, is_setter as form_sets, setter_fault}
+use Rattle.wit_walk.proofs.Common.{Finds, any-map, any_some, first_in, in-at, in_some, is_setter as form_sets, setter_fault}
 use Rattle.wit_functions.proofs.InTurn.{list_any-filter_none}
 use Rattle.wit_walk.proofs.ScopeFaults.{if_some}
 use Rattle.wit_refusals.specs.NameScopes.{Name, IsLoneSetter, IsFirstLoneSetter}
 use Rattle.wit_rules.specs.declared.borrowed.BorrowedFunction.{BorrowedFunction}
-use Rattle.wit_rules.specs.BorrowedFunctions.{function_view}
-use Rattle.wit_signatures.specs.ForeignName.{name_of_function, name_of_id}
+use Rattle.wit_rules.specs.Signatures.{function_view}
+use Rattle.wit_signatures.specs.FunctionsOfScope.{name_of_function, name_of_id}
 use Rattle.wit_signatures.proofs.Mangling.{no_label-getter_of, no_setter-label, set_view}
-use Rattle.wit_externs.specs.AloneFaults.{lone_setters}
-use Rattle.wit_externs.specs.Clash.{all_on, names_of_items}
+use Rattle.wit_externs.specs.Clash.{lone_setters, all_on, names_of_items}
 
 -- one of these names is this, and the fault of a name: it is a setter's, and none of these is its getter's
 abbrev is_among : List Name → List ℕ → Bool
@@ -187,14 +186,10 @@ none_set fns (fn ∷ gs) none =
     let parts = or_parts (form_sets fn.func.form) (list_any (λ (g : SourceFunction). form_sets g.func.form) gs) none in
     ap (λ (b : Bool). option_or (if b && not (list_any (λ (g : SourceFunction). bytes_eq g.name (getter_of fn.name)) fns) then Some (lone_setter fn.name fn.span) else None) (first_in (setter_fault fns) gs)) parts.0 ∙ none_set fns gs parts.1
 
-any_borrowed : (hs : List BorrowedFunction) → list_any (λ (fn : SourceFunction). form_sets fn.func.form) (map function_view hs) ≡ list_any (λ (h : BorrowedFunction). form_sets (function_view h).func.form) hs
-any_borrowed [] = refl
-any_borrowed (h ∷ hs) = ap (λ (b : Bool). form_sets (function_view h).func.form || b) (any_borrowed hs)
-
 pub none_borrowed : (hs : List BorrowedFunction) → list_any (λ (h : BorrowedFunction). form_sets (function_view h).func.form) hs ≡ false → lone_setters (map function_view hs) ≡ None
-none_borrowed hs none = none_set (map function_view hs) (map function_view hs) (any_borrowed hs ∙ none)
+none_borrowed hs none = none_set (map function_view hs) (map function_view hs) (any-map (λ (fn : SourceFunction). form_sets fn.func.form) function_view hs ∙ none)
 
 pub none_on : (side : WorldSide) (hs : List BorrowedFunction) → list_any (λ (h : BorrowedFunction). form_sets (function_view h).func.form) hs ≡ false → lone_setters (on_side side (map function_view hs)) ≡ None
 none_on side hs none =
     let fns = map function_view hs in
-    none_set (on_side side fns) (on_side side fns) (list_any-filter_none (λ (fn : SourceFunction). form_sets fn.func.form) (λ (fn : SourceFunction). same_side side (role_side fn.role)) fns (any_borrowed hs ∙ none))
+    none_set (on_side side fns) (on_side side fns) (list_any-filter_none (λ (fn : SourceFunction). form_sets fn.func.form) (λ (fn : SourceFunction). same_side side (role_side fn.role)) fns (any-map (λ (fn : SourceFunction). form_sets fn.func.form) function_view hs ∙ none))

@@ -2,7 +2,7 @@
 use Rattle.std.proofs.Common.{ℕ, ◌+◌, List, [], ◌∷◌, ◌++◌, sym, subst}
 use Rattle.wit_arena.proofs.Common.{AllDiffer, Span, differ_more, folded_key, map, map-append, map_at}
 use Rattle.wit_refusals.specs.NameScopes.{Name, AreUsed}
-use Rattle.wit_signatures.specs.ForeignName.{name_key}
+use Rattle.wit_signatures.specs.FunctionsOfScope.{name_key}
 
 -- the keys differ once a name is defined whose key is not in use
 pub keys_more : (names : List Name) (name : List ℕ) (span : Span) → (AreUsed names name → ⊥) → AllDiffer (map name_key names) → AllDiffer (map name_key (names ++ (name, span) ∷ []))

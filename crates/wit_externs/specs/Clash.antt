@@ -1,10 +1,21 @@
--- The names of what is on the sides of a scope, of which no two on one side may have one key.
-use Rattle.std.specs.Prelude.{◌≡◌, ◌++◌, List, [], ◌∷◌, map}
-use Rattle.wit_arena.specs.Common.{AllDiffer, Id, SideFunction, SideInline, SideItem, SideLink, SourceFunction, WorldSide, flat_map, item_function, items_on, names_on, option_map_or}
+-- What is on the sides of a scope, of which no two names may have one key, and the first fault of its functions where nothing else is there, E17, E22, E26 to E42, and of setters, E18.
+use Rattle.std.specs.Prelude.{◌≡◌, ◌++◌, List, [], ◌∷◌, map, ℕ, Option, Contains, ◌⊎◌, codes, MatchResult, None, Result, Some, Vec}
+use Rattle.wit_arena.specs.Common.{AllDiffer, Env, Exported, Fault, Global, Id, Imported, Names, ParseError, Required, ScopeName, SideFunction, SideInline, SideItem, SideLink, SourceFunction, Span, TypeDef, UsePath, WorldSide, all_handles, env_of, fault_in, fault_of, flat_map, item_function, items_on, keys_of, linked_twice, names_on, on_side, option_map_or, option_or, option_to_list, role_side, written_types}
 use Rattle.wit_refusals.specs.NameScopes.{Name}
 use Rattle.wit_sides.specs.SideNames.{defined_on}
 use Rattle.wit_sides.specs.declared.sides.Sides.{Sides}
-use Rattle.wit_signatures.specs.ForeignName.{name_key, name_of_id, name_of_function}
+use Rattle.wit_signatures.specs.FunctionsOfScope.{name_key, name_of_id, name_of_function}
+use Rattle.wit_externs.specs.declared.links.Links.{Links}
+use Rattle.wit_type_tree.specs.declared.types.«Type».{«Type» as Written}
+use Rattle.wit_type_tree.specs.RefusalText.{IsAllocationFailure}
+use Rattle.wit_syntax.specs.Words.{clash}
+use Rattle.wit_first.specs.First.{clash_of, first_after, first_in}
+use Rattle.wit_first.specs.TypeFaults.{type_fault}
+use Rattle.wit_walk.specs.Functions.{function_fault, lost_word}
+use Rattle.wit_walk.specs.Setters.{setter_fault}
+use Rattle.wit_rules.specs.Signatures.{IsScopeOf, functions_view}
+use Rattle.wit_rules.specs.declared.function_scope.FunctionScope.{FunctionScope}
+use Rattle.wit_entries.specs.EntryFaults.{end_fault, end_in, name_fault, Requires}
 
 -- the name that it has: an interface may have none of its own
 abbrev pub item_names : SideItem → List Name
@@ -38,3 +49,82 @@ AreNamesWith names ids fns = (items : List SideItem) × (flat_map item_function 
 -- on each side no two names have one key
 abbrev pub DifferOnSides : List Id → List SideItem → Type 0
 DifferOnSides ids items = (side : WorldSide) → AllDiffer (map name_key (all_on side ids items))
+
+-- the place of an interface that has no name of its own
+abbrev pub bare_place : (UsePath → Option ℕ) → SideItem → List ℕ
+bare_place lead (SideFunction fn) = []
+bare_place lead (SideLink link) = option_map_or (λ id. []) link.name (option_to_list (lead link.path))
+bare_place lead (SideInline x name items) = []
+
+abbrev pub bare_places : (UsePath → Option ℕ) → List SideItem → List ℕ
+bare_places lead xs = flat_map (bare_place lead) xs
+
+-- the places of the interfaces on a side that have no name of their own
+abbrev pub linked_on : WorldSide → Links → List ℕ
+linked_on Imported l = keys_of l.imports
+linked_on Exported l = keys_of l.exports
+
+-- an interface is put after these, and was none of them
+abbrev pub IsPutAfter : List ℕ → List ℕ → ℕ → Type 0
+IsPutAfter old new id = (new ≡ old ++ id ∷ []) × (Contains old id → ⊥)
+
+-- an interface is one of these
+pub record IsLinked (side : WorldSide) (ids : List ℕ) (id : ℕ) (span : Span) (f : Fault) : Type 0 where
+  pub among : Contains ids id
+  pub is : f ≡ linked_twice side span
+
+-- of a name in a handle that means something, this is the fault of where that ends in an arena
+abbrev pub EndsIn : Env → List TypeDef → (Id → Option Fault) → Type 0
+EndsIn env es handle = (id : Id) (place : ℕ) → env id.name.now ≡ Some place → handle id ≡ end_fault id (end_in es place)
+
+-- a test of names in handles finds nothing where the end of one in an arena is right
+abbrev pub IsSafe : Env → List TypeDef → (Id → Option Fault) → Type 0
+IsSafe env es handle = (id : Id) (place : ℕ) → env id.name.now ≡ Some place → end_fault id (end_in es place) ≡ None → handle id ≡ None
+
+-- What a call finds, where a test of names in handles says which fault is the first: by each test that is right of an arena, that one; and where
+-- there is none, each test that finds nothing right in it says so.
+abbrev pub FindsIn : {T : Type 0} → Env → List TypeDef → ((Id → Option Fault) → Option Fault) → Result T ParseError → Type 0
+FindsIn env es wrong r = MatchResult r (λ _. (handle : Id → Option Fault) → IsSafe env es handle → wrong handle ≡ None) (λ e. IsAllocationFailure e ⊎ ((handle : Id → Option Fault) → EndsIn env es handle → wrong handle ≡ Some (fault_of e)))
+
+-- one of these names has the key of a name
+abbrev pub again : Name → Name → Fault
+again earlier later = fault_in 17 later.1 (clash (codes "name") earlier.0 later.0)
+
+abbrev pub again_fault : List Name → Name → Option Fault
+again_fault before n = clash_of name_key again before n
+
+-- of names that are defined after these, one after another
+abbrev pub defined_fault : List Name → List Name → Option Fault
+defined_fault before names = first_after (λ earlier. again_fault (before ++ earlier)) [] names
+
+-- of a name in a signature, by the functions up to that one: what it means in a scope
+abbrev pub words_in : Env → List SourceFunction → Id → Option Fault
+words_in env fns id = name_fault (lost_word fns) env id
+
+-- of a type in the signature of the last of these functions, where these are the faults of a name, and of one in a handle that means something
+abbrev pub signed_by : (List SourceFunction → Id → Option Fault) → (Id → Option Fault) → List SourceFunction → Written → Option Fault
+signed_by word handle fns t = type_fault (word fns) (λ (id : Id). option_or (word fns id) (handle id)) t
+
+-- of a function after others, on a side after these names: itself, and then its name
+abbrev pub alone_fault : (List SourceFunction → Id → Option Fault) → (Id → Option Fault) → List ScopeName → (WorldSide → List Name) → List SourceFunction → SourceFunction → Option Fault
+alone_fault word handle xs names before fn = option_or (function_fault (signed_by word handle (before ++ fn ∷ [])) xs fn) (again_fault (names (role_side fn.role) ++ names_of_items (items_on (role_side fn.role) (map SideFunction before))) (name_of_function fn))
+
+-- of functions, one after another
+abbrev pub alone_faults : (List SourceFunction → Id → Option Fault) → (Id → Option Fault) → List ScopeName → (WorldSide → List Name) → List SourceFunction → Option Fault
+alone_faults word handle xs names fns = first_after (alone_fault word handle xs names) [] fns
+
+-- of setters: the first of functions that has no getter among them
+abbrev pub lone_setters : List SourceFunction → Option Fault
+lone_setters fns = first_in (setter_fault fns) fns
+
+-- of both sides
+abbrev pub sides_setters : List SourceFunction → Option Fault
+sides_setters fns = option_or (lone_setters (on_side Imported fns)) (lone_setters (on_side Exported fns))
+
+-- this is what the handles in the signatures of functions require
+abbrev pub SignaturesRequire : Names → List TypeDef → List SourceFunction → Vec Required Global → Vec Required Global → Type 0
+SignaturesRequire names types fns before after = Requires (env_of names) types (all_handles (flat_map written_types fns)) before.items after.items
+
+-- what a call finds of the functions of a scope, whichever its names are, after the names that are defined
+abbrev pub FindsAlone : {T : Type 0} → FunctionScope → List TypeDef → Sides → Result T ParseError → Type 0
+FindsAlone scope types names r = (xs : List ScopeName) → IsScopeOf scope xs → FindsIn (env_of scope.names.now) types (λ handle. alone_faults (words_in (env_of scope.names.now)) handle xs (λ s. defined_on s names) (functions_view scope)) r

@@ -1,4 +1,1 @@
-pub mod AloneFaults
 pub mod Clash
-pub mod Links
-pub mod Next

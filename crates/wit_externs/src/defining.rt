@@ -4,10 +4,9 @@ ghost use Rattle.wit_names.specs.Mangled.{is_mangled};
 ghost use Rattle.wit_syntax.specs.Sides.{SideFunction, role_side};
 ghost use Rattle.wit_first.specs.First.{Finds};
 ghost use Rattle.wit_sides.specs.SideNames.{defined_on};
-ghost use Rattle.wit_rules.specs.BorrowedFunctions.{function_view};
-ghost use Rattle.wit_signatures.specs.ForeignName.{name_of_made, name_of_function};
-ghost use Rattle.wit_externs.specs.AloneFaults.{again_fault};
-ghost use Rattle.wit_externs.specs.Clash.{DefinesNames, StayApart};
+ghost use Rattle.wit_rules.specs.Signatures.{function_view};
+ghost use Rattle.wit_signatures.specs.FunctionsOfScope.{name_of_made, name_of_function};
+ghost use Rattle.wit_externs.specs.Clash.{again_fault, DefinesNames, StayApart};
 
 use wit_functions::Function;
 use wit_rules::borrowed::BorrowedFunction;

@@ -5,11 +5,10 @@ ghost use Rattle.wit_tree.specs.declared.tree.WorldSide.{WorldSide};
 ghost use Rattle.wit_syntax.specs.Sides.{names_on};
 ghost use Rattle.wit_first.specs.First.{Finds};
 ghost use Rattle.wit_walk.specs.Setters.{is_setter};
-ghost use Rattle.wit_rules.specs.BorrowedFunctions.{function_view};
+ghost use Rattle.wit_rules.specs.Signatures.{function_view};
 ghost use Rattle.wit_sides.specs.SideNames.{defined_on};
-ghost use Rattle.wit_signatures.specs.ForeignName.{name_of_id, name_of_function};
-ghost use Rattle.wit_externs.specs.AloneFaults.{defined_fault, lone_setters, sides_setters};
-ghost use Rattle.wit_externs.specs.Clash.{AreNamesWith, StayApart};
+ghost use Rattle.wit_signatures.specs.FunctionsOfScope.{name_of_id, name_of_function};
+ghost use Rattle.wit_externs.specs.Clash.{defined_fault, lone_setters, sides_setters, AreNamesWith, StayApart};
 
 use wit_refusals::NameScope;
 use wit_rules::borrowed::BorrowedFunction;

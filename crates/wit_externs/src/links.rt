@@ -4,7 +4,7 @@ ghost use Rattle.std.specs.Map.{keys_of};
 ghost use Rattle.wit_syntax.specs.Broken.{Refused};
 ghost use Rattle.wit_syntax.specs.Words.{side_word};
 ghost use Rattle.wit_sides.specs.SideNames.{only_on};
-ghost use Rattle.wit_externs.specs.Next.{IsLinked, IsPutAfter, linked_on};
+ghost use Rattle.wit_externs.specs.Clash.{IsLinked, IsPutAfter, linked_on};
 
 use std::alloc::{AllocError, Global};
 use wit_maps::Table;

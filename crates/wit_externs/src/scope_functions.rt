@@ -1,14 +1,12 @@
 //! The functions of a scope, one after another, where nothing else is on its sides.
-ghost use Rattle.std.specs.Prelude.{◌≡◌, IfOk, List, OnOk, map};
+ghost use Rattle.std.specs.Prelude.{◌≡◌, IfOk, OnOk, map};
 ghost use Rattle.wit_syntax.specs.Address.{Address};
 ghost use Rattle.wit_syntax.specs.Sides.{SideFunction};
-ghost use Rattle.wit_syntax.specs.Source.{ScopeName};
 ghost use Rattle.wit_arena.specs.Resolving.{env_of, AddsFunctions};
-ghost use Rattle.wit_entries.specs.Requiring.{IsExtended};
-ghost use Rattle.wit_rules.specs.Signatures.{functions_view, HaveOwners, IsScopeOf};
-ghost use Rattle.wit_signatures.specs.ForeignName.{name_of_function, name_of_made};
-ghost use Rattle.wit_externs.specs.Clash.{DefinesNames, StayApart};
-ghost use Rattle.wit_externs.specs.AloneFaults.{FindsAlone, SignaturesRequire};
+ghost use Rattle.wit_entries.specs.EntryFaults.{IsExtended};
+ghost use Rattle.wit_rules.specs.Signatures.{functions_view, HaveOwners};
+ghost use Rattle.wit_signatures.specs.FunctionsOfScope.{name_of_function, name_of_made};
+ghost use Rattle.wit_externs.specs.Clash.{DefinesNames, StayApart, FindsAlone, SignaturesRequire};
 
 use crate::defining::define_alone;
 use std::alloc::Global;
@@ -37,9 +35,9 @@ pub fn resolve_functions(
     ensures named { IfOk result (λ fs. map name_of_made fs.items ≡ map name_of_function (functions_view scope.entry)) }
     ensures defined { OnOk result (DefinesNames in_use.old in_use.new (map SideFunction (functions_view scope.entry))) }
     ensures differ { OnOk result (StayApart in_use.old in_use.new) }
-    ensures handled { OnOk result (SignaturesRequire scope.entry.names.now types.new (functions_view scope.entry) required.old.items required.new.items) }
+    ensures handled { OnOk result (SignaturesRequire scope.entry.names.now types.new (functions_view scope.entry) required.old required.new) }
     ensures extended { IsExtended types.old types.new }
-    ensures first { (xs : List ScopeName) → IsScopeOf scope.entry xs → FindsAlone scope.entry types.new in_use.old xs result }
+    ensures first { FindsAlone scope.entry types.new in_use.old result }
 {
     let mut functions = Vec::with_capacity(alloc, scope.functions.len())?;
     for borrowed in scope.functions {

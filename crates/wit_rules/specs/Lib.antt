@@ -1,2 +1,1 @@
-pub mod BorrowedFunctions
 pub mod Signatures

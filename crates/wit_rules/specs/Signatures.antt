@@ -1,13 +1,43 @@
--- What the functions of a scope are resolved in, and over which types.
-use Rattle.std.specs.Prelude.{◌≡◌, ℕ, nat_eq, List, length, map, Option, Some, None, IsSome, slice_get, ⊤}
-use Rattle.wit_arena.specs.Common.{Address, Env, Fault, Id, Param, ScopeName, Shape, SourceFunction, SourceParam, TypeDef, env_of, lookup, meaning, option_to_list, pointwise, «Type» as Ty}
+-- Written functions that are borrowed until their types are resolved, and what they are resolved in.
+use Rattle.std.specs.Prelude.{Option, Some, None, ◌≡◌, ℕ, nat_eq, List, map, IsSome, slice_get, ⊤}
+use Rattle.wit_arena.specs.Common.{Address, Constructor, Env, Fault, Id, Method, OnSide, Param, Role, ScopeName, Shape, SourceFunction, SourceParam, Static, TypeDef, WorldSide, env_of, free_function, lookup, meaning, option_to_list, pointwise, resource_function, side_function, «Type» as Ty}
+use Rattle.wit_rules.specs.declared.borrowed.BorrowedFunction.{BorrowedFunction}
+use Rattle.wit_rules.specs.declared.borrowed.BorrowedFunction.TheVariants.{Free, Of, Across}
 use Rattle.wit_type_tree.specs.declared.types.«Type».{«Type» as Written}
 use denote.Ref.{Bor}
-use Rattle.wit_arena.specs.Adding.{AreShapes, SaysParam}
+use Rattle.wit_arena.specs.OneByOne.{OneByOne}
+use Rattle.wit_arena.specs.Resolving.{AreShapes, SaysParam}
 use Rattle.wit_syntax.specs.SignatureRules.{ok_of, meant_ok, result_ok}
 use Rattle.wit_first.specs.FunctionFaults.{result_fault}
 use Rattle.wit_rules.specs.declared.function_scope.FunctionScope.{FunctionScope}
-use Rattle.wit_rules.specs.BorrowedFunctions.{function_view, owner_of}
+
+-- the function that is borrowed
+abbrev pub function_view : BorrowedFunction → SourceFunction
+function_view (Free f) = free_function f.now
+function_view (Of r f) = resource_function r f.now
+function_view (Across side docs attributes name f) = side_function side docs.now attributes.now name f.now
+
+-- the resource that a function belongs to
+abbrev pub owner_of : Role → Option Id
+owner_of (Method of form) = Some of
+owner_of (Static of form) = Some of
+owner_of (Constructor of) = Some of
+owner_of role = None
+
+-- the resource that a method is first given
+abbrev pub given_of : Role → Option Id
+given_of (Method of form) = Some of
+given_of role = None
+
+-- the side of a world that imports or exports a function
+abbrev pub across_of : Role → Option WorldSide
+across_of (OnSide side id form) = Some side
+across_of role = None
+
+-- the resource that a constructor makes
+abbrev pub made_of : Role → Option Id
+made_of (Constructor of) = Some of
+made_of role = None
 
 -- what the definition of a name gives where all is well, by a table of definitions that are written as results
 abbrev pub stated_ok : Option (Bor Written) → Option (Option Written)
@@ -41,8 +71,7 @@ pub record HaveOwners (env : Env) (fns : List SourceFunction) : Type 0 where
 
 -- these are the parameters, over their types, which were added to the arena
 pub record AreParamsOver (old new : List TypeDef) (env : Env) (ws : List SourceParam) (ps : List Param) : Type 0 where
-  pub count : length ps ≡ length ws
-  pub each : (k : ℕ) (w : SourceParam) (p : Param) → slice_get ws k ≡ Some w → slice_get ps k ≡ Some p → SaysParam w p
+  pub says : OneByOne SaysParam ws ps
   pub types : (s : Address) → AreShapes old new s env (map (λ w. w.shape) ws) (map (λ p. p.ty) ps)
 
 -- this is the type of a result, which was added to the arena, where there is one

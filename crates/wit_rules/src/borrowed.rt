@@ -3,7 +3,7 @@ ghost use Rattle.std.specs.Prelude.{◌≡◌, ◌++◌, length, IfOk, string_by
 ghost use Rattle.std.specs.Option.{option_map};
 ghost use Rattle.wit_syntax.specs.Function.{accessor, all_params, resource_function};
 ghost use Rattle.wit_syntax.specs.Sides.{role_side};
-ghost use Rattle.wit_rules.specs.BorrowedFunctions.{function_view, given_of, made_of, across_of};
+ghost use Rattle.wit_rules.specs.Signatures.{function_view, given_of, made_of, across_of};
 
 use std::alloc::{AllocError, Global};
 use wit_tree::Span;

@@ -11,8 +11,7 @@ ghost use Rattle.wit_first.specs.FunctionFaults.{getter_fault, given_fault, is_w
 ghost use Rattle.wit_syntax.specs.Source.{ScopeName};
 ghost use Rattle.wit_syntax.specs.Function.{all_params};
 ghost use Rattle.wit_syntax.specs.SignatureRules.{ok_span as the_ok_span, result_ok as the_result_ok};
-ghost use Rattle.wit_rules.specs.BorrowedFunctions.{function_view};
-ghost use Rattle.wit_rules.specs.Signatures.{AreResults, gives_fault};
+ghost use Rattle.wit_rules.specs.Signatures.{function_view, AreResults, gives_fault};
 
 use crate::borrowed::BorrowedFunction;
 use crate::function_scope::{result_ok, span_of};

@@ -2,10 +2,9 @@
 use Rattle.std.proofs.Common.{◌≡◌, ◌≤◌, ◌+◌, ℕ, List, [], ◌++◌, length, take, true, false, nat_eq, Option, Some, None, inl, inr, ap, ◌∙◌, subst, arith, sym}
 use Rattle.wit_arena.proofs.Common.{Env, Fault, ParseError, ScopeName, SourceFunction, SourceParam, TypeDef, cases_lt, lower_case, map, option_eq, option_or, param_twice, slice_get, written_param, «Type» as Written}
 use Rattle.wit_walk.proofs.Common.{IsFirstRepeat, Param, Reports, after_kept, first_after, function_fault, given_fault, lost_word, metadata_fault, none_both, or_none_both, param_fault, repeat_after, repeat_found, repeat_of, reports_back, reports_prefix, return_fault, unrepeated}
-use Rattle.wit_entries.specs.Requiring.{IsExtended}
+use Rattle.wit_entries.specs.EntryFaults.{IsExtended, written_fault}
 use Rattle.wit_entries.proofs.Faults.{written_extended}
 use Rattle.wit_walk.proofs.FunctionFaults.{param_at, params_before}
-use Rattle.wit_entries.specs.EntryFaults.{written_fault}
 use Rattle.wit_signatures.specs.FunctionsOfScope.{params_fault}
 
 -- a parameter by its name, and the fault of a later one

@@ -1,6 +1,7 @@
 -- Parameters and results over their types, one after the other.
-use Rattle.std.proofs.Common.{◌≡◌, ◌≤◌, ℕ, zero, suc, List, [], ◌∷◌, ◌++◌, length, map, Option, Some, None, inl, inr, refl, sym, ap, ◌∙◌, subst, arith, append_assoc, length-append}
-use Rattle.wit_arena.proofs.Common.{Address, AreShapes, Env, Id, IsInterned, Param, ResourceFunc, SaysParam, Shape, SourceParam, Span, TypeDef, Unknown, Word, at_split, map-append, resource_function, self_param, shapes_append, shapes_none, shapes_one, slice_get, slice_get_within, written_param, «Type» as Written}
+use Rattle.std.proofs.Common.{◌≡◌, ◌≤◌, ℕ, List, [], ◌∷◌, ◌++◌, length, map, Option, Some, None, refl, sym, ap, ◌∙◌, subst, arith, append_assoc}
+use Rattle.wit_arena.proofs.Common.{Address, AreShapes, Env, Id, IsInterned, Param, ResourceFunc, SaysParam, Shape, SourceParam, Span, TypeDef, Unknown, map-append, resource_function, self_param, shapes_append, shapes_none, written_param, «Type» as Written}
+use Rattle.wit_arena.proofs.Required.{one_by_one-append, one_by_one-more, one_by_one-none}
 use Rattle.wit_walk.proofs.Common.{Param as WrittenParam}
 use Rattle.wit_type_tree.specs.declared.types.ResourceFunc.TheVariants as resource
 use Rattle.wit_types.specs.declared.types.«Type».{«Type» as Ty}
@@ -9,43 +10,20 @@ use Rattle.wit_types.specs.declared.types.TypeDefKind.TheVariants as kind
 use Rattle.wit_types.specs.declared.types.Handle.TheVariants as handle
 use Rattle.wit_rules.specs.declared.borrowed.BorrowedFunction.{BorrowedFunction}
 use Rattle.wit_rules.specs.declared.borrowed.BorrowedFunction.TheVariants as borrowed
-use Rattle.wit_rules.specs.BorrowedFunctions.{function_view, given_of}
-use Rattle.wit_entries.specs.ResolvedForms.{AreTypes, IsResolved}
-use Rattle.wit_rules.specs.Signatures.{AreParamsOver, IsResultOver}
-use Rattle.wit_entries.proofs.Reading.{alone, resolved_word, whole_present}
+use Rattle.wit_rules.specs.Signatures.{function_view, given_of, AreParamsOver, IsResultOver}
+use Rattle.wit_entries.specs.ResolvedForms.{AreTypes}
+use Rattle.wit_entries.proofs.Reading.{resolved_word, whole_present}
 use Rattle.wit_signatures.proofs.SignatureTypes.{result_shape}
 
 params_none : (es : List TypeDef) (env : Env) → AreParamsOver es es env [] []
-params_none es env = record { count = refl; each = λ k w p at. absurd (let f : ⊥ = cc in f); types = λ s. shapes_none es s env }
+params_none es env = record { says = one_by_one-none SaysParam; types = λ s. shapes_none es s env }
 
 params_one : (old new : List TypeDef) (env : Env) (w : SourceParam) (p : Param) → SaysParam w p → ((s : Address) → AreShapes old new s env (w.shape ∷ []) (p.ty ∷ [])) → AreParamsOver old new env (w ∷ []) (p ∷ [])
-params_one old new env w p says is = record { count = refl; each = only; types = is }
-  where
-    only : (k : ℕ) (v : SourceParam) (q : Param) → slice_get (w ∷ []) k ≡ Some v → slice_get (p ∷ []) k ≡ Some q → SaysParam v q
-    only zero v q at there =
-        let one : w ≡ v = cc in
-        let two : p ≡ q = cc in
-        subst (λ (x : SourceParam). SaysParam x q) one (subst (SaysParam w) two says)
-    only (suc k) v q at there = absurd (let f : ⊥ = cc in f)
+params_one old new env w p says is = record { says = one_by_one-more SaysParam w p [] [] says (one_by_one-none SaysParam); types = is }
 
 params_append : (old mid new : List TypeDef) (env : Env) (ws vs : List SourceParam) (ps qs : List Param) → AreParamsOver old mid env ws ps → AreParamsOver mid new env vs qs → AreParamsOver old new env (ws ++ vs) (ps ++ qs)
 params_append old mid new env ws vs ps qs p q = record {
-  count = (let a = length-append ps qs in let b = length-append ws vs in let c = p.count in let d = q.count in omega arith);
-  each = λ k w x at there. elim (at_split ws vs k w at) [
-    | inl h ↦ elim (at_split ps qs k x there) [
-      | inl g ↦ p.each k w x h g
-      | inr g ↦ absurd (let lt = slice_get_within ws k w h in let same = g.1 in let count = p.count in let f : ⊥ = omega arith in f)
-    ]
-    | inr h ↦ elim (at_split ps qs k x there) [
-      | inl g ↦ absurd (let lt = slice_get_within ps k x g in let same = h.1 in let count = p.count in let f : ⊥ = omega arith in f)
-      | inr g ↦ (
-          let a = h.1 in
-          let b = g.1 in
-          let count = p.count in
-          let same : g.0 ≡ h.0 = omega arith in
-          q.each h.0 w x h.2 (subst (λ (j : ℕ). slice_get qs j ≡ Some x) same g.2))
-    ]
-  ];
+  says = one_by_one-append SaysParam ws vs ps qs p.says q.says;
   types = λ s. subst (λ (ts : List Ty). AreShapes old new s env (map (λ (w : SourceParam). w.shape) (ws ++ vs)) ts) (sym (map-append (λ (p : Param). p.ty) ps qs))
       (subst (λ (xs : List Shape). AreShapes old new s env xs (map (λ (p : Param). p.ty) ps ++ map (λ (p : Param). p.ty) qs)) (sym (map-append (λ (w : SourceParam). w.shape) ws vs))
       (shapes_append old mid new s env (map (λ (w : SourceParam). w.shape) ws) (map (λ (w : SourceParam). w.shape) vs) (map (λ (p : Param). p.ty) ps) (map (λ (p : Param). p.ty) qs) (p.types s) (q.types s)));
@@ -63,8 +41,8 @@ params_more first mid new env ws done all item ps qs p ty in_use pushed says is 
 -- the type of a method's first parameter, once it is interned
 pub self_over : (old new : List TypeDef) (env : Env) (r : Id) (word : Span) (place i : ℕ) (p : Param) → env r.name.now ≡ Some place → IsInterned old new (kind.Handle (handle.Borrow place)) Unknown word i → SaysParam (self_param r word) p → p.ty ≡ type.Id i → AreParamsOver old new env (self_param r word ∷ []) (p ∷ [])
 self_over old new env r word place i p found interned says same =
-    let is = whole_present old old new env Unknown (self_param r word).shape (kind.Handle (handle.Borrow place)) word i (refl, refl, tt, alone Unknown (Word r) (resolved_word old env Unknown r place found)) interned in
-    params_one old new env (self_param r word) p says (λ s. shapes_one old new s env (self_param r word).shape p.ty (subst (IsResolved old new env Unknown (self_param r word).shape) (sym same) is s))
+    let is = whole_present old old new env Unknown (self_param r word).shape (kind.Handle (handle.Borrow place)) word i (refl, refl, tt, resolved_word old env Unknown r place found) interned in
+    params_one old new env (self_param r word) p says (λ s. subst (λ (x : Ty). AreShapes old new s env ((self_param r word).shape ∷ []) (x ∷ [])) (sym same) (is s))
 
 -- a written result means a type
 pub result_view : (old new : List TypeDef) (env : Env) (h : BorrowedFunction) (t : Written) (ty : Ty) → (function_view h).func.result ≡ Some t → AreTypes old new env Unknown (t ∷ []) (ty ∷ []) → IsResultOver old new env (function_view h).result (Some ty)

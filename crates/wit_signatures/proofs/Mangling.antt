@@ -8,7 +8,7 @@ use Rattle.wit_names.proofs.MadeNames.{is_dotted-labels, is_mangled-get, is_mang
 use Rattle.wit_walk.proofs.Common.{is_setter as form_sets}
 use Rattle.wit_rules.specs.declared.borrowed.BorrowedFunction.{BorrowedFunction}
 use Rattle.wit_rules.specs.declared.borrowed.BorrowedFunction.TheVariants.{Free, Of, Across}
-use Rattle.wit_rules.specs.BorrowedFunctions.{function_view}
+use Rattle.wit_rules.specs.Signatures.{function_view}
 
 -- a function by itself, of a resource, a static one
 mangled_free : (form : FuncForm) (id : Id) → is_mangled (accessor form ++ id.name.now) ≡ true

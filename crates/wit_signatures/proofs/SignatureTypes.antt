@@ -4,7 +4,7 @@ use Rattle.wit_arena.proofs.Common.{Id, ResourceFunc, SourceFunction, Word, opti
 use Rattle.wit_type_tree.specs.declared.types.ResourceFunc.TheVariants as resource
 use Rattle.wit_rules.specs.declared.borrowed.BorrowedFunction.{BorrowedFunction}
 use Rattle.wit_rules.specs.declared.borrowed.BorrowedFunction.TheVariants as borrowed
-use Rattle.wit_rules.specs.BorrowedFunctions.{function_view}
+use Rattle.wit_rules.specs.Signatures.{function_view}
 
 -- the written type of a function's result has the shape of that
 abbrev IsWritten : SourceFunction → Type 0

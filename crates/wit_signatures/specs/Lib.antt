@@ -1,2 +1,1 @@
-pub mod ForeignName
 pub mod FunctionsOfScope

@@ -4,12 +4,10 @@ ghost use Rattle.wit_types.specs.declared.types.TypeDef.{TypeDef as Entry};
 ghost use Rattle.wit_syntax.specs.Function.{self_param as the_self};
 ghost use Rattle.wit_first.specs.First.{Finds};
 ghost use Rattle.wit_first.specs.FunctionFaults.{getter_fault};
-ghost use Rattle.wit_arena.specs.SourceFunctions.{kinds_of};
+ghost use Rattle.wit_arena.specs.SourceFunctions.{IsKind, kinds_of};
 ghost use Rattle.wit_arena.specs.Resolving.{env_of};
-ghost use Rattle.wit_arena.specs.Adding.{IsKindIn};
-ghost use Rattle.wit_entries.specs.Requiring.{IsExtended};
-ghost use Rattle.wit_rules.specs.BorrowedFunctions.{function_view, owner_of};
-ghost use Rattle.wit_rules.specs.Signatures.{functions_view, HasOwner, HaveOwners, AreParamsOver, IsResultOver};
+ghost use Rattle.wit_entries.specs.EntryFaults.{IsExtended};
+ghost use Rattle.wit_rules.specs.Signatures.{function_view, owner_of, functions_view, HasOwner, HaveOwners, AreParamsOver, IsResultOver};
 ghost use Rattle.wit_signatures.specs.FunctionsOfScope.{AddsAt, AddsResult, FindsFunction, FindsReturn, ResolvesParams};
 
 use crate::signatures::resolve_in_signature;
@@ -79,7 +77,7 @@ fn place_of(names: &TextTable<TypeId>, resource: Id<'_>) -> TypeId
 /// The kind of a function.
 fn kind_of(names: &TextTable<TypeId>, function: BorrowedFunction<'_, '_>) -> FunctionKind
     requires { HasOwner (env_of names.now) (owner_of (function_view function).role) }
-    ensures { IsKindIn (env_of names.now) (function_view function.entry).role result }
+    ensures { IsKind (λ name r. env_of names.now name ≡ Some r) (function_view function.entry).role result }
 {
     match function {
         BorrowedFunction::Free(f) => freestanding(f.func.form),
@@ -157,7 +155,7 @@ fn all_params<'t, 'a>(
     function: BorrowedFunction<'t, 'a>,
 ) -> ParseResult<Row<Param>>
     requires { HasOwner (env_of scope.names.now) (owner_of (function_view function).role) }
-    ensures { ResolvesParams scope.entry place types.old types.new required.old.items required.new.items (function_view function.entry) result }
+    ensures { ResolvesParams scope.entry place types.old types.new required.old required.new (function_view function.entry) result }
 {
     let repeated = repeated_param(alloc, function)?;
     let mut params = given_params(alloc, scope.names, function, types)?;
@@ -201,7 +199,7 @@ fn resolve_result<'t, 'a>(
     function: BorrowedFunction<'t, 'a>,
 ) -> ParseResult<Option<Type>>
     requires { HasOwner (env_of scope.names.now) (owner_of (function_view function).role) }
-    ensures adds { IfOk result (AddsResult scope.entry types.old types.new required.old.items required.new.items (function_view function.entry)) }
+    ensures adds { IfOk result (AddsResult scope.entry types.old types.new required.old required.new (function_view function.entry)) }
     ensures finds { FindsReturn scope.entry place types.old types.new (function_view function.entry) result }
 {
     match function.result() {
@@ -232,7 +230,7 @@ pub fn resolve_function(
 ) -> ParseResult<Function>
     requires place { place < length scope.functions.now }
     requires owners { HaveOwners (env_of scope.names.now) (functions_view scope) }
-    ensures adds { IfOk result (AddsAt scope.entry place types.old types.new required.old.items required.new.items) }
+    ensures adds { IfOk result (AddsAt scope.entry place types.old types.new required.old required.new) }
     ensures finds { FindsFunction scope.entry place types.old types.new result }
 {
     let function = scope.functions[place];

@@ -37,7 +37,7 @@ pub(crate) fn resolve_in_signature(
     place: usize,
     ty: &tree::Type<'_>,
 ) -> ParseResult<Type>
-    ensures { ResolvesSigned scope.entry place types.old types.new required.old.items required.new.items ty.now result }
+    ensures { ResolvesSigned scope.entry place types.old types.new required.old required.new ty.now result }
 {
     let scope = TypeScope {
         names: scope.names,

@@ -23,9 +23,9 @@ loop-written-preserved c =
     let out = c.loop-written.resolved.items in
     let in_use : take (i + 1) fs ≡ take i fs ++ f ∷ [] = take_more fs i f c.loop-written-test.true ∙ ap (λ x. take i fs ++ x ∷ []) (sym c.written-item.is) in
     let written : field_types (take (i + 1) fs) ≡ field_types (take i fs) ++ f.ty ∷ [] = ap field_types in_use ∙ map-append (λ (x : WrittenField). x.ty) (take i fs) (f ∷ []) in
-    let types : map type_of c.push.new.self.items ≡ map type_of out ++ c.in_ok-ty.ty ∷ [] = ap (map type_of) c.in_ok-push.ensures.items ∙ map-append type_of out (own ∷ []) ∙ ap (λ t. map type_of out ++ t ∷ []) c.in_ok-field.ensures.1 in
+    let types : map type_of c.push.new.self.items ≡ map type_of out ++ c.in_ok-ty.ty ∷ [] = ap (map type_of) c.in_ok-push.ensures.items ∙ map-append type_of out (own ∷ []) ∙ ap (λ t. map type_of out ++ t ∷ []) c.in_ok-field.ensures.typed in
     record {
-      members = pushed_next field_member (λ (x : WrittenField). member x.docs x.name) out _ fs i f _ c.loop-written-test.true c.written-item.is c.loop-written.invariant.members c.in_ok-push.ensures.items c.in_ok-field.ensures.0;
+      members = pushed_next field_member (λ (x : WrittenField). member x.docs x.name) out _ fs i f _ c.loop-written-test.true c.written-item.is c.loop-written.invariant.members c.in_ok-push.ensures.items c.in_ok-field.ensures.member;
       types = rw (written, types) (types_more c.args.scope c.args.given.now (field_types (take i fs)) (f.ty ∷ []) (map type_of out) (c.in_ok-ty.ty ∷ []) c.loop-written.invariant.types c.in_ok-ty.ensures);
     }
 

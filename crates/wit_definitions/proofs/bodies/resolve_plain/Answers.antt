@@ -1,7 +1,7 @@
 use Rattle.std.proofs.Common.{refl, ◌∙◌, rules}
-use Rattle.wit_arena.proofs.Common.{Word, env_of, err_from_is_err_and}
+use Rattle.wit_arena.proofs.Common.{env_of, err_from_is_err_and}
 use Rattle.wit_first.proofs.First.{or_none}
-use Rattle.wit_entries.proofs.Reading.{alone, plain_kind, resolved_word}
+use Rattle.wit_entries.proofs.Reading.{plain_kind, resolved_word}
 use Rattle.wit_entries.proofs.Requiring.{requires_one}
 use Rattle.wit_entries.proofs.Resolves.{one_stopped}
 use Rattle.wit_entries.specs.EntryFaults.{lost_in}
@@ -14,7 +14,7 @@ returns-in-Own c =
     let id = c.in-Own.id in
     let it = c.in_ok-resource.ensures in
     rw c.in-Own.is (record {
-      made = record { form = refl; parts = alone given (Word id) (resolved_word es (env_of c.args.scope.names.now) given id c.in_ok-resource.resource it.made) };
+      made = record { form = refl; parts = resolved_word es (env_of c.args.scope.names.now) given id c.in_ok-resource.resource it.made };
       handled = it.handled;
       extended = it.extended;
       first = or_none _ ∙ it.first;

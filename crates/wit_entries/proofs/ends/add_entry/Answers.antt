@@ -1,6 +1,6 @@
 use Rattle.std.proofs.Common.{List, subst, sym}
 use Rattle.wit_entries.specs.declared.ends.End.{End}
-use Rattle.wit_entries.specs.EndsOfEntries.{AreAsStated}
+use Rattle.wit_entries.specs.EntryFaults.{AreAsStated}
 use Rattle.wit_entries.proofs.EndsOfEntries.{ends_last, stated_more}
 use Rattle.wit_entries.proofs.ends.add_entry.Goals as goal
 

@@ -3,10 +3,9 @@ use Rattle.wit_arena.proofs.Common.{SideFunction, WorldSide, role_side}
 use Rattle.wit_walk.proofs.Common.{Finds}
 use Rattle.wit_refusals.specs.NameScopes.{Name}
 use Rattle.wit_sides.specs.SideNames.{defined_on}
-use Rattle.wit_rules.specs.BorrowedFunctions.{function_view}
-use Rattle.wit_signatures.specs.ForeignName.{name_of_function}
-use Rattle.wit_externs.specs.AloneFaults.{again_fault}
-use Rattle.wit_externs.specs.Clash.{item_names}
+use Rattle.wit_rules.specs.Signatures.{function_view}
+use Rattle.wit_signatures.specs.FunctionsOfScope.{name_of_function}
+use Rattle.wit_externs.specs.Clash.{again_fault, item_names}
 use Rattle.wit_externs.proofs.AloneFaults.{again_by}
 use Rattle.wit_externs.proofs.Clashing.{item_defined, name_differs}
 use Rattle.wit_externs.proofs.defining.define_alone.Goals as goal

@@ -1,6 +1,6 @@
 use Rattle.std.proofs.Common.{◌++◌, map, sym, ◌∙◌}
-use Rattle.wit_rules.specs.BorrowedFunctions.{function_view}
-use Rattle.wit_signatures.specs.ForeignName.{name_of_function, name_of_id}
+use Rattle.wit_rules.specs.Signatures.{function_view}
+use Rattle.wit_signatures.specs.FunctionsOfScope.{name_of_function, name_of_id}
 use Rattle.wit_externs.proofs.FirstSetters.{borrowed_named, lone_found, merged_after, merged_functions, none_borrowed}
 use Rattle.wit_externs.proofs.in_use.check_setters.Goals as goal
 

@@ -3,9 +3,8 @@ use Rattle.wit_arena.proofs.Common.{Exported, Id, IfErr, Imported, OnOk, ParseEr
 use Rattle.wit_walk.proofs.Common.{Finds, finds_back, none_both, reports_prefix}
 use Rattle.wit_rules.specs.declared.borrowed.BorrowedFunction.{BorrowedFunction}
 use Rattle.wit_refusals.specs.NameScopes.{Name, IsFirstLoneSetter, IsLoneSetter}
-use Rattle.wit_rules.specs.BorrowedFunctions.{function_view}
-use Rattle.wit_externs.specs.AloneFaults.{lone_setters}
-use Rattle.wit_externs.specs.Clash.{all_on}
+use Rattle.wit_rules.specs.Signatures.{function_view}
+use Rattle.wit_externs.specs.Clash.{lone_setters, all_on}
 use Rattle.wit_externs.proofs.FirstSetters.{AreMerged, borrowed_named, lone_found, merged_side, none_on, side_named}
 use Rattle.wit_externs.proofs.in_use.check_sides.Goals as goal
 

@@ -3,8 +3,8 @@ use Rattle.wit_arena.proofs.Common.{Id, Imported, err_from_is_err_and, length-ma
 use Rattle.wit_walk.proofs.Common.{after-more, reports-after, reports_same}
 use Rattle.wit_sides.specs.SideNames.{defined_on}
 use Rattle.wit_refusals.specs.NameScopes.{Name}
-use Rattle.wit_signatures.specs.ForeignName.{name_of_id}
-use Rattle.wit_externs.specs.AloneFaults.{again_fault, defined_fault}
+use Rattle.wit_signatures.specs.FunctionsOfScope.{name_of_id}
+use Rattle.wit_externs.specs.Clash.{again_fault, defined_fault}
 use Rattle.wit_externs.proofs.AloneFaults.{again_free, again_report}
 use Rattle.wit_externs.proofs.Clashing.{sides_differ, types_more}
 use Rattle.wit_externs.proofs.in_use.define_names.Goals as goal

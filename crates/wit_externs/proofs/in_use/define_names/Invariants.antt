@@ -1,8 +1,8 @@
 use Rattle.std.proofs.Common.{◌≡◌, ◌++◌, None, take, map}
 use Rattle.wit_arena.proofs.Common.{AllDiffer, WorldSide, names_on}
 use Rattle.wit_sides.specs.SideNames.{defined_on}
-use Rattle.wit_signatures.specs.ForeignName.{name_key, name_of_id}
-use Rattle.wit_externs.specs.AloneFaults.{defined_fault}
+use Rattle.wit_signatures.specs.FunctionsOfScope.{name_key, name_of_id}
+use Rattle.wit_externs.specs.Clash.{defined_fault}
 use Rattle.wit_externs.proofs.in_use.define_names.Given as goal
 
 -- the names up to here are defined, and they differ on each side where those before did

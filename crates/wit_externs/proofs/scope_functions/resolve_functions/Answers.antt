@@ -2,13 +2,11 @@ use Rattle.std.proofs.Common.{◌≡◌, ◌∷◌, ◌++◌, ◌+◌, [], List,
 use Rattle.wit_arena.proofs.Common.{Fault, SideFunction, SideItem, SourceFunction, WorldSide, env_of, err_from_is_err_and, items_on, length-map, option_or, role_side, slice_get_read, take-map, take_all, take_next}
 use Rattle.wit_refusals.specs.NameScopes.{Name}
 use Rattle.wit_sides.specs.SideNames.{defined_on}
-use Rattle.wit_rules.specs.BorrowedFunctions.{function_view}
-use Rattle.wit_rules.specs.Signatures.{functions_view}
+use Rattle.wit_rules.specs.Signatures.{function_view, functions_view}
 use Rattle.wit_walk.proofs.Common.{after-at, after-more, function_fault, none_both}
-use Rattle.wit_signatures.specs.ForeignName.{name_of_function}
+use Rattle.wit_signatures.specs.FunctionsOfScope.{name_of_function}
 use Rattle.wit_entries.proofs.Requiring.{extended_then}
-use Rattle.wit_externs.specs.AloneFaults.{again_fault, alone_fault, alone_faults, signed_by, words_in}
-use Rattle.wit_externs.specs.Clash.{names_of_items}
+use Rattle.wit_externs.specs.Clash.{again_fault, alone_fault, alone_faults, signed_by, words_in, names_of_items}
 use Rattle.wit_externs.proofs.AloneFaults.{function_safe, function_same, safe_arena, safe_of}
 use Rattle.wit_externs.proofs.Clashing.{sides_more}
 use Rattle.wit_externs.proofs.DoneFunctions.{next_place, item_next, place_within, done_more, done_all, same_name}

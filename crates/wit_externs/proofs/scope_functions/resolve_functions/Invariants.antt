@@ -2,9 +2,8 @@ use Rattle.std.proofs.Common.{◌≡◌, ◌++◌, List, Option, None, map, take
 use Rattle.wit_arena.proofs.Common.{AllDiffer, Fault, Id, ScopeName, SideFunction, WorldSide, env_of, items_on}
 use Rattle.wit_sides.specs.SideNames.{defined_on}
 use Rattle.wit_rules.specs.Signatures.{IsScopeOf, functions_view}
-use Rattle.wit_signatures.specs.ForeignName.{name_key}
-use Rattle.wit_externs.specs.AloneFaults.{IsSafe, alone_faults, words_in}
-use Rattle.wit_externs.specs.Clash.{names_of_items}
+use Rattle.wit_signatures.specs.FunctionsOfScope.{name_key}
+use Rattle.wit_externs.specs.Clash.{IsSafe, alone_faults, words_in, names_of_items}
 use Rattle.wit_externs.proofs.DoneFunctions.{AreDone}
 use Rattle.wit_externs.proofs.scope_functions.resolve_functions.Given as goal
 

@@ -1,7 +1,7 @@
 use Rattle.std.proofs.Common.{refl, sym, ◌∙◌}
 use Rattle.wit_arena.proofs.Common.{Getter}
 use Rattle.wit_type_tree.specs.declared.types.FuncForm.TheVariants.{Setter}
-use Rattle.wit_rules.specs.BorrowedFunctions.{function_view}
+use Rattle.wit_rules.specs.Signatures.{function_view}
 use Rattle.wit_rules.proofs.FunctionRules.{given_found}
 use Rattle.wit_rules.proofs.function_rules.check_given.Goals as goal
 

@@ -1,7 +1,7 @@
 use Rattle.std.proofs.Common.{List, ◌++◌, map, ap, sym, ◌∙◌, arith}
 use Rattle.wit_syntax.proofs.Common.{Param}
 use Rattle.wit_arena.proofs.Common.{take_all, written_param}
-use Rattle.wit_rules.specs.BorrowedFunctions.{function_view}
+use Rattle.wit_rules.specs.Signatures.{function_view}
 use Rattle.wit_rules.proofs.FunctionRules.{names-append}
 use Rattle.wit_rules.proofs.function_rules.param_names.Goals as goal
 

@@ -1,6 +1,6 @@
 use Rattle.std.proofs.Common.{◌≡◌, ◌++◌, take}
 use Rattle.wit_arena.proofs.Common.{map}
-use Rattle.wit_rules.specs.BorrowedFunctions.{function_view}
+use Rattle.wit_rules.specs.Signatures.{function_view}
 use Rattle.wit_rules.proofs.function_rules.param_names.Given as goal
 
 abbrev pub invariant-loop-param : goal.invariant-loop-param

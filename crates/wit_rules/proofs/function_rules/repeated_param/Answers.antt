@@ -1,6 +1,6 @@
 use Rattle.std.proofs.Common.{◌≡◌, ℕ, List, map, take, ap, ◌∙◌, subst, arith}
 use Rattle.wit_arena.proofs.Common.{AllDiffer, IsRepeatAt, SourceParam, all_params, lower_case}
-use Rattle.wit_rules.specs.BorrowedFunctions.{function_view}
+use Rattle.wit_rules.specs.Signatures.{function_view}
 use Rattle.wit_rules.proofs.FunctionRules.{few_differ, keys-named}
 use Rattle.wit_rules.proofs.function_rules.repeated_param.Goals as goal
 

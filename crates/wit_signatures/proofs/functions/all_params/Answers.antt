@@ -1,11 +1,10 @@
 use Rattle.std.proofs.Common.{◌≡◌, ◌+◌, ℕ, List, [], ◌∷◌, ◌++◌, Option, Some, None, length, map, take, inl, inr, refl, sym, ap, ◌∙◌, subst, arith, rules, length-append}
 use Rattle.wit_arena.proofs.Common.{Fault, Param, SourceParam, all_handles, append-nil, cases_lt, env_of, err_from_is_err_and, map-append, option_or, slice_get, slice_get-get_or, take_all, take_more, written_param, «Type» as Written}
 use Rattle.wit_walk.proofs.Common.{Param as WrittenParam, Reports, after-at, after-next, first_after, none_both, param_fault, reports-after, reports_back, reports_same}
-use Rattle.wit_entries.specs.Requiring.{Requires}
+use Rattle.wit_entries.specs.EntryFaults.{Requires}
 use Rattle.wit_entries.proofs.Requiring.{extended_then, requires_none, requires_types}
 use Rattle.wit_entries.proofs.Resolves.{memory_stopped}
-use Rattle.wit_rules.specs.BorrowedFunctions.{function_view}
-use Rattle.wit_rules.specs.Signatures.{functions_view, AreParamsOver}
+use Rattle.wit_rules.specs.Signatures.{function_view, functions_view, AreParamsOver}
 use Rattle.wit_signatures.specs.FunctionsOfScope.{fault_at}
 use Rattle.wit_signatures.proofs.FunctionFaults.{apart_found, param_next, param_repeated, params_extended, repeat_lent}
 use Rattle.wit_signatures.proofs.FunctionParts.{given_few, params_more}
@@ -18,7 +17,7 @@ loop-written-init c =
     let given = c.in_ok-params.ensures.params in
     record {
       params = subst (λ (ws : List SourceParam). AreParamsOver c.args.types.now c.given_params.new.types env ws c.in_ok-params.params.items) (sym (append-nil fn.given)) given;
-      count = (let n = given.count in omega arith);
+      count = (let n = given.says.count in omega arith);
       distinct = λ k is le. omega arith;
       none = refl;
       handled = requires_none env c.given_params.new.types c.args.required.now.items;

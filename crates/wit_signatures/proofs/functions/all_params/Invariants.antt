@@ -1,9 +1,8 @@
 use Rattle.std.proofs.Common.{◌≡◌, ◌≤◌, ◌+◌, ℕ, [], ◌++◌, Some, None, length, map, take}
 use Rattle.wit_walk.proofs.Common.{Param as Written, first_after, param_fault}
 use Rattle.wit_arena.proofs.Common.{all_handles, env_of, written_param}
-use Rattle.wit_entries.specs.Requiring.{IsExtended, Requires}
-use Rattle.wit_rules.specs.BorrowedFunctions.{function_view}
-use Rattle.wit_rules.specs.Signatures.{AreParamsOver}
+use Rattle.wit_entries.specs.EntryFaults.{IsExtended, Requires}
+use Rattle.wit_rules.specs.Signatures.{function_view, AreParamsOver}
 use Rattle.wit_signatures.specs.FunctionsOfScope.{fault_at}
 use Rattle.wit_signatures.proofs.functions.all_params.Given as goal
 

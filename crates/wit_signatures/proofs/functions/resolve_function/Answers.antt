@@ -1,9 +1,8 @@
 use Rattle.std.proofs.Common.{◌+◌, map, take, sym, ap, ◌∙◌, subst, IsTrue, get_or}
 use Rattle.wit_arena.proofs.Common.{SourceFunction, all_handles, env_of, err_from_is_err_and, is_mangled, option_to_list, written_types}
 use Rattle.wit_walk.proofs.Common.{function_fault, metadata_fault, reports_prefix, reports_same}
-use Rattle.wit_rules.specs.BorrowedFunctions.{function_view}
-use Rattle.wit_rules.specs.Signatures.{functions_view}
-use Rattle.wit_entries.specs.Requiring.{Requires}
+use Rattle.wit_rules.specs.Signatures.{function_view, functions_view}
+use Rattle.wit_entries.specs.EntryFaults.{Requires}
 use Rattle.wit_entries.proofs.Noted.{noted_as}
 use Rattle.wit_entries.proofs.Requiring.{extended_then, requires_types}
 use Rattle.wit_entries.proofs.Resolves.{extended_same}

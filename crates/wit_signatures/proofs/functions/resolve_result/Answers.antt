@@ -1,10 +1,10 @@
 use Rattle.std.proofs.Common.{Option, sym, ap, ◌∙◌, subst}
 use Rattle.wit_arena.proofs.Common.{all_handles, env_of, err_from_is_err_and, option_to_list, result_ok, «Type» as Written}
 use Rattle.wit_walk.proofs.Common.{none_both, reports_back, reports_prefix, reports_same, result_fault, return_fault}
-use Rattle.wit_entries.specs.Requiring.{Requires}
+use Rattle.wit_entries.specs.EntryFaults.{Requires}
 use Rattle.wit_entries.proofs.Requiring.{requires_none}
 use Rattle.wit_entries.proofs.Resolves.{extended_same}
-use Rattle.wit_rules.specs.BorrowedFunctions.{function_view}
+use Rattle.wit_rules.specs.Signatures.{function_view}
 use Rattle.wit_signatures.specs.FunctionsOfScope.{fault_at}
 use Rattle.wit_signatures.proofs.FunctionParts.{result_view}
 use Rattle.wit_signatures.proofs.functions.resolve_result.Goals as goal

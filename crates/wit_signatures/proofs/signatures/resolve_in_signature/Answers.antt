@@ -2,9 +2,8 @@ use Rattle.std.proofs.Common.{[], ◌∷◌, List, Option, map, ◌+◌, sym, ap
 use Rattle.wit_types.specs.declared.types.«Type».{«Type» as Ty}
 use Rattle.wit_arena.proofs.Common.{Fault, SourceFunction, Unknown, all_handles, env_of, take-map}
 use Rattle.wit_walk.proofs.Common.{lost_word, or_none}
-use Rattle.wit_entries.specs.EntryFaults.{written_fault}
-use Rattle.wit_rules.specs.BorrowedFunctions.{function_view}
-use Rattle.wit_entries.specs.Requiring.{Resolves}
+use Rattle.wit_entries.specs.EntryFaults.{written_fault, Resolves}
+use Rattle.wit_rules.specs.Signatures.{function_view}
 use Rattle.wit_entries.specs.ResolvedForms.{AreTypes}
 use Rattle.wit_signatures.proofs.signatures.resolve_in_signature.Goals as goal
 

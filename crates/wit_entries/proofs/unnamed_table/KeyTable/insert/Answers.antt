@@ -1,6 +1,5 @@
 use Rattle.std.proofs.Common.{refl, sym, ap, ◌∙◌}
-use Rattle.wit_entries.specs.Known.{AtKeyHash, AtKey}
-use Rattle.wit_entries.specs.UnnamedTypes.{key_hashes_at}
+use Rattle.wit_entries.specs.Known.{AtKeyHash, AtKey, key_hashes_at}
 use Rattle.wit_entries.proofs.Digested.{key_hashes_kept, key_hash_there}
 use Rattle.wit_entries.proofs.unnamed_table.KeyTable.insert.Goals as goal
 
