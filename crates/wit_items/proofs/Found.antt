@@ -1,9 +1,8 @@
 -- Items of an arena that are found by their names, with one more, and the scopes of interfaces and the addresses of worlds.
 use Rattle.std.proofs.Common.{◌≡◌, ◌<◌, ◌≤◌, ℕ, zero, suc, true, cond, List, [], ◌∷◌, ◌++◌, length, Result, Ok, Err, Option, Some, inl, inr, refl, sym, ap, ◌∙◌, subst, nat_eq, arith}
 use Rattle.wit_arena.proofs.Common.{Address, Interface, InterfaceNamed, Names, OnErr, OnOk, PackageFile, World, WorldNamed, at_prefix, at_seam, env_of, insert_entry, length-append, lookup-insert_entry, name_cases, name_itself, option_and_then, option_map, pointwise, resolved_scope, resolved_scope_at, resolved_scopes, slice_get, slice_get-map, slice_get_within, unwrap_or, worlds_at}
-use Rattle.wit_items.specs.Found.{AreFound, interface_name, name_at, world_name}
+use Rattle.wit_items.specs.ItemPaths.{AreFound, interface_name, name_at, world_name, prefix_of}
 use Rattle.wit_items.specs.BorrowedItems.{others_of}
-use Rattle.wit_items.specs.ForeignAddresses.{prefix_of}
 use Rattle.wit_items.specs.ResolvedInterfaces.{source_place}
 use Rattle.wit_items.specs.declared.interfaces.Interfaces.{Interfaces}
 use Rattle.wit_scopes.specs.BorrowedNames.{IsPlaced}

@@ -1,14 +1,37 @@
--- Parts of items that are borrowed, and where their paths to interfaces lead.
-use Rattle.std.specs.Prelude.{◌≡◌, ℕ, ◌<◌, length, List, Option, Some, None, Contains, map}
-use Rattle.wit_arena.specs.Common.{AstItem, Declared, DefinitionPart, ExternPart, Foreign, ForeignNamed, FunctionPart, IncludePart, Item, Local, Names, PackageFile, Part, Target, UsePart, UsePath, about, all_items, env_of, flat_map, foreign_at, foreign_entry, foreign_items, option_map, package_of, use_path}
-use Rattle.wit_model.specs.declared.ast_item.AstItem.TheVariants as entry
+-- Parts of items that are borrowed, where their paths to interfaces lead, and what is found by names.
+use Rattle.std.specs.Prelude.{List, map, ◌≡◌, ◌≤◌, ℕ, Option, Some, slice_get, ◌<◌, length, None, Contains}
+use Rattle.wit_arena.specs.Common.{Address, PackageFile, foreign_interfaces, visited, Interface, Names, World, env_of, option_and_then, AstItem, Declared, DefinitionPart, ExternPart, Foreign, ForeignNamed, FunctionPart, IncludePart, Item, Local, Part, Target, UsePart, UsePath, about, all_items, flat_map, foreign_at, foreign_entry, option_map, package_of, use_path}
+use Rattle.wit_tree.specs.declared.tree.PackageName.{PackageName as Header}
 use Rattle.wit_files.specs.FileNames.{top_at}
-use Rattle.wit_items.specs.ForeignAddresses.{prefix_of}
 use Rattle.wit_items.specs.declared.part_names.Part.{Part as BorrowedPart}
-use Rattle.wit_items.specs.declared.part_names.Part.TheVariants as borrowed_part
 use Rattle.wit_scopes.specs.declared.scope_name.Source.{Source}
-use Rattle.wit_scopes.specs.declared.scope_name.Source.TheVariants as source
 use Rattle.wit_scopes.specs.BorrowedNames.{IsPlaced}
+use Rattle.wit_model.specs.declared.ast_item.AstItem.TheVariants as entry
+use Rattle.wit_items.specs.declared.part_names.Part.TheVariants as borrowed_part
+use Rattle.wit_scopes.specs.declared.scope_name.Source.TheVariants as source
+
+-- those of other packages whose interfaces files name
+abbrev pub prefix_of : List PackageFile → List Address
+prefix_of files = map visited (foreign_interfaces files)
+
+-- the name of an interface, if it has one, and that of a world
+abbrev pub interface_name : Interface → Option (List ℕ)
+interface_name i = i.name
+
+abbrev pub world_name : World → Option (List ℕ)
+world_name w = Some w.name
+
+-- the name of what is at a place, if there is one
+abbrev pub name_at : {X : Type 0} → (X → Option (List ℕ)) → List X → ℕ → Option (List ℕ)
+name_at called xs place = option_and_then called (slice_get xs place)
+
+-- each name that is found is the name of what is at its place, after so many others
+abbrev pub AreFound : {X : Type 0} → (X → Option (List ℕ)) → ℕ → List X → Names → Type 0
+AreFound called count xs by_name = (name : List ℕ) (place : ℕ) → env_of by_name name ≡ Some place → (count ≤ place) × (name_at called xs place ≡ Some name)
+
+-- none, where there is no such place or the file has none
+abbrev pub header_at : List PackageFile → ℕ → Option Header
+header_at files place = option_and_then (λ (f : PackageFile). f.package_id) (slice_get files place)
 
 -- the part that is borrowed
 abbrev pub part_view : BorrowedPart → Part
@@ -38,10 +61,6 @@ pub record HasPath (files : List PackageFile) (place : ℕ) (path : UsePath) : T
   pub declared : Declared
   pub item : HasItem files place declared
   pub among : Contains (flat_map use_path (about declared).parts) path
-
--- these are the entries of other packages' items
-abbrev pub AreEntriesOf : List PackageFile → List AstItem → Type 0
-AreEntriesOf files entries = entries ≡ map (foreign_entry files) (foreign_items files)
 
 -- the entry of the item of another package that is where a path leads
 abbrev pub entry_at : List PackageFile → Target → Option AstItem

@@ -4,7 +4,7 @@ use Rattle.wit_arena.specs.Common.{Fault, Foreign, Local, Names, ResolvedScope, 
 use Rattle.wit_items.specs.declared.interfaces.Interfaces.{Interfaces}
 use Rattle.wit_scopes.specs.declared.scope_name.Source.{Source}
 use Rattle.wit_scopes.specs.declared.scope_name.Source.TheVariants as source
-use Rattle.wit_items.specs.ForeignAddresses.{prefix_of}
+use Rattle.wit_items.specs.ItemPaths.{prefix_of}
 
 -- the scopes of the interfaces that were resolved: those of other packages come first
 abbrev pub resolved_scopes_of : Interfaces → List ResolvedScope

@@ -3,7 +3,8 @@ ghost use Rattle.std.specs.Prelude.{◌≡◌, ◌<◌, Some, length, map, slice
 ghost use Rattle.wit_syntax.specs.Source.{leads, all_items, is_world as is_the_world};
 ghost use Rattle.wit_top_names.specs.Tops.{target_view};
 ghost use Rattle.wit_files.specs.FileNames.{found_at, top_at};
-ghost use Rattle.wit_items.specs.ItemPaths.{AreEntriesOf};
+ghost use Rattle.wit_syntax.specs.Foreign.{foreign_items};
+ghost use Rattle.wit_arena.specs.Whole.{foreign_entry};
 
 use std::marker::Model;
 use wit_files::{FileNames, Found};
@@ -29,9 +30,10 @@ impl Drop for Files<'_, '_, '_, '_> {
 }
 
 impl<'f, 'a, 'n, 'e> Model for Files<'f, 'a, 'n, 'e> {
-    ghost use Rattle.std.specs.Prelude.{List, []};
+    ghost use Rattle.std.specs.Prelude.{◌≡◌, List, [], map};
     ghost use Rattle.wit_tree.specs.declared.tree.PackageFile.{PackageFile};
-    ghost use Rattle.wit_items.specs.ItemPaths.{AreEntriesOf};
+    ghost use Rattle.wit_syntax.specs.Foreign.{foreign_items};
+    ghost use Rattle.wit_arena.specs.Whole.{foreign_entry};
     ghost use Rattle.wit_type_tree.specs.contracts.types.Type as written;
     ghost use Rattle.std.specs.Coded.{codes};
     ghost use mir.Syntax.{named};
@@ -42,13 +44,13 @@ impl<'f, 'a, 'n, 'e> Model for Files<'f, 'a, 'n, 'e> {
 
     ghost view = { λ f. f.names.now };
 
-    ghost invariant = { λ f. AreEntriesOf f.names.now f.entries.now };
+    ghost invariant = { λ f. f.entries.now ≡ map (foreign_entry f.names.now) (foreign_items f.names.now) };
 }
 
 impl<'f, 'a, 'n, 'e> Files<'f, 'a, 'n, 'e> {
     /// The files with these names, where these are the entries of other packages' items.
     pub fn of(names: &'n FileNames<'f, 'a>, entries: &'e [Entry]) -> Self
-        requires { AreEntriesOf names.now entries.now }
+        requires { entries.now ≡ map (foreign_entry names.now) (foreign_items names.now) }
         ensures { result ≡ names.now }
     {
         Files { names, entries }
@@ -56,7 +58,7 @@ impl<'f, 'a, 'n, 'e> Files<'f, 'a, 'n, 'e> {
 
     /// The entries of other packages' items, in the order of their first visits.
     pub fn entries(&self) -> &[Entry]
-        ensures { AreEntriesOf self.now result.now }
+        ensures { result.now ≡ map (foreign_entry self.now) (foreign_items self.now) }
     {
         self.entries
     }

@@ -6,10 +6,8 @@ ghost use Rattle.wit_syntax.specs.Source.{TheWorld, world_part as the_world_part
 ghost use Rattle.wit_first.specs.First.{Finds, first_in};
 ghost use Rattle.wit_first.specs.UseFaults.{use_fault};
 ghost use Rattle.wit_files.specs.FileNames.{top_at};
-ghost use Rattle.wit_items.specs.ForeignAddresses.{prefix_of};
-ghost use Rattle.wit_items.specs.InlineNames.{names_written, kind_items, side_uses, written_items};
-ghost use Rattle.wit_items.specs.ItemPaths.{HasItem, item_in};
-ghost use Rattle.wit_items.specs.PlacedItems.{ArePlacedInside};
+ghost use Rattle.wit_items.specs.ItemPaths.{prefix_of, HasItem, item_in};
+ghost use Rattle.wit_items.specs.BorrowedItems.{names_written, kind_items, side_uses, written_items, ArePlacedInside};
 ghost use Rattle.wit_scopes.specs.BorrowedNames.{name_view};
 
 use crate::files::Files;

@@ -1,7 +1,6 @@
 //! The interfaces that are resolved, of this package and of other ones.
 ghost use Rattle.std.specs.Prelude.{◌≤◌, length};
-ghost use Rattle.wit_items.specs.ForeignAddresses.{prefix_of};
-ghost use Rattle.wit_items.specs.Found.{AreFound, interface_name};
+ghost use Rattle.wit_items.specs.ItemPaths.{prefix_of, AreFound, interface_name};
 
 use crate::files::Files;
 use wit_maps::TextTable;
@@ -11,7 +10,7 @@ use wit_types::{Arena, InterfaceId, InterfacePlace};
 /// The interfaces of files that are resolved, and the places of the declared ones by their names: what
 /// is found by a name has that name, and is after those of other packages.
 #[derive(Drop)]
-pub struct Interfaces<'n, 'e, 'f, 'a> {
+pub struct Interfaces<'f, 'a, 'n, 'e> {
     pub files: Files<'f, 'a, 'n, 'e>,
     /// The interfaces of other packages come first in it.
     pub arena: Arena<Interface, InterfacePlace>,

@@ -3,8 +3,7 @@ ghost use Rattle.std.specs.Prelude.{◌≡◌, ◌++◌, Some, map, slice_get, I
 ghost use Rattle.wit_syntax.specs.Source.{TheWorld, file_items, all_items};
 ghost use Rattle.wit_first.specs.First.{Finds, first_in};
 ghost use Rattle.wit_first.specs.UseFaults.{all_uses_fault, item_uses_fault};
-ghost use Rattle.wit_items.specs.BorrowedItems.{item_view, scope_item};
-ghost use Rattle.wit_items.specs.Gathered.{AreItemsOf, AreWorldNames};
+ghost use Rattle.wit_items.specs.BorrowedItems.{item_view, scope_item, AreItemsOf, AreWorldNames};
 ghost use Rattle.wit_items.specs.ItemPaths.{HasItem, item_in};
 
 use crate::files::Files;

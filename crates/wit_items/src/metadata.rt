@@ -4,8 +4,7 @@ ghost use Rattle.wit_first.specs.AttributeFaults.{stability_fault};
 ghost use Rattle.wit_first.specs.First.{Finds};
 ghost use Rattle.wit_syntax.specs.Metadata.{docs_of, stability_of};
 ghost use Rattle.wit_syntax.specs.Source.{declared_metadata, about};
-ghost use Rattle.wit_items.specs.BorrowedItems.{declared_view};
-ghost use Rattle.wit_items.specs.SourceItems.{AreOf};
+ghost use Rattle.wit_items.specs.BorrowedItems.{declared_view, AreOf};
 
 use crate::items::Declared;
 use std::alloc::Global;

@@ -8,11 +8,8 @@ ghost use Rattle.wit_first.specs.First.{Finds, first_in};
 ghost use Rattle.wit_first.specs.UseFaults.{use_fault};
 ghost use Rattle.wit_syntax.specs.ScopeTables.{own_uses};
 ghost use Rattle.wit_files.specs.FileNames.{top_at};
-ghost use Rattle.wit_scopes.specs.BorrowedNames.{name_view};
-ghost use Rattle.wit_scopes.specs.PlacedNames.{AreNamesPlaced};
-ghost use Rattle.wit_items.specs.ForeignAddresses.{prefix_of};
-ghost use Rattle.wit_items.specs.ItemPaths.{part_view, HasItem, HasPath, IsSourceOf};
-ghost use Rattle.wit_items.specs.PlacedItems.{AreNamesOf};
+ghost use Rattle.wit_scopes.specs.BorrowedNames.{name_view, AreNamesPlaced};
+ghost use Rattle.wit_items.specs.ItemPaths.{prefix_of, part_view, HasItem, HasPath, IsSourceOf};
 
 use crate::files::Files;
 use crate::resolved_path::path_source;
@@ -137,7 +134,8 @@ pub fn interface_names<'f, 'a>(
     place: usize,
 ) -> ParseResult<Vec<ScopeName<'f, 'a>>>
     requires paths { (u : TheUse) → Contains (flat_map item_uses items.now) u → HasPath files.now place u.from }
-    ensures names { IfOk result (λ names. AreNamesOf files.now place (map the_interface_part items.now) names.items) }
+    ensures view { IfOk result (λ names. map name_view names.items ≡ flat_map (part_names (top_at files.now place)) (map the_interface_part items.now)) }
+    ensures placed { IfOk result (λ names. AreNamesPlaced (prefix_of files.now) names.items) }
     ensures first { Finds (first_in (use_fault files.now (top_at files.now place)) (flat_map item_uses items.now)) result }
 {
     let mut names = Vec::with_capacity(alloc, interface_room(items))?;
@@ -155,7 +153,8 @@ pub fn world_names<'f, 'a>(
     place: usize,
 ) -> ParseResult<Vec<ScopeName<'f, 'a>>>
     requires item { HasItem files.now place (TheWorld world.now) }
-    ensures names { IfOk result (λ names. AreNamesOf files.now place (map the_world_part world.now.items.items) names.items) }
+    ensures view { IfOk result (λ names. map name_view names.items ≡ flat_map (part_names (top_at files.now place)) (map the_world_part world.now.items.items)) }
+    ensures placed { IfOk result (λ names. AreNamesPlaced (prefix_of files.now) names.items) }
     ensures first { Finds (first_in (use_fault files.now (top_at files.now place)) (flat_map own_uses (map the_world_part world.now.items.items))) result }
 {
     let written = world_items(world);

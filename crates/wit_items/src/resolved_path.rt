@@ -9,8 +9,7 @@ ghost use Rattle.wit_first.specs.UseFaults.{path_fault, reached_fault};
 ghost use Rattle.wit_top_names.specs.Tops.{target_view};
 ghost use Rattle.wit_files.specs.FileNames.{top_at};
 ghost use Rattle.wit_scopes.specs.BorrowedNames.{IsPlaced};
-ghost use Rattle.wit_items.specs.ForeignAddresses.{prefix_of};
-ghost use Rattle.wit_items.specs.ItemPaths.{HasPath, entry_at, source_target, IsSourceOf};
+ghost use Rattle.wit_items.specs.ItemPaths.{prefix_of, HasPath, entry_at, source_target, IsSourceOf};
 ghost use Rattle.wit_items.specs.ResolvedInterfaces.{source_place, unresolved_fault};
 
 use crate::files::Files;

@@ -1,14 +1,14 @@
--- What the resolver holds by reference: names of a scope, used names and definitions, and interfaces of other packages.
-use Rattle.std.specs.Prelude.{◌≡◌, ◌∷◌, [], List, Some, ⊤, slice_get}
+-- What the resolver holds by reference: names of a scope, used names and definitions, and interfaces of other packages at their places.
+use Rattle.std.specs.Prelude.{◌≡◌, ◌∷◌, [], List, Some, ⊤, slice_get, ℕ}
 use Rattle.wit_scopes.specs.declared.scope_name.UsedName.{UsedName}
 use denote.Ref.{Bor}
 use Rattle.wit_type_tree.specs.declared.types.TypeDef.{TypeDef}
 use Rattle.wit_scopes.specs.declared.scope_name.Lent.{Lent}
 use Rattle.wit_scopes.specs.declared.scope_name.Named.{Named}
-use Rattle.wit_scopes.specs.declared.scope_name.Named.TheVariants as borrowed
 use Rattle.wit_scopes.specs.declared.scope_name.Source.{Source as BorrowedSource}
-use Rattle.wit_scopes.specs.declared.scope_name.Source.TheVariants as borrowed_source
 use Rattle.wit_arena.specs.Common.{Address, Defined, ForeignNamed, InterfaceNamed, ScopeName, Used, package_of}
+use Rattle.wit_scopes.specs.declared.scope_name.Named.TheVariants as borrowed
+use Rattle.wit_scopes.specs.declared.scope_name.Source.TheVariants as borrowed_source
 
 -- the scope that a used name comes from
 abbrev pub source_view : BorrowedSource → Address
@@ -45,3 +45,12 @@ own_use (borrowed.Defined d) = []
 abbrev pub IsPlaced : List Address → BorrowedSource → Type 0
 IsPlaced prefix (borrowed_source.Declared id) = ⊤
 IsPlaced prefix (borrowed_source.Foreign id of name) = slice_get prefix id ≡ Some (ForeignNamed (package_of of.now) name.name.now)
+
+-- a used name is from a declared interface, or from that of another package at its place
+abbrev pub IsNamePlaced : List Address → Borrowed → Type 0
+IsNamePlaced prefix (borrowed.Used u) = IsPlaced prefix u.from
+IsNamePlaced prefix (borrowed.Defined d) = ⊤
+
+-- so is each of these names
+pub record AreNamesPlaced (prefix : List Address) (names : List Borrowed) : Type 0 where
+  pub each : (k : ℕ) (x : Borrowed) → slice_get names k ≡ Some x → IsNamePlaced prefix x

@@ -1,3 +1,2 @@
 pub mod BorrowedNames
-pub mod PlacedNames
 pub mod DefinitionOrder

@@ -5,8 +5,7 @@ ghost use Rattle.std.specs.Option.{unwrap_or};
 ghost use Rattle.wit_syntax.specs.Source.{Used, local_id as the_local_id};
 ghost use Rattle.wit_syntax.specs.ScopeTables.{defined};
 ghost use Rattle.wit_syntax.specs.Address.{Address};
-ghost use Rattle.wit_scopes.specs.BorrowedNames.{source_view, name_view, definition_view, own_use, IsPlaced};
-ghost use Rattle.wit_scopes.specs.PlacedNames.{AreNamesPlaced};
+ghost use Rattle.wit_scopes.specs.BorrowedNames.{source_view, name_view, definition_view, own_use, IsPlaced, AreNamesPlaced};
 
 use std::alloc::{AllocError, Global};
 use wit_tree::tree::{Attribute, Id, PackageName, TypeDef, UseName};

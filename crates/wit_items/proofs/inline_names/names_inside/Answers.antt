@@ -3,16 +3,14 @@ use Rattle.wit_arena.proofs.Common.{Fault, InterfaceItem, PackageFile, TheWorld,
 use Rattle.wit_syntax.proofs.Common.{WorldItem}
 use Rattle.wit_first.specs.UseFaults.{use_fault}
 use Rattle.wit_first.proofs.First.{in-all, in-following, in-parts, reports-in, reports_same}
-use Rattle.wit_scopes.specs.BorrowedNames.{name_view}
-use Rattle.wit_scopes.specs.PlacedNames.{AreNamesPlaced}
-use Rattle.wit_scopes.proofs.Declaring.{one_more}
+use Rattle.wit_scopes.specs.BorrowedNames.{name_view, AreNamesPlaced}
+use Rattle.wit_scopes.proofs.Placed.{one_more}
 use Rattle.wit_items.proofs.PlacedNames.{all_more}
-use Rattle.wit_items.proofs.UsableNames.{among_flat, parts_more, use_has_path}
-use Rattle.wit_items.proofs.WrittenNames.{items_names, side_among, written_uses, unwritten_uses, names_written_in}
+use Rattle.wit_items.proofs.Written.{among_flat, parts_more, use_has_path, items_names, side_among, written_uses, unwritten_uses, names_written_in}
 use Rattle.wit_items.proofs.inline_names.names_inside.Goals.{in-Some+in_ok-interface_names+in_ok-push, in_default}
 use Rattle.wit_files.specs.FileNames.{top_at}
 use Rattle.wit_first.specs.First.{first_in}
-use Rattle.wit_items.specs.InlineNames.{written_items, side_uses}
+use Rattle.wit_items.specs.BorrowedItems.{written_items, side_uses}
 use Rattle.wit_items.proofs.inline_names.names_inside.Goals as goal
 
 -- of the uses of the interface that is written in a part
@@ -71,8 +69,8 @@ loop-part-preserved c =
           let e = w.in_ok-interface_names.ensures in
           let new = w.in_ok-push.ensures.items in
           rw w.inside-is (record {
-            names = one_more (λ ns. map name_view ns.items) [] out _ _ (map (items_names top) before) (map (items_names top) after) (items_names top items) new was.names e.names.view (ap (map (items_names top)) one ∙ map-append (items_names top) before (items ∷ []));
-            placed = all_more (λ ns. AreNamesPlaced (map visited (foreign_interfaces files)) ns.items) out _ _ new was.placed e.names.placed;
+            names = one_more (λ ns. map name_view ns.items) [] out _ _ (map (items_names top) before) (map (items_names top) after) (items_names top items) new was.names e.view (ap (map (items_names top)) one ∙ map-append (items_names top) before (items ∷ []));
+            placed = all_more (λ ns. AreNamesPlaced (map visited (foreign_interfaces files)) ns.items) out _ _ new was.placed e.placed;
             none = in-following (wrong files top side) xs i x at was.none (rw (written_uses side p items written) at e.first);
           }))
       | in_default w ↦ (

@@ -2,12 +2,11 @@ use Rattle.std.proofs.Common.{◌≡◌, None, map, take}
 use Rattle.wit_arena.proofs.Common.{All, flat_map, foreign_interfaces, visited, world_part}
 use Rattle.wit_syntax.proofs.Common.{WorldItem}
 use Rattle.wit_first.specs.First.{first_in}
-use Rattle.wit_scopes.specs.PlacedNames.{AreNamesPlaced}
-use Rattle.wit_scopes.specs.BorrowedNames.{name_view}
-use Rattle.wit_items.proofs.WrittenNames.{items_names}
+use Rattle.wit_scopes.specs.BorrowedNames.{AreNamesPlaced, name_view}
+use Rattle.wit_items.proofs.Written.{items_names}
 use Rattle.wit_files.specs.FileNames.{top_at}
 use Rattle.wit_first.specs.UseFaults.{use_fault}
-use Rattle.wit_items.specs.InlineNames.{written_items, side_uses}
+use Rattle.wit_items.specs.BorrowedItems.{written_items, side_uses}
 use Rattle.wit_items.proofs.inline_names.names_inside.Given as goal
 
 abbrev pub invariant-loop-part : goal.invariant-loop-part

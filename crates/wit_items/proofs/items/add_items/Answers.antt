@@ -7,14 +7,11 @@ use Rattle.wit_first.specs.UseFaults.{item_uses_fault}
 use Rattle.wit_first.proofs.First.{in-all, in-flat, in-following, or_none, reports-in, reports_same}
 use Rattle.wit_files.specs.FileNames.{names_at_top}
 use Rattle.wit_top_names.proofs.Lost.{flat_more}
-use Rattle.wit_scopes.specs.PlacedNames.{AreNamesPlaced}
-use Rattle.wit_scopes.proofs.Declaring.{one_more}
+use Rattle.wit_scopes.specs.BorrowedNames.{AreNamesPlaced}
+use Rattle.wit_scopes.proofs.Placed.{one_more}
 use Rattle.wit_items.specs.BorrowedItems.{item_view}
-use Rattle.wit_items.proofs.Gathered.{items_more}
-use Rattle.wit_items.proofs.Placed.{none_all, placed_inside}
-use Rattle.wit_items.proofs.UsableNames.{use_has_path}
-use Rattle.wit_items.proofs.Usable.{declared_among, item_among, item_declared}
-use Rattle.wit_items.proofs.Written.{interface_uses, interface_inside, inside_is}
+use Rattle.wit_items.proofs.PlacedNames.{items_more, none_all, placed_inside}
+use Rattle.wit_items.proofs.Written.{use_has_path, declared_among, item_among, item_declared, interface_uses, interface_inside, inside_is}
 use Rattle.wit_items.proofs.items.add_items.Goals.{in-Interface+in_ok-interface_names-in-Interface+in_ok-push-in-Interface, in-World+in_ok-names-in-World+in_ok-push-in-World, in-Use}
 use Rattle.wit_items.proofs.items.add_items.Goals as goal
 
@@ -94,10 +91,11 @@ loop-item-preserved c =
           rw b.items-is (record {
             items = one_more item_view (map item_view old) out _ _ before all w new was.items refl one;
             each = λ before. items_more files out _ _ new (was.each before) (record {
-              filed = record { file = c.requires.file; among = item_among files c.args.place file w c.requires.file among };
-              named = rw top_is at e.names.view;
+              file = c.requires.file;
+              among = item_among files c.args.place file w c.requires.file among;
+              named = e.view;
               written = inside_is _ w (ap (map _) b.new.ensures.items ∙ sym (interface_inside Imported top b.in-Interface.interface)) (ap (map _) b.new-in-Interface.ensures.items ∙ sym (interface_inside Exported top b.in-Interface.interface));
-              placed = record { own = e.names.placed; inside = placed_inside prefix _ (none_all (λ ns. AreNamesPlaced prefix ns.items) _ b.new.ensures.items) (none_all (λ ns. AreNamesPlaced prefix ns.items) _ b.new-in-Interface.ensures.items) };
+              placed = record { own = e.placed; inside = placed_inside prefix _ (none_all (λ ns. AreNamesPlaced prefix ns.items) _ b.new.ensures.items) (none_all (λ ns. AreNamesPlaced prefix ns.items) _ b.new-in-Interface.ensures.items) };
             });
             none = in-following (wrong files top) xs i x here was.none (ap (wrong files top) b.in-Interface.is ∙ or_none (item_uses_fault files w) ∙ interface_uses files top b.in-Interface.interface ∙ e.first);
           }))
@@ -111,10 +109,11 @@ loop-item-preserved c =
           rw b.items-is (record {
             items = one_more item_view (map item_view old) out _ _ before all w new was.items refl one;
             each = λ before. items_more files out _ _ new (was.each before) (record {
-              filed = record { file = c.requires.file; among = item_among files c.args.place file w c.requires.file among };
-              named = rw top_is at e.own.view;
+              file = c.requires.file;
+              among = item_among files c.args.place file w c.requires.file among;
+              named = rw top_is at e.own;
               written = inside_is _ w (rw top_is at e.imported) (rw top_is at e.exported);
-              placed = record { own = e.own.placed; inside = placed_inside prefix _ e.imported_placed e.exported_placed };
+              placed = record { own = e.own_placed; inside = placed_inside prefix _ e.imported_placed e.exported_placed };
             });
             none = in-following (wrong files top) xs i x here was.none (ap (wrong files top) b.in-World.is ∙ or_none (item_uses_fault files w) ∙ (rw top_is at b.in_ok-names-in-World.ensures.first));
           }))

@@ -3,8 +3,7 @@ use Rattle.wit_syntax.proofs.Common.{AstItem}
 use Rattle.wit_arena.proofs.Common.{declared_items, flat_map, top_names}
 use Rattle.wit_first.specs.First.{first_in}
 use Rattle.wit_first.specs.UseFaults.{item_uses_fault}
-use Rattle.wit_items.specs.BorrowedItems.{item_view}
-use Rattle.wit_items.specs.Gathered.{AreItemsOf}
+use Rattle.wit_items.specs.BorrowedItems.{item_view, AreItemsOf}
 use Rattle.wit_items.proofs.items.add_items.Given as goal
 
 abbrev pub invariant-loop-item : goal.invariant-loop-item

@@ -4,7 +4,7 @@ use Rattle.wit_first.specs.First.{first_in}
 use Rattle.wit_first.specs.UseFaults.{item_uses_fault}
 use Rattle.wit_first.proofs.First.{in-flat, in-following, reports-in, reports_same}
 use Rattle.wit_top_names.proofs.Lost.{flat_more}
-use Rattle.wit_items.proofs.Gathered.{items_none}
+use Rattle.wit_items.proofs.PlacedNames.{items_none}
 use Rattle.wit_items.proofs.items.declared_items.Goals as goal
 
 -- of the uses of the items of a file

@@ -2,8 +2,7 @@ use Rattle.std.proofs.Common.{◌≡◌, None, map, take}
 use Rattle.wit_arena.proofs.Common.{PackageFile, all_items, file_items}
 use Rattle.wit_first.specs.First.{first_in}
 use Rattle.wit_first.specs.UseFaults.{item_uses_fault}
-use Rattle.wit_items.specs.BorrowedItems.{item_view}
-use Rattle.wit_items.specs.Gathered.{AreItemsOf}
+use Rattle.wit_items.specs.BorrowedItems.{item_view, AreItemsOf}
 use Rattle.wit_items.proofs.items.declared_items.Given as goal
 
 abbrev pub invariant-loop-place : goal.invariant-loop-place

@@ -6,15 +6,16 @@ use Rattle.wit_first.specs.First.{first_in}
 use Rattle.wit_first.specs.UseFaults.{item_uses_fault, use_fault}
 use Rattle.wit_files.specs.FileNames.{top_at}
 use Rattle.wit_items.specs.ItemPaths.{item_in}
-use Rattle.wit_items.specs.InlineNames.{side_uses}
+use Rattle.wit_items.specs.BorrowedItems.{side_uses}
 use Rattle.wit_items.proofs.Written.{world_uses}
 use Rattle.wit_items.proofs.items.names_of_world.Goals as goal
 
 pub returns-clause-names : goal.returns-clause-names
 returns-clause-names c = record {
-  own = c.in_ok-world_names.ensures.names;
+  own = c.in_ok-world_names.ensures.view;
   imported = c.in_ok-names_inside.ensures.names;
   exported = c.in_ok-names_inside-2.ensures.names;
+  own_placed = c.in_ok-world_names.ensures.placed;
   imported_placed = c.in_ok-names_inside.ensures.placed;
   exported_placed = c.in_ok-names_inside-2.ensures.placed;
 }

@@ -5,7 +5,7 @@ use Rattle.wit_first.specs.UseFaults.{use_fault}
 use Rattle.wit_first.proofs.First.{or_none, reports_same}
 use Rattle.wit_scopes.specs.BorrowedNames.{name_view}
 use Rattle.wit_scopes.proofs.Placed.{names_more}
-use Rattle.wit_items.specs.ForeignAddresses.{prefix_of}
+use Rattle.wit_items.specs.ItemPaths.{prefix_of}
 use Rattle.wit_items.proofs.PlacedNames.{source_seen}
 use Rattle.wit_items.proofs.part_names.add_part.Goals.{in-DefinitionPart+in_ok-push-in-DefinitionPart, in-UsePart+in_ok-from-in-UsePart+in_ok-add_used_names-in-UsePart, in-IncludePart, in-FunctionPart, in-ExternPart}
 use Rattle.wit_files.specs.FileNames.{top_at}

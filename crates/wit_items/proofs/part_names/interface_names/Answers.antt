@@ -1,12 +1,10 @@
-use Rattle.std.proofs.Common.{◌≡◌, ◌+◌, ◌++◌, List, ◌∷◌, [], Option, Some, map, take, refl, sym, ap, ◌∙◌, subst}
-use Rattle.wit_arena.proofs.Common.{Fault, InterfaceItem, PackageFile, TopName, err_from_is_err_and, interface_part, item_uses, map-append, own_uses, slice_get, slice_get_read, take_all, take_more}
+use Rattle.std.proofs.Common.{◌≡◌, ◌+◌, ◌++◌, List, ◌∷◌, [], Option, Some, map, take, refl, sym, ap, ◌∙◌}
+use Rattle.wit_arena.proofs.Common.{flat_map, part_names, Fault, InterfaceItem, PackageFile, TopName, err_from_is_err_and, interface_part, item_uses, own_uses, slice_get, slice_get_read, take_all, take_more}
 use Rattle.wit_first.specs.UseFaults.{use_fault}
 use Rattle.wit_first.proofs.First.{in-all, in-flat, in-following, reports-in, reports_same}
-use Rattle.wit_items.specs.ItemPaths.{part_view}
-use Rattle.wit_items.specs.PlacedItems.{AreNamesOf}
-use Rattle.wit_items.proofs.WrittenNames.{item_own}
-use Rattle.wit_items.proofs.PlacedNames.{names_next, names_none}
-use Rattle.wit_items.proofs.UsableNames.{among_flat}
+use Rattle.wit_items.specs.ItemPaths.{part_view, prefix_of}
+use Rattle.wit_items.proofs.Written.{item_own, parts_more, among_flat}
+use Rattle.wit_items.proofs.PlacedNames.{no_names}
 use Rattle.wit_files.specs.FileNames.{top_at}
 use Rattle.wit_items.proofs.part_names.interface_names.Goals as goal
 use Rattle.wit_first.specs.First.{first_in}
@@ -17,7 +15,8 @@ wrong files top x = first_in (use_fault files top) (item_uses x)
 
 pub loop-part-init : goal.loop-part-init
 loop-part-init c = rw c.in_ok-names.ensures.items (record {
-  names = names_none c.args.files.now c.args.place;
+  view = refl;
+  placed = no_names (prefix_of c.args.files.now);
   none = refl;
 })
 
@@ -54,14 +53,17 @@ loop-part-preserved c =
     let e = c.in_ok-add_part.ensures in
     let own = ap own_uses c.interface_part.ensures ∙ item_own x in
     let more : take (i + 1) xs ≡ take i xs ++ x ∷ [] = take_more xs i x c.loop-part-test.true ∙ ap (λ y. take i xs ++ y ∷ []) (sym c.part-item.is) in
-    let next : map interface_part (take i xs) ++ part_view c.interface_part.result ∷ [] ≡ map interface_part (take (i + 1) xs) = ap (λ p. map interface_part (take i xs) ++ p ∷ []) c.interface_part.ensures ∙ sym (ap (map interface_part) more ∙ map-append interface_part (take i xs) (x ∷ [])) in
     record {
-      names = subst (λ ps. AreNamesOf files c.args.place ps c.add_part.new.names.items) next (names_next files c.args.place (map interface_part (take i xs)) _ c.loop-part.names.items _ e.view e.placed was.names);
+      view = e.view ∙ ap (λ l. l ++ part_names top (part_view c.interface_part.result)) was.view ∙ sym (parts_more (part_names top) interface_part (take i xs) (take (i + 1) xs) x (part_view c.interface_part.result) more c.interface_part.ensures);
+      placed = e.placed was.placed;
       none = in-following (wrong files top) xs i x (slice_get_read xs _ i x refl c.loop-part-test.true c.part-item.is) was.none (rw own at e.first);
     }
 
-pub returns-clause-names : goal.returns-clause-names
-returns-clause-names c = subst (λ l. AreNamesOf c.args.files.now c.args.place (map interface_part l) c.loop-part.names.items) (take_all c.loop-part.part-index c.args.items.now c.loop-part-test.false) c.loop-part.invariant.names
+pub returns-clause-view : goal.returns-clause-view
+returns-clause-view c = c.loop-part.invariant.view ∙ ap (λ l. flat_map (part_names (top_at c.args.files.now c.args.place)) (map interface_part l)) (take_all c.loop-part.part-index c.args.items.now c.loop-part-test.false)
+
+pub returns-clause-placed : goal.returns-clause-placed
+returns-clause-placed c = c.loop-part.invariant.placed
 
 pub returns-clause-first : goal.returns-clause-first
 returns-clause-first c =

@@ -1,13 +1,11 @@
-use Rattle.std.proofs.Common.{◌≡◌, ◌+◌, ◌++◌, List, ◌∷◌, [], Option, Some, map, take, refl, sym, ap, ◌∙◌, subst}
-use Rattle.wit_arena.proofs.Common.{Fault, PackageFile, TheWorld, TopName, err_from_is_err_and, map-append, option_map, own_uses, part_uses, slice_get, slice_get-map, slice_get_read, take_all, take_more, world_part}
+use Rattle.std.proofs.Common.{◌≡◌, ◌+◌, ◌++◌, List, ◌∷◌, [], Option, Some, map, take, refl, sym, ap, ◌∙◌}
+use Rattle.wit_arena.proofs.Common.{flat_map, part_names, Fault, PackageFile, TheWorld, TopName, err_from_is_err_and, option_map, own_uses, part_uses, slice_get, slice_get-map, slice_get_read, take_all, take_more, world_part}
 use Rattle.wit_syntax.proofs.Common.{WorldItem}
 use Rattle.wit_first.specs.UseFaults.{use_fault}
 use Rattle.wit_first.proofs.First.{in-all, in-following, in-parts, reports-in, reports_same}
-use Rattle.wit_items.specs.ItemPaths.{part_view}
-use Rattle.wit_items.specs.PlacedItems.{AreNamesOf}
-use Rattle.wit_items.proofs.PlacedNames.{names_next, names_none}
-use Rattle.wit_items.proofs.WrittenNames.{own_among}
-use Rattle.wit_items.proofs.UsableNames.{among_flat, use_has_path}
+use Rattle.wit_items.specs.ItemPaths.{part_view, prefix_of}
+use Rattle.wit_items.proofs.PlacedNames.{no_names}
+use Rattle.wit_items.proofs.Written.{own_among, parts_more, among_flat, use_has_path}
 use Rattle.wit_files.specs.FileNames.{top_at}
 use Rattle.wit_items.proofs.part_names.world_names.Goals as goal
 use Rattle.wit_first.specs.First.{first_in}
@@ -18,7 +16,8 @@ wrong files top x = first_in (use_fault files top) (own_uses (world_part x))
 
 pub loop-part-init : goal.loop-part-init
 loop-part-init c = rw c.in_ok-names.ensures.items (record {
-  names = names_none c.args.files.now c.args.place;
+  view = refl;
+  placed = no_names (prefix_of c.args.files.now);
   none = refl;
 })
 
@@ -54,14 +53,17 @@ loop-part-preserved c =
     let was = c.loop-part.invariant in
     let e = c.in_ok-add_part.ensures in
     let more : take (i + 1) xs ≡ take i xs ++ x ∷ [] = take_more xs i x c.loop-part-test.true ∙ ap (λ y. take i xs ++ y ∷ []) (sym c.part-item.is) in
-    let next : map world_part (take i xs) ++ part_view c.world_part.result ∷ [] ≡ map world_part (take (i + 1) xs) = ap (λ p. map world_part (take i xs) ++ p ∷ []) c.world_part.ensures ∙ sym (ap (map world_part) more ∙ map-append world_part (take i xs) (x ∷ [])) in
     record {
-      names = subst (λ ps. AreNamesOf files c.args.place ps c.add_part.new.names.items) next (names_next files c.args.place (map world_part (take i xs)) _ c.loop-part.names.items _ e.view e.placed was.names);
+      view = e.view ∙ ap (λ l. l ++ part_names top (part_view c.world_part.result)) was.view ∙ sym (parts_more (part_names top) world_part (take i xs) (take (i + 1) xs) x (part_view c.world_part.result) more c.world_part.ensures);
+      placed = e.placed was.placed;
       none = in-following (wrong files top) xs i x (slice_get_read xs _ i x refl c.loop-part-test.true c.part-item.is) was.none (rw (ap own_uses c.world_part.ensures) at e.first);
     }
 
-pub returns-clause-names : goal.returns-clause-names
-returns-clause-names c = subst (λ l. AreNamesOf c.args.files.now c.args.place (map world_part l) c.loop-part.names.items) (take_all c.loop-part.part-index c.world_items-written.result.now c.loop-part-test.false ∙ c.world_items-written.ensures) c.loop-part.invariant.names
+pub returns-clause-view : goal.returns-clause-view
+returns-clause-view c = c.loop-part.invariant.view ∙ ap (λ l. flat_map (part_names (top_at c.args.files.now c.args.place)) (map world_part l)) (take_all c.loop-part.part-index c.world_items-written.result.now c.loop-part-test.false ∙ c.world_items-written.ensures)
+
+pub returns-clause-placed : goal.returns-clause-placed
+returns-clause-placed c = c.loop-part.invariant.placed
 
 pub returns-clause-first : goal.returns-clause-first
 returns-clause-first c =

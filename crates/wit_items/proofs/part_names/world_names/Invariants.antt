@@ -1,14 +1,16 @@
 use Rattle.std.proofs.Common.{◌≡◌, None, map, take}
 use Rattle.wit_syntax.proofs.Common.{WorldItem}
-use Rattle.wit_arena.proofs.Common.{own_uses, world_part}
+use Rattle.wit_arena.proofs.Common.{flat_map, part_names, own_uses, world_part}
 use Rattle.wit_first.specs.First.{first_in}
 use Rattle.wit_first.specs.UseFaults.{use_fault}
-use Rattle.wit_items.specs.PlacedItems.{AreNamesOf}
+use Rattle.wit_scopes.specs.BorrowedNames.{AreNamesPlaced, name_view}
+use Rattle.wit_items.specs.ItemPaths.{prefix_of}
 use Rattle.wit_files.specs.FileNames.{top_at}
 use Rattle.wit_items.proofs.part_names.world_names.Given as goal
 
 abbrev pub invariant-loop-part : goal.invariant-loop-part
 invariant-loop-part l = record {
-  names : AreNamesOf l.files l.place (map world_part (take l.part-index l.written)) l.names.items;
+  view : map name_view l.names.items ≡ flat_map (part_names (top_at l.files l.place)) (map world_part (take l.part-index l.written));
+  placed : AreNamesPlaced (prefix_of l.files) l.names.items;
   none : first_in (λ (x : WorldItem). first_in (use_fault l.files (top_at l.files l.place)) (own_uses (world_part x))) (take l.part-index l.written) ≡ None;
 }

@@ -2,8 +2,7 @@ use Rattle.std.proofs.Common.{◌≡◌, None, Some, sym, ap, ◌∙◌}
 use Rattle.wit_arena.proofs.Common.{Target}
 use Rattle.wit_top_names.specs.Tops.{target_view}
 use Rattle.wit_files.specs.declared.file_names.Found.TheVariants.{Foreign as ForeignAt}
-use Rattle.wit_items.proofs.Finding.{got_at}
-use Rattle.wit_items.proofs.Others.{entry_found, entry_missing}
+use Rattle.wit_items.proofs.Others.{got_at, entry_found, entry_missing}
 use Rattle.wit_items.proofs.resolved_path.entry_there.Goals as goal
 
 pub returns-in-Some-Foreign : goal.returns-in-Some-Foreign

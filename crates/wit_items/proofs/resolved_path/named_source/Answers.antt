@@ -3,7 +3,7 @@ use Rattle.wit_arena.proofs.Common.{Id, Local, all_items, is_world_at, path_id, 
 use Rattle.wit_first.specs.FileFaults.{lost_fault}
 use Rattle.wit_first.specs.UseFaults.{reached_fault}
 use Rattle.wit_files.specs.declared.file_names.Found.TheVariants.{Item as ItemAt}
-use Rattle.wit_items.proofs.Finding.{leads_nowhere, leads_to, leads_within, lost_named}
+use Rattle.wit_items.proofs.Others.{leads_nowhere, leads_to, leads_within, lost_named}
 use Rattle.wit_items.proofs.resolved_path.named_source.Goals as goal
 
 pub is_world-requires : goal.is_world-requires

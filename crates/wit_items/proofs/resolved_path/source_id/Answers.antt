@@ -2,8 +2,7 @@ use Rattle.std.proofs.Common.{rules, ◌≡◌, Option, Some, None, ℕ, inl, in
 use Rattle.wit_arena.proofs.Common.{env_of, if◌then◌else◌, is_none, item_word, missing_at}
 use Rattle.wit_scopes.specs.BorrowedNames.{IsPlaced}
 use Rattle.wit_scopes.specs.declared.scope_name.Source.{Source}
-use Rattle.wit_items.specs.ForeignAddresses.{prefix_of}
-use Rattle.wit_items.specs.ItemPaths.{source_target}
+use Rattle.wit_items.specs.ItemPaths.{prefix_of, source_target}
 use Rattle.wit_items.specs.ResolvedInterfaces.{source_place, unresolved_fault}
 use Rattle.wit_items.proofs.Found.{prefix_within}
 use Rattle.wit_items.proofs.resolved_path.source_id.Goals as goal

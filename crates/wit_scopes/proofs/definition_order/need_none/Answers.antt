@@ -1,7 +1,7 @@
 use Rattle.std.proofs.Common.{◌≡◌, Some, ap, sym, ◌∙◌, length, map}
 use Rattle.wit_arena.proofs.Common.{read_map, slice_get}
 use Rattle.wit_scopes.specs.BorrowedNames.{name_view}
-use Rattle.wit_scopes.proofs.NeedingNone.{none_more, some_needed}
+use Rattle.wit_scopes.proofs.Placed.{none_more, some_needed}
 use Rattle.wit_scopes.proofs.definition_order.need_none.Goals as goal
 
 pub returns-then-as_slice-ne0 : goal.returns-then-as_slice-ne0

@@ -2,9 +2,9 @@ use Rattle.std.proofs.Common.{◌≡◌, ◌++◌, get_or, map, ap, sym, ◌∙�
 use Rattle.wit_arena.proofs.Common.{IsOrder, MatchBool-at_true, defined, err_from_is_err_and, in_order, length-map, local_id, names_within, rows_of, slice_get-get_or}
 use Rattle.wit_scopes.specs.BorrowedNames.{name_view, definition_view}
 use Rattle.wit_scopes.specs.DefinitionOrder.{NeedNone}
-use Rattle.wit_scopes.proofs.NeedingNone.{written_in_turn}
+use Rattle.wit_scopes.proofs.Placed.{written_in_turn}
 use Rattle.wit_scopes.proofs.definition_order.ordered_turn.Goals as goal
-use Rattle.wit_arena.proofs.JoinedTurns.{map-in_order}
+use Rattle.wit_arena.proofs.JoinedMade.{map-in_order}
 
 pub returns-then-branch-clause-turn : goal.returns-then-branch-clause-turn
 returns-then-branch-clause-turn c =

@@ -1,7 +1,7 @@
 use Rattle.std.proofs.Common.{◌≡◌, ℕ, List, Some, inl, inr, map, take, ap, sym, ◌∙◌, subst}
 use Rattle.wit_arena.proofs.Common.{AllDiffer, Id, IsRepeatAt, codes, defined_twice, map_at, map_map, name_twice, slice_get, slice_get-get_or, slice_get_within}
 use Rattle.wit_first.proofs.First.{no_repeats, repeat_first}
-use Rattle.wit_scopes.proofs.Repeating.{few_differ}
+use Rattle.wit_scopes.proofs.Placed.{few_differ}
 use Rattle.wit_scopes.proofs.distinct.check_unique_names.Goals as goal
 
 abbrev text : Id → List ℕ

@@ -1,8 +1,7 @@
 use Rattle.std.proofs.Common.{◌+◌, ◌++◌, ◌∷◌, [], List, map, take, refl, ap, ◌∙◌}
 use Rattle.wit_arena.proofs.Common.{UseName, Used, map-append, slice_get_read, take_all, take_next}
 use Rattle.wit_scopes.specs.BorrowedNames.{source_view, name_view}
-use Rattle.wit_scopes.proofs.Declaring.{one_more}
-use Rattle.wit_scopes.proofs.Placed.{names_more}
+use Rattle.wit_scopes.proofs.Placed.{one_more, names_more}
 use Rattle.wit_scopes.proofs.scope_name.add_used_names.Goals as goal
 
 pub loop-name-preserved : goal.loop-name-preserved

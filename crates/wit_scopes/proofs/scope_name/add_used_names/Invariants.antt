@@ -1,7 +1,6 @@
 use Rattle.std.proofs.Common.{◌≡◌, ◌++◌, List, map, take}
 use Rattle.wit_arena.proofs.Common.{Address, Used}
-use Rattle.wit_scopes.specs.BorrowedNames.{source_view, name_view, IsPlaced}
-use Rattle.wit_scopes.specs.PlacedNames.{AreNamesPlaced}
+use Rattle.wit_scopes.specs.BorrowedNames.{source_view, name_view, IsPlaced, AreNamesPlaced}
 use Rattle.wit_scopes.proofs.scope_name.add_used_names.Given as goal
 
 abbrev pub invariant-loop-name : goal.invariant-loop-name

@@ -1,7 +1,7 @@
 use Rattle.std.proofs.Common.{◌≡◌, ◌++◌, ◌∷◌, [], List, Some, map, take, refl, sym, ap, ◌∙◌}
 use Rattle.wit_arena.proofs.Common.{ScopeName, append-nil, defined, map-append, slice_get, slice_get_read, take_all}
 use Rattle.wit_scopes.specs.BorrowedNames.{Borrowed, name_view, definition_view}
-use Rattle.wit_scopes.proofs.UsedNames.{defined_more}
+use Rattle.wit_scopes.proofs.Placed.{defined_more}
 use Rattle.wit_scopes.proofs.scope_name.definitions.Goals.{in-Defined+in_ok-push, in_default}
 use Rattle.wit_scopes.proofs.scope_name.definitions.Goals as goal
 

@@ -2,7 +2,7 @@ use Rattle.std.proofs.Common.{◌≡◌, ◌++◌, ◌∷◌, [], List, Some, ta
 use Rattle.wit_arena.proofs.Common.{append-nil, flat_map, slice_get, slice_get_read, take_all}
 use Rattle.wit_scopes.specs.BorrowedNames.{Borrowed, own_use}
 use Rattle.wit_scopes.specs.declared.scope_name.UsedName.{UsedName}
-use Rattle.wit_scopes.proofs.UsedNames.{uses_more}
+use Rattle.wit_scopes.proofs.Placed.{uses_more}
 use Rattle.wit_scopes.proofs.scope_name.used_names.Goals.{in-Used+in_ok-push, in_default}
 use Rattle.wit_scopes.proofs.scope_name.used_names.Goals as goal
 

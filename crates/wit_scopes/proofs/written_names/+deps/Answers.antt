@@ -1,6 +1,6 @@
-use Rattle.std.proofs.Common.{◌≡◌, ◌+◌, ◌++◌, ◌∷◌, [], List, take, sym, ap, ◌∙◌}
+use Rattle.std.proofs.Common.{◌≡◌, ◌+◌, ◌++◌, ◌∷◌, [], take, sym, ap, ◌∙◌}
 use Rattle.wit_arena.proofs.Common.{append-nil, take_all, take_more}
-use Rattle.wit_scopes.proofs.TypeWords.{type_words, words_more, tuple_words}
+use Rattle.wit_scopes.proofs.Placed.{type_words, words_more, tuple_words}
 use Rattle.wit_scopes.proofs.written_names.+deps.Goals as goal
 
 pub collect_all_deps-loop-ty-preserved : goal.collect_all_deps-loop-ty-preserved

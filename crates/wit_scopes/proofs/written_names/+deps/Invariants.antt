@@ -1,5 +1,5 @@
 use Rattle.std.proofs.Common.{◌≡◌, ◌++◌, take}
-use Rattle.wit_scopes.proofs.TypeWords.{type_words}
+use Rattle.wit_scopes.proofs.Placed.{type_words}
 use Rattle.wit_scopes.proofs.written_names.+deps.Given as goal
 
 abbrev pub invariant-collect_all_deps-loop-ty : goal.invariant-collect_all_deps-loop-ty

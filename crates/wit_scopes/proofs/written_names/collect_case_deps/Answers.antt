@@ -1,6 +1,6 @@
 use Rattle.std.proofs.Common.{◌≡◌, ◌+◌, ◌++◌, ◌∷◌, [], List, take, sym, ap, ◌∙◌}
 use Rattle.wit_arena.proofs.Common.{Case, append-nil, case_types, take_all, take_more}
-use Rattle.wit_scopes.proofs.TypeWords.{type_words, words_more, cases_more, cases_same}
+use Rattle.wit_scopes.proofs.Placed.{type_words, words_more, cases_more, cases_same}
 use Rattle.wit_scopes.proofs.written_names.collect_case_deps.Goals.{in-Some+in_ok-collect_deps, in_default}
 use Rattle.wit_scopes.proofs.written_names.collect_case_deps.Goals as goal
 

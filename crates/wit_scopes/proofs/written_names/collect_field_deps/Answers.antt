@@ -1,6 +1,6 @@
 use Rattle.std.proofs.Common.{◌≡◌, ◌+◌, ◌++◌, ◌∷◌, [], List, take, sym, ap, ◌∙◌}
 use Rattle.wit_arena.proofs.Common.{Field, append-nil, field_types, map-append, take_all, take_more}
-use Rattle.wit_scopes.proofs.TypeWords.{type_words, words_more}
+use Rattle.wit_scopes.proofs.Placed.{type_words, words_more}
 use Rattle.wit_scopes.proofs.written_names.collect_field_deps.Goals as goal
 
 pub loop-field-preserved : goal.loop-field-preserved
