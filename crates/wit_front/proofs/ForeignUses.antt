@@ -5,7 +5,7 @@ use Rattle.wit_items.specs.declared.items.Item.{Item as BorrowedItem}
 use Rattle.wit_arena.proofs.Common.{Item}
 use Rattle.wit_syntax.proofs.Common.{Use}
 use Rattle.wit_tree.specs.declared.tree.InterfaceItem.TheVariants as interface_item
-use Rattle.wit_items.proofs.WrittenNames.{items_names, uses_written, names_written_in}
+use Rattle.wit_items.proofs.Written.{items_names, uses_written, names_written_in}
 use Rattle.wit_front.specs.ForeignPrefix.{name_foreign_uses, borrowed_foreign_uses}
 
 -- those from other packages

@@ -1,6 +1,7 @@
 -- What comes before the arenas, with one item more, and with one name more.
 use Rattle.std.proofs.Common.{◌≡◌, ℕ, zero, suc, ◌+◌, ◌<◌, Bool, true, false, not, cond, if◌then◌else◌, List, [], ◌∷◌, ◌++◌, length, Some, None, inl, inr, nat_eq, refl, sym, ap, ◌∙◌, subst, arith, append_assoc, add-zero}
 use Rattle.wit_items.proofs.Common.{Address, AllDiffer, AstItem, ForeignUse, ForeignVisit, Names, after_one, append-nil, at_prefix, cases_Bool, differ_at, filter, filter-append, foreign_place, insert_entry, kept_at, lookup, map, name_itself, pointwise, same_address, same_address-equal, same_address-from, same_address-itself, same_item, slice_get, slice_get_within, slice_set, visited}
+use Rattle.wit_arena.proofs.OneMade.{map_same}
 use Rattle.wit_model.specs.declared.ast_item.AstItem.TheVariants as entry
 use Rattle.wit_front.specs.ForeignPrefix.{interfaces_among, worlds_among, entry_after, entries_after, used_from}
 
@@ -121,10 +122,6 @@ slice_set-map f g [] i x at others = absurd (let f : ⊥ = cc in f)
 slice_set-map {X} {Y} f g (z ∷ xs) zero x at others =
     let here : z ≡ x = cc in
     ap (λ (y : X). g y ∷ map f xs) (sym here) ∙ ap (λ (l : List Y). g z ∷ l) (map_same f g xs (λ j y there. others (suc j) y there (λ wrong. (let f : ⊥ = omega arith in f))))
-  where
-    map_same : {X Y : Type 0} (f g : X → Y) (xs : List X) → ((j : ℕ) (y : X) → slice_get xs j ≡ Some y → f y ≡ g y) → map f xs ≡ map g xs
-    map_same f g [] same = refl
-    map_same {X} {Y} f g (y ∷ xs) same = ap (λ (w : Y). w ∷ map f xs) (same 0 y refl) ∙ ap (λ (l : List Y). g y ∷ l) (map_same f g xs (λ j z there. same (suc j) z there))
 slice_set-map {X} {Y} f g (z ∷ xs) (suc i) x at others = ap (λ (w : Y). w ∷ slice_set (map f xs) i (g x)) (others 0 z refl (λ wrong. (let f : ⊥ = omega arith in f))) ∙ ap (λ (l : List Y). g z ∷ l) (slice_set-map f g xs i x at (λ j y there other. others (suc j) y there (λ same. other (omega arith))))
 
 -- none of these is the item

@@ -5,9 +5,7 @@ use Rattle.wit_types.specs.declared.types.TypeDefKind.TheVariants as kind
 use Rattle.wit_model.specs.declared.ast_item.AstItem.TheVariants as entry
 use Rattle.wit_items.specs.declared.items.Item.{Item as BorrowedItem}
 use Rattle.wit_scopes.specs.BorrowedNames.{Borrowed, name_view}
-use Rattle.wit_items.specs.BorrowedItems.{item_view, names_view}
-use Rattle.wit_items.specs.Gathered.{AreItemsOf}
-use Rattle.wit_items.specs.InlineNames.{inside_view}
+use Rattle.wit_items.specs.BorrowedItems.{item_view, AreItemsOf, inside_view}
 use Rattle.wit_front.specs.declared.foreign.ForeignArenas.{ForeignArenas}
 
 -- an interface of another package with these types
@@ -70,7 +68,7 @@ name_foreign_uses _ = []
 
 -- those among the names of an item, and then among those of what is written in it, on the imported side and on the exported one
 abbrev pub borrowed_foreign_uses : BorrowedItem → List ForeignUse
-borrowed_foreign_uses i = flat_map name_foreign_uses (names_view i) ++ (flat_map (flat_map name_foreign_uses) (inside_view Imported i) ++ flat_map (flat_map name_foreign_uses) (inside_view Exported i))
+borrowed_foreign_uses i = flat_map name_foreign_uses (map name_view i.names.items) ++ (flat_map (flat_map name_foreign_uses) (inside_view Imported i) ++ flat_map (flat_map name_foreign_uses) (inside_view Exported i))
 
 -- some names were used from some items, at which what is at hand is placed
 pub record HasUsed (types : List TypeDef) (a : ForeignArenas) (Placed : List Address → Type 0) : Type 0 where

@@ -1,15 +1,12 @@
 //! What other packages' items put before the arenas.
-ghost use Rattle.std.specs.Prelude.{◌≡◌, ◌++◌, ◌∷◌, ◌<◌, All, List, Some, [], true, false, length, map, nat_eq, slice_get, IfOk, OnOk};
+ghost use Rattle.std.specs.Prelude.{◌≡◌, ◌++◌, ◌∷◌, ◌<◌, All, Some, [], true, false, length, map, nat_eq, slice_get, IfOk, OnOk};
 ghost use Rattle.std.specs.Cmp.Lexicographic.{pointwise};
 ghost use Rattle.std.specs.List.{flat_map};
 ghost use Rattle.indexmap.specs.IndexMap.{insert_entry};
-ghost use Rattle.wit_syntax.specs.Address.{Address};
-ghost use Rattle.wit_syntax.specs.Foreign.{ForeignVisit as TheVisit};
 ghost use Rattle.wit_syntax.specs.Source.{use_of_foreign};
 ghost use Rattle.wit_files.specs.ForeignPaths.{foreign_view};
-ghost use Rattle.wit_scopes.specs.BorrowedNames.{name_view};
-ghost use Rattle.wit_scopes.specs.PlacedNames.{IsNamePlaced, AreNamesPlaced};
-ghost use Rattle.wit_items.specs.PlacedItems.{ArePlacedInside, IsItemPlaced};
+ghost use Rattle.wit_scopes.specs.BorrowedNames.{name_view, IsNamePlaced, AreNamesPlaced};
+ghost use Rattle.wit_items.specs.BorrowedItems.{ArePlacedInside, IsItemPlaced};
 ghost use Rattle.wit_front.specs.ForeignPrefix.{AddsPrefix, AddsUsed, inside_uses, interface_with, with_types, bare_world, AreAdded, HasUsed, name_foreign_uses, borrowed_foreign_uses};
 
 use std::alloc::{AllocError, Global};
@@ -101,7 +98,7 @@ impl ForeignArenas {
     /// Adds a world at its first visit.
     fn add_world(&mut self, alloc: Global, visit: ForeignVisit<'_, '_>) -> Result<(), AllocError>
         requires { visit.wants_world ≡ true }
-        ensures { OnOk result ((vs : List TheVisit) → AreAdded vs [] [] self.old → AreAdded (vs ++ foreign_view visit.entry ∷ []) [] [] self.new) }
+        ensures { OnOk result ((vs : _) → AreAdded vs [] [] self.old → AreAdded (vs ++ foreign_view visit.entry ∷ []) [] [] self.new) }
     {
         let world = foreign_world(alloc, visit.name.span)?;
         let id = self.worlds.alloc(world)?;
@@ -116,7 +113,7 @@ impl ForeignArenas {
         visit: ForeignVisit<'_, '_>,
     ) -> Result<(), AllocError>
         requires { visit.wants_world ≡ false }
-        ensures { OnOk result ((vs : List TheVisit) → AreAdded vs [] [] self.old → AreAdded (vs ++ foreign_view visit.entry ∷ []) [] [] self.new) }
+        ensures { OnOk result ((vs : _) → AreAdded vs [] [] self.old → AreAdded (vs ++ foreign_view visit.entry ∷ []) [] [] self.new) }
     {
         let interface = foreign_interface(alloc, visit.name.span);
         let id = self.interfaces.alloc(interface)?;
@@ -126,7 +123,7 @@ impl ForeignArenas {
 
     /// Adds an item at its first visit.
     fn add(&mut self, alloc: Global, visit: ForeignVisit<'_, '_>) -> Result<(), AllocError>
-        ensures { OnOk result ((vs : List TheVisit) → AreAdded vs [] [] self.old → AreAdded (vs ++ foreign_view visit.entry ∷ []) [] [] self.new) }
+        ensures { OnOk result ((vs : _) → AreAdded vs [] [] self.old → AreAdded (vs ++ foreign_view visit.entry ∷ []) [] [] self.new) }
     {
         if visit.wants_world {
             return self.add_world(alloc, visit);
@@ -166,7 +163,7 @@ impl ForeignArenas {
         name: &UseName<'_>,
     ) -> Result<(), AllocError>
         requires within { place < length self.old.interfaces }
-        ensures { OnOk result ((s : Address) → AddsUsed types.old self.old types.new self.new (λ p. slice_get p place ≡ Some s) (use_of_foreign s attributes.now name.now ∷ [])) }
+        ensures { OnOk result ((s : _) → AddsUsed types.old self.old types.new self.new (λ p. slice_get p place ≡ Some s) (use_of_foreign s attributes.now name.now ∷ [])) }
     {
         let used = name.name;
         let id = self.interfaces.id_at(place);
@@ -190,7 +187,7 @@ impl ForeignArenas {
         types: &mut Entries,
         name: &ScopeName<'_, '_>,
     ) -> Result<(), AllocError>
-        requires { HasUsed types.old self.old (λ prefix. IsNamePlaced prefix name.now) }
+        requires { HasUsed types.old self.old (λ p. IsNamePlaced p name.now) }
         ensures { OnOk result (AddsUsed types.old self.old types.new self.new (λ p. IsNamePlaced p name.now) (name_foreign_uses (name_view name.now))) }
     {
         match name {
@@ -213,7 +210,7 @@ impl ForeignArenas {
         types: &mut Entries,
         names: &[ScopeName<'_, '_>],
     ) -> Result<(), AllocError>
-        requires { HasUsed types.old self.old (λ prefix. AreNamesPlaced prefix names.now) }
+        requires { HasUsed types.old self.old (λ p. AreNamesPlaced p names.now) }
         ensures { OnOk result (AddsUsed types.old self.old types.new self.new (λ p. AreNamesPlaced p names.now) (flat_map name_foreign_uses (map name_view names.now))) }
     {
         for name in names {
@@ -231,7 +228,7 @@ impl ForeignArenas {
         types: &mut Entries,
         inside: &[Vec<ScopeName<'_, '_>>],
     ) -> Result<(), AllocError>
-        requires { HasUsed types.old self.old (λ prefix. ArePlacedInside prefix inside.now) }
+        requires { HasUsed types.old self.old (λ p. ArePlacedInside p inside.now) }
         ensures { OnOk result (AddsUsed types.old self.old types.new self.new (λ p. ArePlacedInside p inside.now) (inside_uses inside.now)) }
     {
         for names in inside {
@@ -250,7 +247,7 @@ impl ForeignArenas {
         types: &mut Entries,
         item: &Item<'_, '_>,
     ) -> Result<(), AllocError>
-        requires { HasUsed types.old self.old (λ prefix. IsItemPlaced prefix item.now) }
+        requires { HasUsed types.old self.old (λ p. IsItemPlaced p item.now) }
         ensures { OnOk result (AddsUsed types.old self.old types.new self.new (λ p. IsItemPlaced p item.now) (borrowed_foreign_uses item.now)) }
     {
         self.add_used_by_names(alloc, types, &item.names)?;
@@ -267,7 +264,7 @@ impl ForeignArenas {
         types: &mut Entries,
         items: &[Item<'_, '_>],
     ) -> Result<(), AllocError>
-        requires { HasUsed types.old self.old (λ prefix. All (IsItemPlaced prefix) items.now) }
+        requires { HasUsed types.old self.old (λ p. All (IsItemPlaced p) items.now) }
         ensures { OnOk result (AddsPrefix types.old self.old types.new self.new items.now) }
     {
         for item in items {

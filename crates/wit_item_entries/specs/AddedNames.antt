@@ -1,7 +1,7 @@
--- What the names of a scope add to the arena, one after another.
-use Rattle.std.specs.Prelude.{◌≡◌, List, [], map}
-use Rattle.wit_arena.specs.Common.{Address, AddsScope, Defines, Id, IsUsed, Names, Required, ResolvedScope, ScopeName, TypeDef, TypeOwner, all_handles, env_of, flat_map, in_turn, local_id, local_names, name_types, names_in, used}
-use Rattle.wit_entries.specs.Requiring.{Requires}
+-- What the names of a scope add to the arena, one after another, in the order in which they are resolved.
+use Rattle.std.specs.Prelude.{◌≡◌, List, [], map, ℕ, ◌++◌}
+use Rattle.wit_arena.specs.Common.{Address, AddsScope, AreDistinct, Defines, Id, IsOrder, IsUsed, Names, Required, ResolvedScope, ScopeName, TypeDef, TypeOwner, all_handles, env_of, flat_map, in_turn, local_id, local_names, name_types, names_in, rows_of, used}
+use Rattle.wit_entries.specs.EntryFaults.{Requires}
 use Rattle.wit_entries.specs.declared.scope.Scope.{Scope}
 use Rattle.wit_scopes.specs.BorrowedNames.{source_view}
 use Rattle.wit_scopes.specs.declared.scope_name.UsedName.{UsedName}
@@ -26,3 +26,16 @@ AddsRest a b old new xs ids = (first : List TypeDef) (cs : List ResolvedScope) �
 -- a used name was added to a scope
 abbrev pub AddsUsed : Interfaces → Scope → Scope → List TypeDef → List TypeDef → UsedName → Type 0
 AddsUsed is a b old new u = IsUsed old new (resolved_scopes_of is) a.owner a.names b.names (source_view u.from) u.attributes.now u.name.now
+
+-- these are the names of a scope as they are resolved
+pub record IsTurn (xs : List ScopeName) (ids : List Id) : Type 0 where
+  pub order : List ℕ
+  pub least : IsOrder (rows_of xs) order
+  pub distinct : AreDistinct xs
+  pub are : ids ≡ map local_id (in_turn xs order)
+
+-- what is required comes after what was required before
+pub record Appends (old new : List Required) (P : List Required → Type 0) : Type 0 where
+  pub own : List Required
+  pub list : new ≡ old ++ own
+  pub holds : P own

@@ -1,23 +1,20 @@
 //! What is stated of an item and its names, the same of an interface and of a world, and the functions of an
 //! interface.
-ghost use Rattle.std.specs.Prelude.{◌≡◌, ◌<◌, IfOk, OnOk, length, map};
+ghost use Rattle.std.specs.Prelude.{◌≡◌, ◌<◌, IfOk, OnOk, false, length, map};
 ghost use Rattle.wit_syntax.specs.Function.{functions};
-ghost use Rattle.wit_syntax.specs.Source.{scope_names as the_names, declared_metadata};
+ghost use Rattle.wit_syntax.specs.Source.{scope_names as the_names, declared_metadata, is_world};
 ghost use Rattle.wit_syntax.specs.Sides.{SideFunction};
-ghost use Rattle.wit_arena.specs.Resolving.{env_of};
-ghost use Rattle.wit_entries.specs.Requiring.{IsExtended};
-ghost use Rattle.wit_rules.specs.BorrowedFunctions.{function_view};
-ghost use Rattle.wit_externs.specs.Clash.{AreNamesOf};
-ghost use Rattle.wit_externs.specs.AloneFaults.{FindsIn};
-ghost use Rattle.wit_scopes.specs.BorrowedNames.{name_view};
-ghost use Rattle.wit_scopes.specs.PlacedNames.{AreNamesPlaced};
-ghost use Rattle.wit_items.specs.BorrowedItems.{scope_item};
-ghost use Rattle.wit_items.specs.SourceItems.{AreOf};
-ghost use Rattle.wit_items.specs.ForeignAddresses.{prefix_of};
+ghost use Rattle.wit_arena.specs.Resolving.{env_of, names_in};
+ghost use Rattle.wit_entries.specs.EntryFaults.{IsExtended};
+ghost use Rattle.wit_rules.specs.Signatures.{function_view};
+ghost use Rattle.wit_externs.specs.Clash.{AreNamesOf, FindsIn};
+ghost use Rattle.wit_scopes.specs.BorrowedNames.{name_view, AreNamesPlaced};
+ghost use Rattle.wit_items.specs.BorrowedItems.{scope_item, AreOf};
+ghost use Rattle.wit_items.specs.ItemPaths.{prefix_of};
 ghost use Rattle.wit_items.specs.ResolvedInterfaces.{resolved_scopes_of};
-ghost use Rattle.wit_item_entries.specs.Body.{AddsMade, HasTurn, IsTurned};
-ghost use Rattle.wit_item_entries.specs.ScopeFunctionFaults.{functions_fault};
-ghost use Rattle.wit_item_entries.specs.ReachedFaults.{FindsNames, item_stability};
+ghost use Rattle.wit_item_entries.specs.Body.{AddsMade, HasTurn};
+ghost use Rattle.wit_item_entries.specs.AddedNames.{IsTurn};
+ghost use Rattle.wit_item_entries.specs.ReachedFaults.{functions_fault, FindsNames, item_stability};
 
 use crate::functions::{interface_functions, written_results};
 use crate::names::{ResolvedNames, resolve_names};
@@ -67,8 +64,8 @@ pub fn resolve_head<'a>(
 ) -> ParseResult<Head<'a>>
     requires named { map name_view item.now.names.now ≡ the_names (scope_item item.now) }
     requires placed { AreNamesPlaced (prefix_of interfaces.now.files) item.now.names.now }
-    ensures as_stated { IfOk result (λ head. AreOf (declared_metadata (scope_item item.now).declared) head.metadata) }
-    ensures adds { IfOk result (λ head. HasTurn head.names types.new (scope_item item.now) types.old (resolved_scopes_of interfaces.now) owner) }
+    ensures as_stated { IfOk result (λ h. AreOf (declared_metadata (scope_item item.now).declared) h.metadata) }
+    ensures adds { IfOk result (λ h. HasTurn h.names types.new (scope_item item.now) types.old (resolved_scopes_of interfaces.now) owner) }
     ensures extended { OnOk result (IsExtended types.old types.new) }
     ensures first { FindsNames (item_stability (scope_item item.now)) interfaces.now owner types.old item.now.names.now result }
 {
@@ -86,15 +83,18 @@ pub fn resolve_item_functions<'t, 'a>(
     turn: &[Id<'a>],
     required: &mut Vec<Required>,
 ) -> ParseResult<ItemFunctions<'t, 'a>>
-    requires { IsTurned item.now names.now turn.now }
+    requires sort { is_world (scope_item item.now) ≡ false }
+    requires named { map name_view item.now.names.now ≡ the_names (scope_item item.now) }
+    requires turn { IsTurn (map name_view item.now.names.now) turn.now }
+    requires listed { names_in names.now ≡ map (λ id. id.name.now) turn.now }
     ensures written { IfOk result (λ own. map function_view own.written.items ≡ functions (scope_item item.now)) }
-    ensures adds { IfOk result (λ own. AddsMade names.now turn.now types.old types.new (scope_item item.now) own.functions.items required.old.items required.new.items) }
+    ensures adds { IfOk result (λ own. AddsMade names.now turn.now types.old types.new (scope_item item.now) own.functions.items required.old required.new) }
     ensures in_use { IfOk result (λ own. 0 < length own.written.items → AreNamesOf own.in_use turn.now (map SideFunction (map function_view own.written.items))) }
     ensures extended { IsExtended types.old types.new }
-    ensures first { FindsIn (env_of names.now) types.new (λ handle. functions_fault handle (map name_view item.now.names.now) turn.now (functions (scope_item item.now))) result }
+    ensures first { FindsIn (env_of names.now) types.new (functions_fault (map name_view item.now.names.now) turn.now (functions (scope_item item.now))) result }
 {
     let alloc = *names.allocator();
-    let written = interface_functions(alloc, &item.declared)?;
+    let written = interface_functions(alloc, item)?;
     let mut in_use = Sides::new(alloc);
     if written.len() == 0 {
         if !have_upper_case(turn) {

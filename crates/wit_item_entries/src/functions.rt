@@ -1,21 +1,19 @@
 //! The functions of an item as they are written, and as they are in the package.
-ghost use Rattle.std.specs.Prelude.{◌≡◌, ◌++◌, IfOk, OnOk, map, nat_eq};
+ghost use Rattle.std.specs.Prelude.{◌≡◌, ◌++◌, IfOk, OnOk, false, map, nat_eq};
 ghost use Rattle.std.specs.Cmp.Lexicographic.{pointwise};
 ghost use Rattle.std.specs.List.{flat_map};
 ghost use Rattle.indexmap.specs.IndexMap.{insert_entry};
 ghost use Rattle.wit_syntax.specs.Repeats.{AllDiffer};
-ghost use Rattle.wit_syntax.specs.Source.{interface_part, local_name, world_part};
-ghost use Rattle.wit_syntax.specs.Function.{definition_functions, extern_functions, part_functions};
+ghost use Rattle.wit_syntax.specs.Source.{interface_part, is_world, local_name, world_part};
+ghost use Rattle.wit_syntax.specs.Function.{definition_functions, extern_functions, functions as the_functions, part_functions};
 ghost use Rattle.wit_arena.specs.SourceFunctions.{placed_functions};
-ghost use Rattle.wit_rules.specs.BorrowedFunctions.{function_view};
+ghost use Rattle.wit_rules.specs.Signatures.{function_view, stated_ok, AreResults};
 ghost use Rattle.wit_syntax.specs.SignatureRules.{body_ok};
-ghost use Rattle.wit_rules.specs.Signatures.{stated_ok, AreResults};
-ghost use Rattle.wit_items.specs.BorrowedItems.{declared_view};
+ghost use Rattle.wit_items.specs.BorrowedItems.{scope_item};
 ghost use Rattle.wit_scopes.specs.BorrowedNames.{name_view};
-ghost use Rattle.wit_item_entries.specs.Body.{AreFunctionsIn};
 
 use std::alloc::{AllocError, Global};
-use wit_items::items::Declared;
+use wit_items::items::{Declared, ItemScope};
 use wit_maps::TextTable;
 use wit_model::Function;
 use wit_rules::borrowed::BorrowedFunction;
@@ -29,14 +27,14 @@ use wit_values::{pair_with, push};
 
 /// Adds the functions of a definition: those of a resource.
 fn add_definition<'t, 'a>(
+    part: &'t TypeDef<'a>,
     functions: &mut Vec<BorrowedFunction<'t, 'a>>,
-    definition: &'t TypeDef<'a>,
 ) -> Result<(), AllocError>
-    ensures { OnOk result (map function_view functions.new.items ≡ map function_view functions.old.items ++ definition_functions definition.now.name definition.now.body) }
+    ensures { OnOk result (map function_view functions.new.items ≡ map function_view functions.old.items ++ definition_functions part.now.name part.now.body) }
 {
-    if let TypeBody::Resource { funcs } = &definition.body {
+    if let TypeBody::Resource { funcs } = &part.body {
         for function in funcs {
-            push(functions, BorrowedFunction::Of(definition.name, function))?;
+            push(functions, BorrowedFunction::Of(part.name, function))?;
         }
     }
     Ok(())
@@ -44,8 +42,8 @@ fn add_definition<'t, 'a>(
 
 /// Adds the function that a world imports or exports, if it is one.
 fn add_extern_part<'t, 'a>(
-    functions: &mut Vec<BorrowedFunction<'t, 'a>>,
     written: &'t Extern<'a>,
+    functions: &mut Vec<BorrowedFunction<'t, 'a>>,
 ) -> Result<(), AllocError>
     ensures { OnOk result (map function_view functions.new.items ≡ map function_view functions.old.items ++ extern_functions written.now written.now.kind) }
 {
@@ -72,15 +70,15 @@ pub fn world_functions<'t, 'a>(
     alloc: Global,
     world: &'t World<'a>,
 ) -> Result<Vec<BorrowedFunction<'t, 'a>>, AllocError>
-    ensures { IfOk result (λ functions. map function_view functions.items ≡ flat_map part_functions (map world_part world.now.items.items)) }
+    ensures { IfOk result (λ fs. map function_view fs.items ≡ flat_map part_functions (map world_part world.now.items.items)) }
 {
     let mut functions = Vec::new(alloc);
     for part in world_items(world) {
         match part {
-            WorldItem::TypeDef(definition) => add_definition(&mut functions, definition)?,
+            WorldItem::TypeDef(definition) => add_definition(definition, &mut functions)?,
             WorldItem::Use(_) => {}
             WorldItem::Include(_) => {}
-            WorldItem::Extern(written) => add_extern_part(&mut functions, written)?,
+            WorldItem::Extern(written) => add_extern_part(written, &mut functions)?,
         }
     }
     Ok(functions)
@@ -91,12 +89,12 @@ fn items_functions<'t, 'a>(
     alloc: Global,
     items: &'t [InterfaceItem<'a>],
 ) -> Result<Vec<BorrowedFunction<'t, 'a>>, AllocError>
-    ensures { IfOk result (λ functions. map function_view functions.items ≡ flat_map part_functions (map interface_part items.now)) }
+    ensures { IfOk result (λ fs. map function_view fs.items ≡ flat_map part_functions (map interface_part items.now)) }
 {
     let mut functions = Vec::new(alloc);
     for part in items {
         match part {
-            InterfaceItem::TypeDef(definition) => add_definition(&mut functions, definition)?,
+            InterfaceItem::TypeDef(definition) => add_definition(definition, &mut functions)?,
             InterfaceItem::Func(function) => push(
                 &mut functions,
                 BorrowedFunction::Free(function),
@@ -110,11 +108,11 @@ fn items_functions<'t, 'a>(
 /// The functions of an interface, in source order; none of a world.
 pub fn interface_functions<'t, 'a>(
     alloc: Global,
-    declared: &Declared<'t, 'a>,
+    item: &ItemScope<'t, 'a, '_>,
 ) -> Result<Vec<BorrowedFunction<'t, 'a>>, AllocError>
-    ensures { IfOk result (λ functions. AreFunctionsIn (declared_view declared.now) functions.items) }
+    ensures { IfOk result (λ fs. is_world (scope_item item.now) ≡ false → map function_view fs.items ≡ the_functions (scope_item item.now)) }
 {
-    match declared {
+    match &item.declared {
         Declared::Interface(interface) => items_functions(alloc, &interface.items),
         Declared::Inline(inline) => items_functions(alloc, inline.items),
         Declared::World(_) => Ok(Vec::new(alloc)),
@@ -140,7 +138,7 @@ pub fn written_results<'t, 'a>(
     names: &[ScopeName<'t, 'a>],
 ) -> Result<TextTable<&'t Type<'a>>, AllocError>
     requires { AllDiffer (map local_name (map name_view names.now)) }
-    ensures { IfOk result (λ results. AreResults results (map name_view names.now)) }
+    ensures { IfOk result (λ rs. AreResults rs (map name_view names.now)) }
 {
     let mut results = TextTable::new(alloc);
     for name in names {
@@ -174,7 +172,7 @@ pub fn function_table(
     functions: Vec<Function>,
 ) -> Result<TextTable<Function>, AllocError>
     requires { AllDiffer (map (λ f. f.name) functions.items) }
-    ensures { IfOk result (λ table. table ≡ placed_functions functions.items) }
+    ensures { IfOk result (λ t. t ≡ placed_functions functions.items) }
 {
     let placed = setters_after_getters(alloc, functions)?;
     let mut table = TextTable::with_capacity(alloc, placed.len())?;

@@ -1,14 +1,12 @@
 //! The names of a scope as entries: those that it uses, and then its definitions.
-ghost use Rattle.std.specs.Prelude.{◌≡◌, ◌++◌, List, None, IfOk, OnOk, map};
+ghost use Rattle.std.specs.Prelude.{◌≡◌, ◌++◌, None, IfOk, OnOk, map};
 ghost use Rattle.wit_syntax.specs.ScopeTables.{used, local_names};
 ghost use Rattle.wit_syntax.specs.Repeats.{AllDiffer};
-ghost use Rattle.wit_entries.specs.Defining.{AddsIn};
-ghost use Rattle.wit_entries.specs.Requiring.{IsExtended};
-ghost use Rattle.wit_scopes.specs.BorrowedNames.{name_view, use_view, definition_view};
-ghost use Rattle.wit_items.specs.ForeignAddresses.{prefix_of};
-ghost use Rattle.wit_scopes.specs.PlacedNames.{AreNamesPlaced};
+ghost use Rattle.wit_entries.specs.EntryFaults.{IsExtended, AddsIn};
+ghost use Rattle.wit_scopes.specs.BorrowedNames.{name_view, use_view, definition_view, AreNamesPlaced};
+ghost use Rattle.wit_items.specs.ItemPaths.{prefix_of};
 ghost use Rattle.wit_scopes.specs.DefinitionOrder.{AreInTurn};
-ghost use Rattle.wit_arena.specs.Resolving.{ResolvedScope, env_of, names_in};
+ghost use Rattle.wit_arena.specs.Resolving.{env_of, names_in};
 ghost use Rattle.wit_items.specs.ResolvedInterfaces.{resolved_scopes_of};
 ghost use Rattle.wit_item_entries.specs.AddedNames.{AddsRest, AddsTurn, DefinitionsRequire};
 ghost use Rattle.wit_item_entries.specs.ReachedFaults.{FindsDefinitions, FindsNames, FindsOrdered};
@@ -48,7 +46,7 @@ fn define_all(
 ) -> ParseResult<()>
     requires turn { AreInTurn (env_of scope.old.names) (map definition_view definitions.now) }
     requires differ { AllDiffer (names_in scope.old.names ++ local_names (map definition_view definitions.now)) }
-    ensures defines { OnOk result ((cs : List ResolvedScope) → AddsIn cs scope.old scope.new types.old types.new (map definition_view definitions.now)) }
+    ensures defines { OnOk result ((cs : _) → AddsIn cs scope.old scope.new types.old types.new (map definition_view definitions.now)) }
     ensures owner { OnOk result (scope.new.owner ≡ scope.old.owner) }
     ensures listed { OnOk result (names_in scope.new.names ≡ names_in scope.old.names ++ local_names (map definition_view definitions.now)) }
     ensures handled { OnOk result (DefinitionsRequire scope.old scope.new types.new (map definition_view definitions.now)) }

@@ -1,19 +1,17 @@
 //! Names that a scope uses from interfaces.
-ghost use Rattle.std.specs.Prelude.{◌≡◌, ◌↔◌, ◌++◌, [], Contains, Some, codes, map, OnOk, IfOk, IsTrue, string_bytes, ℕ, slice_get};
+ghost use Rattle.std.specs.Prelude.{◌≡◌, ◌↔◌, ◌++◌, [], Contains, Some, codes, map, OnOk, IfOk, IsTrue, string_bytes, slice_get};
 ghost use Rattle.std.specs.List.{flat_map};
 ghost use Rattle.std.specs.Option.{option_copied, option_or, option_to_list};
 ghost use Rattle.wit_syntax.specs.Source.{local_id};
 ghost use Rattle.wit_syntax.specs.ScopeTables.{local_names};
-ghost use Rattle.wit_first.specs.First.{Finds, Reports};
+ghost use Rattle.wit_first.specs.First.{Finds, Reports, first_after};
 ghost use Rattle.wit_arena.specs.SourceFunctions.{freestanding_names};
-ghost use Rattle.wit_entries.specs.Requiring.{IsExtended};
+ghost use Rattle.wit_entries.specs.EntryFaults.{IsExtended, AddsIn};
 ghost use Rattle.wit_scopes.specs.BorrowedNames.{use_view, IsPlaced};
-ghost use Rattle.wit_items.specs.ForeignAddresses.{prefix_of};
+ghost use Rattle.wit_items.specs.ItemPaths.{prefix_of};
 ghost use Rattle.wit_arena.specs.Resolving.{free_functions, names_in};
-ghost use Rattle.wit_entries.specs.Defining.{AddsIn};
-ghost use Rattle.wit_scopes.specs.declared.scope_name.UsedName.{UsedName as TheUse};
 ghost use Rattle.wit_items.specs.ResolvedInterfaces.{resolved_scopes_of};
-ghost use Rattle.wit_item_entries.specs.UseFaults.{local_faults, lost_name, spelled_fault, used_fault};
+ghost use Rattle.wit_item_entries.specs.ReachedFaults.{local_fault, lost_name, spelled_fault, used_fault};
 ghost use Rattle.wit_item_entries.specs.AddedNames.{AddsUsed};
 
 use std::alloc::{AllocError, Global};
@@ -71,7 +69,7 @@ fn has_function(functions: &TextTable<Function>, name: &str) -> bool
 
 /// The words for a function that is used as a name.
 fn function_used(alloc: Global, name: &str) -> Result<String, AllocError>
-    ensures { IfOk result (λ words. string_bytes words ≡ codes "cannot import function `" ++ (name.now ++ codes "`")) }
+    ensures { IfOk result (λ w. string_bytes w ≡ codes "cannot import function `" ++ (name.now ++ codes "`")) }
 {
     format!(in alloc; "cannot import function `{name}`")
 }
@@ -133,14 +131,14 @@ pub fn resolve_uses<'f, 'a>(
     interfaces: &Interfaces<'_, '_, '_, '_>,
     scope: &mut Scope,
 ) -> ParseResult<()>
-    requires placed { (k : ℕ) (u : TheUse) → slice_get uses.now k ≡ Some u → IsPlaced (prefix_of interfaces.now.files) u.from }
+    requires placed { (k : _) (u : _) → slice_get uses.now k ≡ Some u → IsPlaced (prefix_of interfaces.now.files) u.from }
     requires empty { scope.old.names ≡ [] }
     ensures defines { OnOk result (AddsIn (resolved_scopes_of interfaces.now) scope.old scope.new types.old types.new (map use_view uses.now)) }
     ensures owner { OnOk result (scope.new.owner ≡ scope.old.owner) }
     ensures listed { OnOk result (names_in scope.new.names ≡ local_names (map use_view uses.now)) }
     ensures required { scope.new.required ≡ scope.old.required }
     ensures extended { OnOk result (IsExtended types.old types.new) }
-    ensures first { Finds (local_faults interfaces.now uses.now) result }
+    ensures first { Finds (first_after (local_fault interfaces.now) [] uses.now) result }
 {
     for name in uses {
         resolve_use(alloc, name, types, interfaces, scope)?;

@@ -3,7 +3,7 @@ use Rattle.std.proofs.Common.{◌≡◌, ℕ, ◌+◌, Bool, true, false, if◌t
 use Rattle.wit_items.proofs.Common.{Exported, Imported, SideFunction, SideInline, SideItem, SideLink, SourceFunction, WorldSide, append-nil, cases_Bool, cond-false, cond-true, filter, filter-append, flat_map, flat_map-append, interfaces_on, interfaces_on-append, is_interface, item_function, item_inline, item_side, items_on, length-append, role_side, same_side, same_side-equal, side_itself}
 use Rattle.wit_links.specs.declared.inside.Counts.{Counts}
 use Rattle.wit_links.specs.declared.inside.Seen.{Seen}
-use Rattle.wit_links.specs.SideCounts.{IsInterfaceOn, IsSeen, seen_on}
+use Rattle.wit_links.specs.Links.{IsInterfaceOn, IsSeen, seen_on}
 
 -- one more on the sides: so many interfaces, so many that are written there, and so many functions
 interfaces_more : (s : WorldSide) (xs : List SideItem) (x : SideItem) (n : ℕ) → length (interfaces_on s (x ∷ [])) ≡ n → length (interfaces_on s (xs ++ x ∷ [])) ≡ length (interfaces_on s xs) + n

@@ -1,8 +1,13 @@
 -- Where the paths lead by which a world imports and exports interfaces: to places in the arena.
-use Rattle.std.proofs.Common.{◌≡◌, ◌≤◌, ℕ, zero, suc, List, [], ◌∷◌, length, Some, refl, ap, ◌∙◌, arith}
-use Rattle.wit_items.proofs.Common.{Address, AreFound, ForeignNamed, InlineAt, Interface, InterfaceNamed, IsPlaced, Names, PackageFile, ResolvedScope, Source as BorrowedSource, WorldNamed, found_resolved_scope, interface_name, interfaces_at, interfaces_differ, length-map, option_map, package_of, place_at-found, position-Some, prefix_of, resolved_scopes, same_address, same_address-equal, slice_get, slice_get-get_or, slice_get-map, source_place, source_target, target_scope}
+use Rattle.std.proofs.Common.{◌≡◌, ◌≤◌, ℕ, zero, suc, List, [], ◌∷◌, length, Some, refl, ap, ◌∙◌, arith, ◌+◌, ◌++◌, take, map, sym, Option}
+use Rattle.wit_items.proofs.Common.{Address, AreFound, ForeignNamed, InlineAt, Interface, InterfaceNamed, IsPlaced, Names, PackageFile, ResolvedScope, Source as BorrowedSource, WorldNamed, found_resolved_scope, interface_name, interfaces_at, interfaces_differ, length-map, option_map, package_of, place_at-found, position-Some, prefix_of, resolved_scopes, same_address, same_address-equal, slice_get, slice_get-get_or, slice_get-map, source_place, source_target, target_scope, AreIncludes, Include, IsInclude, TheWorld, TopName, WorldInclude, append-nil, flat_map, flat_map-append, map-append, part_includes, take_next, world_part, Fault, first_in, in-parts, item_in, top_at}
+use Rattle.wit_links.specs.Links.{interface_place, included_fault, includes_fault}
+use Rattle.wit_syntax.proofs.Common.{World as Written, WorldItem}
+use Rattle.wit_links.specs.declared.worlds.Worlds.{Worlds}
 use Rattle.wit_scopes.specs.declared.scope_name.Source.TheVariants as borrowed_source
-use Rattle.wit_links.specs.Links.{interface_place}
+use Rattle.wit_tree.specs.declared.tree.WorldItem.TheVariants as world_item
+use Rattle.wit_arena.specs.OneByOne.{OneByOne}
+use Rattle.wit_arena.proofs.Required.{one_by_one-append, one_by_one-more, one_by_one-none}
 
 -- the place of an interface that is borrowed is that of its address
 pub source_placed : (files : List PackageFile) (by_name : Names) (source : BorrowedSource) → IsPlaced (prefix_of files) source → interface_place (prefix_of files) by_name (target_scope InterfaceNamed (source_target source)) ≡ source_place by_name source
@@ -33,3 +38,49 @@ called_at prefix is by_name (ForeignNamed p name) id enough found at =
     let s = ForeignNamed p name in
     let it = position-Some (λ (a : Address). same_address a s) prefix id s at in
     at_prefix prefix is id s enough (slice_get-get_or prefix id s it.0 ∙ ap Some (same_address-equal _ s it.1))
+
+-- Includes of a world, one more.
+-- the includes among parts of a world
+abbrev pub included : List WorldItem → List Include
+included items = flat_map part_includes (map world_part items)
+
+-- these are the includes that are written, where the worlds have these addresses
+abbrev pub AreIncluded : List Address → List TopName → List Include → List WorldInclude → Type 0
+AreIncluded worlds top written is = OneByOne (IsInclude worlds top) written is
+
+included-append : (items : List WorldItem) (x : WorldItem) → included (items ++ x ∷ []) ≡ included items ++ flat_map part_includes (world_part x ∷ [])
+included-append items x = ap (flat_map part_includes) (map-append world_part items (x ∷ [])) ∙ flat_map-append part_includes (map world_part items) (world_part x ∷ [])
+
+-- one part more, which is an include
+pub included_next : (items : List WorldItem) (k : ℕ) (i : Include) → slice_get items k ≡ Some (world_item.Include i) → included (take (k + 1) items) ≡ included (take k items) ++ i ∷ []
+included_next items k i at = ap included (take_next items k (world_item.Include i) at) ∙ included-append (take k items) (world_item.Include i)
+
+-- or which is none
+pub included_past : (items : List WorldItem) (k : ℕ) (x : WorldItem) → slice_get items k ≡ Some x → part_includes (world_part x) ≡ [] → included (take (k + 1) items) ≡ included (take k items)
+included_past items k x at none = ap included (take_next items k x at) ∙ included-append (take k items) x ∙ ap (λ is. included (take k items) ++ (is ++ [])) none ∙ append-nil (included (take k items))
+
+-- a part that is no include has none
+pub no_include : (x : WorldItem) → ((i : Include) → x ≡ world_item.Include i → ⊥) → part_includes (world_part x) ≡ []
+no_include (world_item.TypeDef d) other = refl
+no_include (world_item.Extern x) other = refl
+no_include (world_item.Use u) other = refl
+no_include (world_item.Include i) other = absurd (other i refl)
+
+pub included_none : (worlds : List Address) (top : List TopName) → AreIncluded worlds top [] []
+included_none worlds top = one_by_one-none (IsInclude worlds top)
+
+-- one include more
+pub included_more : (worlds : List Address) (top : List TopName) (ws : List Include) (is : List WorldInclude) (w : Include) (i : WorldInclude) → AreIncluded worlds top ws is → IsInclude worlds top w i → AreIncluded worlds top (ws ++ w ∷ []) (is ++ i ∷ [])
+included_more worlds top ws is w i are one = one_by_one-append (IsInclude worlds top) ws (w ∷ []) is (i ∷ []) are (one_by_one-more (IsInclude worlds top) w i [] [] one (one_by_one-none (IsInclude worlds top)))
+
+-- the includes of a world are those of its item
+pub includes_are : (worlds : List Address) (top : List TopName) (w : Written) (is : List WorldInclude) → AreIncluded worlds top (included w.items.items) is → AreIncludes worlds (record { top = top; declared = TheWorld w }) is
+includes_are worlds top w is are = are
+
+-- The first fault of includes, by the parts of a world.
+-- of a part of a world: the fault of the include that it may be
+abbrev pub part_fault : Worlds → List TopName → WorldItem → Option Fault
+part_fault ws top x = first_in (included_fault ws top) (part_includes (world_part x))
+
+pub parts_fault : (ws : Worlds) (place : ℕ) (w : Written) → first_in (part_fault ws (top_at ws.interfaces.now.files place)) w.items.items ≡ includes_fault ws (item_in ws.interfaces.now.files place (TheWorld w))
+parts_fault ws place w = sym (in-parts (included_fault ws (top_at ws.interfaces.now.files place)) part_includes world_part w.items.items)

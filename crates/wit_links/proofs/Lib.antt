@@ -1,5 +1,3 @@
-mod IncludePart
-mod IncludeFaults
 mod Counted
 pub mod Inlined
 pub mod Leading

@@ -1,3 +1,1 @@
-pub mod Includes
-pub mod SideCounts
 pub mod Links

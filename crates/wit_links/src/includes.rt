@@ -6,7 +6,7 @@ ghost use Rattle.wit_first.specs.First.{Finds};
 ghost use Rattle.wit_arena.specs.Whole.{renamed, IsInclude, AreIncludes};
 ghost use Rattle.wit_files.specs.FileNames.{top_at};
 ghost use Rattle.wit_items.specs.ItemPaths.{HasItem, HasPart, world_at, world_entry, item_in};
-ghost use Rattle.wit_links.specs.Includes.{addresses_of, included_fault, includes_fault};
+ghost use Rattle.wit_links.specs.Links.{addresses_of, included_fault, includes_fault};
 
 use crate::worlds::Worlds;
 use std::alloc::{AllocError, Global};
@@ -24,7 +24,7 @@ use wit_values::{Row, Text};
 
 /// What an include renames.
 fn renames(alloc: Global, names: &[tree::IncludeName<'_>]) -> Result<Row<IncludeName>, AllocError>
-    ensures { IfOk result (λ renames. renames ≡ map renamed names.now) }
+    ensures { IfOk result (λ ns. ns ≡ map renamed names.now) }
 {
     let mut renames = Vec::with_capacity(alloc, names.len())?;
     for name in names {
@@ -38,7 +38,7 @@ fn renames(alloc: Global, names: &[tree::IncludeName<'_>]) -> Result<Row<Include
 
 /// The words for an include of an interface.
 fn not_a_world(alloc: Global, name: &str) -> Result<String, AllocError>
-    ensures { IfOk result (λ words. string_bytes words ≡ codes "name `" ++ (name.now ++ codes "` is defined as an interface, not a world")) }
+    ensures { IfOk result (λ w. string_bytes w ≡ codes "name `" ++ (name.now ++ codes "` is defined as an interface, not a world")) }
 {
     format!(in alloc; "name `{name}` is defined as an interface, not a world")
 }
@@ -56,7 +56,7 @@ fn world_of(entry: Option<&Entry>) -> Option<WorldId>
 
 /// The world that a path in the file at a place leads to; none where that is no world.
 fn included_world<'f, 'a>(
-    worlds: &Worlds<'_, '_, '_, 'f, 'a>,
+    worlds: &Worlds<'f, 'a, '_, '_, '_>,
     place: usize,
     path: &'f UsePath<'a>,
 ) -> Option<WorldId>
@@ -76,12 +76,12 @@ fn included_world<'f, 'a>(
 /// include of an interface.
 fn resolve_include<'f, 'a>(
     alloc: Global,
-    worlds: &Worlds<'_, '_, '_, 'f, 'a>,
+    worlds: &Worlds<'f, 'a, '_, '_, '_>,
     place: usize,
     include: &'f tree::Include<'a>,
 ) -> ParseResult<WorldInclude>
     requires part { HasPart worlds.now.interfaces.now.files place (IncludePart include.now) }
-    ensures is { IfOk result (λ i. IsInclude (addresses_of worlds.now) (top_at worlds.now.interfaces.now.files place) include.now i) }
+    ensures is { IfOk result (IsInclude (addresses_of worlds.now) (top_at worlds.now.interfaces.now.files place) include.now) }
     ensures first { Finds (included_fault worlds.now (top_at worlds.now.interfaces.now.files place) include.now) result }
 {
     check_stability(alloc, &include.attributes)?;
@@ -115,11 +115,11 @@ fn include_count(world: &tree::World<'_>) -> usize {
 pub fn resolve_includes<'f, 'a>(
     alloc: Global,
     world: &'f tree::World<'a>,
-    worlds: &Worlds<'_, '_, '_, 'f, 'a>,
+    worlds: &Worlds<'f, 'a, '_, '_, '_>,
     place: usize,
 ) -> ParseResult<Row<WorldInclude>>
     requires item { HasItem worlds.now.interfaces.now.files place (TheWorld world.now) }
-    ensures are { IfOk result (λ includes. AreIncludes (addresses_of worlds.now) (item_in worlds.now.interfaces.now.files place (TheWorld world.now)) includes) }
+    ensures are { IfOk result (AreIncludes (addresses_of worlds.now) (item_in worlds.now.interfaces.now.files place (TheWorld world.now))) }
     ensures first { Finds (includes_fault worlds.now (item_in worlds.now.interfaces.now.files place (TheWorld world.now))) result }
 {
     let mut includes = Vec::with_capacity(alloc, include_count(world))?;

@@ -1,12 +1,10 @@
 //! The interfaces that are written in a world, each as an item of its own.
-ghost use Rattle.std.specs.Prelude.{◌≡◌, ◌<◌, ◌+◌, ◌++◌, ◌∷◌, [], IfOk, List, Some, length, slice_get, true};
+ghost use Rattle.std.specs.Prelude.{◌≡◌, ◌<◌, ◌+◌, ◌++◌, ◌∷◌, [], IfOk, Some, length, slice_get, true};
 ghost use Rattle.std.specs.Option.{option_map};
-ghost use Rattle.wit_syntax.specs.Function.{SourceFunction};
 ghost use Rattle.wit_syntax.specs.Source.{TheWorld, about};
-ghost use Rattle.wit_syntax.specs.Sides.{SideFunction, SideItem};
-ghost use Rattle.wit_items.specs.InlineNames.{inside_of, inside_view};
-ghost use Rattle.wit_items.specs.BorrowedItems.{declared_view, item_view, scope_item};
-ghost use Rattle.wit_links.specs.SideCounts.{IsInterfaceOn, IsSeen, inline_of, seen_on};
+ghost use Rattle.wit_syntax.specs.Sides.{SideFunction};
+ghost use Rattle.wit_items.specs.BorrowedItems.{inside_of, inside_view, declared_view, item_view, scope_item};
+ghost use Rattle.wit_links.specs.Links.{IsInterfaceOn, IsSeen, inline_of, seen_on};
 
 use std::alloc::AllocError;
 use wit_items::items::{Declared, InlineInterface, Item, ItemScope};
@@ -57,8 +55,8 @@ fn plus(count: usize, more: usize) -> Result<usize, AllocError>
 impl Counts {
     /// With one interface more, of which so many are written there: one or none.
     fn with(self, inline: usize) -> Result<Counts, AllocError>
-        ensures interfaces { IfOk result (λ counts. counts.interfaces ≡ self.interfaces + 1) }
-        ensures inline { IfOk result (λ counts. counts.inline ≡ self.inline + inline) }
+        ensures interfaces { IfOk result (λ k. k.interfaces ≡ self.interfaces + 1) }
+        ensures inline { IfOk result (λ k. k.inline ≡ self.inline + inline) }
     {
         let interfaces = plus(self.interfaces, 1)?;
         let inline = plus(self.inline, inline)?;
@@ -105,7 +103,7 @@ impl Seen {
 
     /// With one function more.
     pub fn with_function(self) -> Result<Seen, AllocError>
-        ensures { IfOk result (λ seen. (xs : List SideItem) (fn : SourceFunction) → IsSeen xs self → IsSeen (xs ++ SideFunction fn ∷ []) seen) }
+        ensures { IfOk result (λ seen. (xs : _) (fn : _) → IsSeen xs self → IsSeen (xs ++ SideFunction fn ∷ []) seen) }
     {
         let functions = plus(self.functions, 1)?;
         Ok(Seen {
@@ -117,7 +115,7 @@ impl Seen {
 
     /// With one interface more on a side, of which so many are written there: one or none.
     pub fn with_interface(self, side: WorldSide, inline: usize) -> Result<Seen, AllocError>
-        ensures { IfOk result (λ seen. (xs : List SideItem) (x : SideItem) → IsInterfaceOn side inline x → IsSeen xs self → IsSeen (xs ++ x ∷ []) seen) }
+        ensures { IfOk result (λ seen. (xs : _) (x : _) → IsInterfaceOn side inline x → IsSeen xs self → IsSeen (xs ++ x ∷ []) seen) }
     {
         let counts = self.on(side).with(inline)?;
         match side {

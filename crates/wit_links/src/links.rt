@@ -17,7 +17,7 @@ use wit_types::InterfaceId;
 /// Refuses a path that leads to no item, or to an interface that is not resolved (7), or to a world (10).
 pub fn linked_id<'f, 'a>(
     alloc: Global,
-    interfaces: &Interfaces<'_, '_, 'f, 'a>,
+    interfaces: &Interfaces<'f, 'a, '_, '_>,
     place: usize,
     path: &'f UsePath<'a>,
 ) -> ParseResult<InterfaceId>

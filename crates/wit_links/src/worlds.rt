@@ -1,6 +1,6 @@
 //! The worlds that are resolved, of this package and of other ones.
 ghost use Rattle.std.specs.Prelude.{◌≤◌, length};
-ghost use Rattle.wit_items.specs.Found.{AreFound, world_name};
+ghost use Rattle.wit_items.specs.ItemPaths.{AreFound, world_name};
 ghost use Rattle.wit_items.specs.BorrowedItems.{others_of};
 
 use wit_items::interfaces::Interfaces;
@@ -11,8 +11,8 @@ use wit_types::{Arena, WorldId, WorldPlace};
 /// The worlds of files that are resolved, once the interfaces are, and the places of the declared ones by
 /// their names: what is found by a name has that name, and is after those of other packages.
 #[derive(Drop)]
-pub struct Worlds<'i, 'n, 'e, 'f, 'a> {
-    pub interfaces: &'i Interfaces<'n, 'e, 'f, 'a>,
+pub struct Worlds<'f, 'a, 'i, 'n, 'e> {
+    pub interfaces: &'i Interfaces<'f, 'a, 'n, 'e>,
     /// The worlds of other packages come first in it.
     pub arena: Arena<World, WorldPlace>,
     pub by_name: TextTable<WorldId>,

@@ -1,31 +1,28 @@
 -- What is found of a name, a link and setters that come onto a side of a world.
 use Rattle.std.proofs.Common.{◌≡◌, ◌⊎◌, ◌&&◌, ℕ, Bool, true, false, List, [], ◌∷◌, Option, Some, None, Contains, nat_eq, is_none, inl, inr, refl, sym, ap, ◌∙◌, eq-eqb, eqb-true}
 use Rattle.wit_arena.proofs.Common.{Constructor, Fault, Freestanding, Id, IsAllocationFailure, Link, Method, OnSide, ParseError, Refused, Role, SideItem, SideLink, Span, Static, WorldSide, any_found, at_contains, bytes_eq, contains_at, false_from_ne_true, fault_of, if◌then◌else◌, item_side, linked_twice, list_any, name_equal, name_itself, option_or, path_id}
-use Rattle.wit_walk.proofs.Common.{Reports, any_some, first_in, is_extern, is_on_side, none_both, or_none, reports_back}
+use Rattle.wit_walk.proofs.Common.{Reports, any_some, first_in, is_extern, is_on_side, none_both, or_none, repeat_of, reports_back}
 use Rattle.wit_refusals.specs.KeyedNames.{HasName}
 use Rattle.wit_refusals.specs.NameScopes.{Name, AreUsed, IsDefinedAgain}
-use Rattle.wit_rules.specs.BorrowedFunctions.{across_of}
+use Rattle.wit_rules.specs.Signatures.{across_of}
 use Rattle.wit_sides.specs.declared.sides.Sides.{Sides}
-use Rattle.wit_signatures.specs.ForeignName.{name_of_id}
-use Rattle.wit_externs.specs.AloneFaults.{again_fault}
-use Rattle.wit_externs.specs.Clash.{item_names}
-use Rattle.wit_externs.specs.Next.{IsLinked, linked_on}
+use Rattle.wit_signatures.specs.FunctionsOfScope.{name_of_id}
+use Rattle.wit_externs.specs.Clash.{again_fault, item_names, IsLinked, linked_on}
 use Rattle.wit_externs.proofs.AloneFaults.{again_free, again_report}
 use Rattle.wit_world_sides.specs.declared.members.Members.{Members}
 use Rattle.wit_world_sides.specs.declared.sides.WorldSides.{WorldSides}
-use Rattle.wit_world_sides.specs.Members.{text}
-use Rattle.wit_world_sides.specs.PutFaults.{again_linked, clash_fault, crossed_fault, named_fault, put_fault, put_link_fault, side_fault}
+use Rattle.wit_world_sides.specs.Members.{again_linked, clash_fault, named_fault, put_fault, put_link_fault, side_fault}
 use Rattle.wit_world_sides.proofs.Putting.{names_itself, names_under}
 
 -- a name that is spelled like one of these, and one that is not
-crossed_has : (as_crossed : List ℕ → Span → Fault) (names : List Name) (name : List ℕ) (span : Span) → HasName names name → crossed_fault as_crossed names (name, span) ≡ Some (as_crossed name span)
+crossed_has : (as_crossed : List ℕ → Span → Fault) (names : List Name) (name : List ℕ) (span : Span) → HasName names name → repeat_of (λ (m : Name). m.0) (λ (m : Name). as_crossed m.0 m.1) names (name, span) ≡ Some (as_crossed name span)
 crossed_has as_crossed names name span has =
-    let hit = any_some (λ (m : Name). bytes_eq (text m) name) names has.place (name, has.span) has.at (name_itself name) in
+    let hit = any_some (λ (m : Name). bytes_eq m.0 name) names has.place (name, has.span) has.at (name_itself name) in
     ap (λ (b : Bool). if b then Some (as_crossed name span) else None) hit
 
-crossed_free : (as_crossed : List ℕ → Span → Fault) (names : List Name) (name : List ℕ) (span : Span) → (HasName names name → ⊥) → crossed_fault as_crossed names (name, span) ≡ None
+crossed_free : (as_crossed : List ℕ → Span → Fault) (names : List Name) (name : List ℕ) (span : Span) → (HasName names name → ⊥) → repeat_of (λ (m : Name). m.0) (λ (m : Name). as_crossed m.0 m.1) names (name, span) ≡ None
 crossed_free as_crossed names name span free =
-    let test = λ (m : Name). bytes_eq (text m) name in
+    let test = λ (m : Name). bytes_eq m.0 name in
     let miss : list_any test names ≡ false = false_from_ne_true (list_any test names) (λ hit. (
     let it = any_found test names hit in
     free (record { place = it.0; span = it.1.1; at = it.2 ∙ ap (λ (n : List ℕ). Some (n, it.1.1)) (name_equal it.1.0 name it.3) }))) in

@@ -1,3 +1,1 @@
 pub mod Members
-pub mod FilledSides
-pub mod PutFaults

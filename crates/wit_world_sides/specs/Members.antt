@@ -1,18 +1,41 @@
--- What is on the sides of a world so far, with the names and the interfaces there, and one more of it.
-use Rattle.std.specs.Prelude.{◌≡◌, ◌++◌, ℕ, List, [], ◌∷◌, Option, codes, map, if◌then◌else◌}
-use Rattle.wit_arena.specs.Common.{AllDiffer, Id, Link, SideItem, SideLink, WorldItem, WorldKey, WorldSide, extern_link, flat_map, item_side, items_on, link_item, option_map_or, put_on, same_side}
-use Rattle.wit_model.specs.declared.world.WorldKey.TheVariants as key
-use Rattle.wit_model.specs.declared.world.WorldItem.TheVariants as item
-use Rattle.wit_walk.specs.Members.{Sorted, item_sorted}
+-- What a world has on its sides, with the names and the interfaces there, while one after another is put there, and its first fault: E43, E44 and E17.
+use Rattle.std.specs.Prelude.{◌≡◌, Bool, List, if◌then◌else◌, ℕ, true, false, [], ◌∷◌, Some, slice_get, ◌++◌, Option, codes, map, ◌&&◌, nat_eq, None, is_none}
+use Rattle.wit_arena.specs.Common.{AllDiffer, Exported, Fault, Function, Id, Imported, Include, Link, SideItem, SideLink, Span, WorldItem, WorldKey, WorldSide, extern_link, flat_map, function_of, insert_entry, item_side, items_on, link_item, linked_twice, list_any, option_map_or, option_or, path_id, put_on, same_side, settled}
+use Rattle.wit_model.specs.contracts.world.WorldKeyPartialEq.TheImpl.{eq-value as key_test}
+use Rattle.wit_world_sides.specs.declared.sides.WorldSides.{WorldSides}
+use Rattle.wit_walk.specs.Members.{Sorted, item_sorted, crossed, is_extern}
 use Rattle.wit_refusals.specs.NameScopes.{Name}
 use Rattle.wit_sides.specs.SideNames.{defined_on}
-use Rattle.wit_signatures.specs.ForeignName.{name_key, name_of_id}
-use Rattle.wit_externs.specs.Clash.{item_names, names_of_items}
-use Rattle.wit_externs.specs.Next.{linked_on}
-use Rattle.wit_world_sides.specs.FilledSides.{entries_of, AreCalled}
+use Rattle.wit_signatures.specs.FunctionsOfScope.{name_key, name_of_id}
+use Rattle.wit_externs.specs.Clash.{item_names, names_of_items, linked_on, again_fault}
 use Rattle.wit_world_sides.specs.declared.members.Members.{Members}
 use Rattle.wit_world_sides.specs.declared.members.PathExtern.{PathExtern}
-use Rattle.wit_world_sides.specs.declared.sides.WorldSides.{WorldSides}
+use Rattle.wit_first.specs.First.{first_in, repeat_of}
+use Rattle.wit_sides.specs.declared.sides.Sides.{Sides}
+use Rattle.wit_model.specs.declared.world.WorldKey.TheVariants as key
+use Rattle.wit_model.specs.declared.world.WorldItem.TheVariants as item
+
+-- whether there is no include
+abbrev pub none_of : List Include → Bool
+none_of [] = true
+none_of (i ∷ is) = false
+
+-- each function among these entries is at its name
+abbrev pub AreCalled : List (WorldKey × WorldItem) → Type 0
+AreCalled xs = (k : ℕ) (e : WorldKey × WorldItem) (f : Function) → slice_get xs k ≡ Some e → function_of e.1 ≡ Some f → e.0 ≡ key.Name f.name
+
+-- what is on a side
+abbrev pub entries_of : WorldSide → WorldSides → List (WorldKey × WorldItem)
+entries_of Imported s = s.imports
+entries_of Exported s = s.exports
+
+-- what was on the sides of a world, of one that includes nothing with each setter after its getter
+abbrev pub AreSettled : Bool → WorldSides → WorldSides → Type 0
+AreSettled closed old new = (s : WorldSide) (is : List Include) → closed ≡ none_of is → entries_of s new ≡ settled is (entries_of s old)
+
+-- what is on a side, once an entry is put on one
+abbrev pub inserted_on : WorldSide → WorldSide → WorldKey × WorldItem → List (WorldKey × WorldItem) → List (WorldKey × WorldItem)
+inserted_on side own x xs = if same_side side own then insert_entry key_test.it xs x.0 x.1 else xs
 
 -- what is at a key of a side
 abbrev pub Entry : Type 0
@@ -41,13 +64,10 @@ abbrev pub key_places : WorldKey → List ℕ
 key_places (key.Name n) = []
 key_places (key.Interface i) = i ∷ []
 
-abbrev pub text : Name → List ℕ
-text n = n.0
-
 -- the keys on each side are the names and the interfaces that are there, in order, of which no two are one; and functions are at
 -- their names
 pub record AreKeyed (m : Members) : Type 0 where
-  pub names : (s : WorldSide) → flat_map key_names (map (λ e. e.0) (entries_of s m.sides)) ≡ map text (defined_on s m.in_use)
+  pub names : (s : WorldSide) → flat_map key_names (map (λ e. e.0) (entries_of s m.sides)) ≡ map (λ n. n.0) (defined_on s m.in_use)
   pub places : (s : WorldSide) → flat_map key_places (map (λ e. e.0) (entries_of s m.sides)) ≡ linked_on s m.links
   pub differ : (s : WorldSide) → AllDiffer (map name_key (defined_on s m.in_use))
   pub apart : (s : WorldSide) → AllDiffer (linked_on s m.links)
@@ -80,3 +100,26 @@ bare_id name id = option_map_or (λ own. []) name (id ∷ [])
 -- an interface was put on its side by its path
 abbrev pub PutsLink : Members → Members → PathExtern → ℕ → Type 0
 PutsLink m m' p id = PutsOn m m' (SideLink (path_link p)) (bare_id p.name id) (link_item (path_link p) id)
+
+-- of a name after these of its side: one of them is spelled alike, where it is that of an import or an export (`as_crossed` says E44 of that), and then one has its key
+abbrev pub named_fault : Bool → (List ℕ → Span → Fault) → List Name → Name → Option Fault
+named_fault extern as_crossed before n = option_or (if extern then repeat_of (λ (m : Name). m.0) (λ (m : Name). as_crossed m.0 m.1) before n else None) (again_fault before n)
+
+-- of a name that is defined on a side after those there
+abbrev pub side_fault : Sides → WorldSides → WorldSide → Bool → Name → Option Fault
+side_fault names sides side extern n = named_fault extern (crossed side (sorted_on side sides)) (defined_on side names) n
+
+-- of the name of what is put on its side after those there, where it has one
+abbrev pub clash_fault : Sides → WorldSides → SideItem → Option Fault
+clash_fault names sides x = first_in (side_fault names sides (item_side x) (is_extern x)) (item_names x)
+
+abbrev pub put_fault : Members → SideItem → Option Fault
+put_fault m x = clash_fault m.in_use m.sides x
+
+-- an interface without a name of its own is one of those at these places
+abbrev pub again_linked : List ℕ → Link → ℕ → Option Fault
+again_linked ids link id = if is_none link.name && list_any (nat_eq id) ids then Some (linked_twice link.side (path_id link.path).span) else None
+
+-- of an interface at a place that is put on its side
+abbrev pub put_link_fault : Members → Link → ℕ → Option Fault
+put_link_fault m link id = option_or (again_linked (linked_on link.side m.links) link id) (put_fault m (SideLink link))

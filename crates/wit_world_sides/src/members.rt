@@ -1,28 +1,23 @@
 //! What is on the sides of a world, one after another: its name is defined, or the interface that it is,
 //! and then it is put there.
-ghost use Rattle.std.specs.Prelude.{◌≡◌, ◌++◌, ◌∷◌, [], true, List, None, IfOk, IsTrue, OnOk, codes, map};
+ghost use Rattle.std.specs.Prelude.{◌≡◌, ◌++◌, ◌∷◌, [], true, None, IfOk, IsTrue, OnOk, codes, map};
 ghost use Rattle.std.specs.List.{flat_map};
 ghost use Rattle.wit_names.specs.Mangled.{is_mangled};
-ghost use Rattle.wit_tree.specs.declared.tree.WorldSide.{WorldSide as TheSide};
 ghost use Rattle.wit_model.specs.declared.world.WorldKey.TheVariants.{Name};
 ghost use Rattle.wit_syntax.specs.Repeats.{AllDiffer};
 ghost use Rattle.wit_syntax.specs.Sides.{SideFunction, SideInline, names_on};
-ghost use Rattle.wit_syntax.specs.Source.{ScopeName, local_id};
+ghost use Rattle.wit_syntax.specs.Source.{local_id};
 ghost use Rattle.wit_first.specs.First.{Finds};
-ghost use Rattle.wit_arena.specs.SourceFunctions.{function_item};
+ghost use Rattle.wit_arena.specs.SourceFunctions.{function_item, link_item, inline_entry};
 ghost use Rattle.wit_arena.specs.Resolving.{names_in};
-ghost use Rattle.wit_arena.specs.SideItems.{link_item, inline_entry};
 ghost use Rattle.wit_arena.specs.Whole.{type_imports as the_imports};
 ghost use Rattle.wit_refusals.specs.NameScopes.{AreUsed};
-ghost use Rattle.wit_rules.specs.BorrowedFunctions.{function_view};
+ghost use Rattle.wit_rules.specs.Signatures.{function_view};
 ghost use Rattle.wit_sides.specs.SideNames.{only_on, defined_on};
-ghost use Rattle.wit_signatures.specs.ForeignName.{name_of_function, name_of_id, name_of_made};
-ghost use Rattle.wit_externs.specs.AloneFaults.{defined_fault};
-ghost use Rattle.wit_externs.specs.Clash.{DefinesNames, StayApart};
-ghost use Rattle.wit_externs.specs.Next.{linked_on};
+ghost use Rattle.wit_signatures.specs.FunctionsOfScope.{name_of_function, name_of_id, name_of_made};
+ghost use Rattle.wit_externs.specs.Clash.{defined_fault, DefinesNames, StayApart, linked_on};
 ghost use Rattle.wit_walk.specs.Members.{sort_among};
-ghost use Rattle.wit_world_sides.specs.Members.{AreKeyed, IsNamedOn, entry_sorted, item_word, path_link, sorted_on, PutsLink, PutsOn};
-ghost use Rattle.wit_world_sides.specs.PutFaults.{clash_fault, put_fault, put_link_fault, side_fault};
+ghost use Rattle.wit_world_sides.specs.Members.{AreKeyed, IsNamedOn, entry_sorted, item_word, path_link, sorted_on, PutsLink, PutsOn, clash_fault, put_fault, put_link_fault, side_fault};
 ghost use Rattle.wit_syntax.specs.Words.{side_word};
 
 use crate::sides::{WorldSides, add_item, inline_item, named_sides, path_item};
@@ -113,7 +108,7 @@ fn define_extern_part(
     span: Span,
 ) -> ParseResult<()>
     requires { IsTrue (is_mangled name.now) }
-    ensures defined { OnOk result ((s : TheSide) → defined_on s in_use.new ≡ defined_on s in_use.old ++ only_on s side (name.now, span)) }
+    ensures defined { OnOk result ((s : _) → defined_on s in_use.new ≡ defined_on s in_use.old ++ only_on s side (name.now, span)) }
     ensures free { OnOk result (AreUsed (defined_on side in_use.old) name.now → ⊥) }
     ensures first { Finds (side_fault in_use.old sides.now side true (name.now, span)) result }
 {
@@ -278,9 +273,9 @@ pub fn named_members(
 ) -> ParseResult<Members>
     requires distinct { AllDiffer (map (λ id. id.name.now) turn.now) }
     requires listed { names_in types.now ≡ map (λ id. id.name.now) turn.now }
-    ensures in_use { IfOk result (λ m. (s : TheSide) → defined_on s m.in_use ≡ names_on s (map name_of_id turn.now)) }
-    ensures linked { IfOk result (λ m. (s : TheSide) → linked_on s m.links ≡ []) }
-    ensures imports { IfOk result (λ m. (xs : List ScopeName) → turn.now ≡ map local_id xs → m.sides.imports ≡ the_imports xs types.now) }
+    ensures in_use { IfOk result (λ m. (s : _) → defined_on s m.in_use ≡ names_on s (map name_of_id turn.now)) }
+    ensures linked { IfOk result (λ m. (s : _) → linked_on s m.links ≡ []) }
+    ensures imports { IfOk result (λ m. (xs : _) → turn.now ≡ map local_id xs → m.sides.imports ≡ the_imports xs types.now) }
     ensures exports { IfOk result (λ m. m.sides.exports ≡ []) }
     ensures keyed { IfOk result AreKeyed }
     ensures first { Finds (defined_fault [] (map name_of_id turn.now)) result }

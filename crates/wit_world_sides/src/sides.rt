@@ -1,19 +1,17 @@
 //! What a world has on its sides: the names of its scope as imports, and what is put there.
-ghost use Rattle.std.specs.Prelude.{◌≡◌, ◌<◌, List, [], IfOk, OnOk, map};
+ghost use Rattle.std.specs.Prelude.{◌≡◌, ◌<◌, [], IfOk, OnOk, map};
 ghost use Rattle.indexmap.specs.IndexMap.{insert_entry};
 ghost use Rattle.wit_type_tree.specs.Attributes.{stated_text};
 ghost use Rattle.wit_type_tree.specs.declared.attribute_kind.AttributeKind.TheVariants.{ExternalId};
-ghost use Rattle.wit_tree.specs.declared.tree.WorldSide.{WorldSide as TheSide};
 ghost use Rattle.wit_model.specs.declared.world.WorldKey.TheVariants.{Name};
 ghost use Rattle.wit_model.specs.declared.world.WorldItem.TheVariants.{Interface as InterfaceItem, Type_ as TypeItem};
 ghost use Rattle.wit_model.specs.contracts.world.WorldKeyPartialEq.TheImpl.{eq-value as key_test};
 ghost use Rattle.wit_syntax.specs.Metadata.{stability_of};
 ghost use Rattle.wit_syntax.specs.Repeats.{AllDiffer};
-ghost use Rattle.wit_syntax.specs.Source.{ScopeName, local_id};
-ghost use Rattle.wit_arena.specs.SideItems.{inline_entry, link_item, link_span as the_link_span};
+ghost use Rattle.wit_syntax.specs.Source.{local_id};
+ghost use Rattle.wit_arena.specs.SourceFunctions.{inline_entry, link_item, link_span as the_link_span};
 ghost use Rattle.wit_arena.specs.Whole.{type_imports as the_imports};
-ghost use Rattle.wit_world_sides.specs.Members.{path_link};
-ghost use Rattle.wit_world_sides.specs.FilledSides.{entries_of, inserted_on};
+ghost use Rattle.wit_world_sides.specs.Members.{path_link, entries_of, inserted_on};
 
 use crate::members::PathExtern;
 use std::alloc::{AllocError, Global};
@@ -52,7 +50,7 @@ fn type_imports(
     more: usize,
 ) -> Result<Table<WorldKey, WorldItem>, AllocError>
     requires distinct { AllDiffer (map (λ id. id.name.now) turn.now) }
-    ensures { IfOk result (λ imports. (xs : List ScopeName) → turn.now ≡ map local_id xs → imports ≡ the_imports xs types.now) }
+    ensures { IfOk result (λ is. (xs : _) → turn.now ≡ map local_id xs → is ≡ the_imports xs types.now) }
 {
     let capacity = turn.len().saturating_add(more);
     let mut imports = Table::with_capacity(alloc, capacity)?;
@@ -83,8 +81,8 @@ pub fn named_sides(
     exports: usize,
 ) -> Result<WorldSides, AllocError>
     requires distinct { AllDiffer (map (λ id. id.name.now) turn.now) }
-    ensures imports { IfOk result (λ sides. (xs : List ScopeName) → turn.now ≡ map local_id xs → sides.imports ≡ the_imports xs types.now) }
-    ensures exports { IfOk result (λ sides. sides.exports ≡ []) }
+    ensures imports { IfOk result (λ w. (xs : _) → turn.now ≡ map local_id xs → w.imports ≡ the_imports xs types.now) }
+    ensures exports { IfOk result (λ w. w.exports ≡ []) }
 {
     let imports = type_imports(alloc, turn, types, imports)?;
     let exports = Table::with_capacity(alloc, exports)?;
@@ -98,7 +96,7 @@ pub(crate) fn add_item(
     key: WorldKey,
     item: WorldItem,
 ) -> Result<(), AllocError>
-    ensures { OnOk result ((s : TheSide) → entries_of s sides.new ≡ inserted_on s side (key, item) (entries_of s sides.old)) }
+    ensures { OnOk result ((s : _) → entries_of s sides.new ≡ inserted_on s side (key, item) (entries_of s sides.old)) }
 {
     match side {
         WorldSide::Imported => {
@@ -129,7 +127,7 @@ fn interface_item(
     docs: Docs,
     span: Span,
 ) -> Result<WorldItem, AllocError>
-    ensures { IfOk result (λ item. item ≡ InterfaceItem id (stability_of attributes.now) (stated_text ExternalId attributes.now) docs span) }
+    ensures { IfOk result (λ i. i ≡ InterfaceItem id (stability_of attributes.now) (stated_text ExternalId attributes.now) docs span) }
 {
     if attributes.len() == 0 {
         return Ok(WorldItem::Interface {
@@ -156,7 +154,7 @@ pub(crate) fn path_item(
     link: PathExtern<'_, '_>,
     id: InterfaceId,
 ) -> Result<WorldItem, AllocError>
-    ensures { IfOk result (λ item. item ≡ (link_item (path_link link.entry) id).1) }
+    ensures { IfOk result (λ i. i ≡ (link_item (path_link link.entry) id).1) }
 {
     let docs = docs(alloc, &link.written.docs)?;
     let span = link_span(link.name, link.path);
@@ -171,7 +169,7 @@ pub(crate) fn inline_item(
     name: Id<'_>,
     id: InterfaceId,
 ) -> Result<WorldItem, AllocError>
-    ensures { IfOk result (λ item. item ≡ (inline_entry written.now name.entry id).1) }
+    ensures { IfOk result (λ i. i ≡ (inline_entry written.now name.entry id).1) }
 {
     let attributes = &written.attributes;
     interface_item(alloc, id, attributes, Docs::default(), name.span)

@@ -2,11 +2,9 @@
 ghost use Rattle.std.specs.Prelude.{if◌then◌else◌, None, ◌≡◌, List, IfOk, length, map};
 ghost use Rattle.wit_tree.specs.declared.tree.Include.{Include};
 ghost use Rattle.wit_first.specs.First.{Finds};
-ghost use Rattle.wit_rules.specs.BorrowedFunctions.{function_view};
-ghost use Rattle.wit_externs.specs.AloneFaults.{sides_setters};
-ghost use Rattle.wit_externs.specs.Clash.{AreNamesWith};
-ghost use Rattle.wit_world_sides.specs.FilledSides.{AreSettled, none_of};
-ghost use Rattle.wit_world_sides.specs.Members.{AreKeyed};
+ghost use Rattle.wit_rules.specs.Signatures.{function_view};
+ghost use Rattle.wit_externs.specs.Clash.{sides_setters, AreNamesWith};
+ghost use Rattle.wit_world_sides.specs.Members.{AreSettled, none_of, AreKeyed};
 
 use crate::members::Members;
 use crate::sides::WorldSides;

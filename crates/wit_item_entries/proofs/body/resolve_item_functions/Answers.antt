@@ -2,19 +2,15 @@ use Rattle.std.proofs.Common.{◌≡◌, ◌++◌, Bool, List, [], Option, None,
 use mathlib.Core.Path.{fun_ext}
 use Rattle.wit_items.proofs.Common.{AllDiffer, Fault, Id, Imported, Name, Names, ScopeName, SideFunction, SourceFunction, WorldSide, append-nil, differ_none, env_of, err_from_is_err_and, functions, is_ascii_uppercase, items_on, list_any, name_view, names_in, names_on, no_clashes, none_both, option_or, scope_item, scope_names, side_items, side_items_functions, word_fault}
 use Rattle.wit_sides.specs.SideNames.{defined_on}
-use Rattle.wit_rules.specs.BorrowedFunctions.{function_view}
-use Rattle.wit_rules.specs.Signatures.{HaveOwners}
+use Rattle.wit_rules.specs.Signatures.{function_view, HaveOwners}
 use Rattle.wit_entries.proofs.Resolves.{extended_same}
-use Rattle.wit_signatures.specs.ForeignName.{name_key, name_of_function, name_of_id}
-use Rattle.wit_externs.specs.AloneFaults.{again, alone_faults, defined_fault, words_in}
-use Rattle.wit_externs.specs.Clash.{DifferOnSides, all_on, names_of_items}
-use Rattle.wit_item_entries.specs.NameOrder.{IsTurn}
-use Rattle.wit_item_entries.specs.ScopeFunctionFaults.{functions_fault}
-use Rattle.wit_item_entries.proofs.FunctionFaults.{all_names, used_before, words_same}
-use Rattle.wit_item_entries.proofs.NoFunctions.{no_functions}
-use Rattle.wit_item_entries.proofs.OwnKeys.{turn_keys}
-use Rattle.wit_item_entries.proofs.Owners.{owners, turn_has}
-use Rattle.wit_item_entries.proofs.ScopeFunctions.{body_added, none_added}
+use Rattle.wit_signatures.specs.FunctionsOfScope.{name_key, name_of_function, name_of_id}
+use Rattle.wit_externs.specs.Clash.{again, alone_faults, defined_fault, words_in, DifferOnSides, all_on, names_of_items}
+use Rattle.wit_item_entries.specs.AddedNames.{IsTurn}
+use Rattle.wit_item_entries.specs.ReachedFaults.{functions_fault}
+use Rattle.wit_item_entries.proofs.ReachedFaults.{all_names, used_before, words_same}
+use Rattle.wit_item_entries.proofs.NameOrder.{no_functions, turn_keys}
+use Rattle.wit_item_entries.proofs.ScopeFunctions.{owners, turn_has, body_added, none_added}
 use Rattle.wit_item_entries.proofs.body.resolve_item_functions.Goals as goal
 
 -- whether a name has a letter in upper case
@@ -84,7 +80,7 @@ returns-in_err-functions-clause-first c =
     let found = c.in_err-functions.ensures.first xs (record { names = all_names xs ids types c.requires.turn c.requires.listed; results = c.in_ok-results.ensures }) in
     rw (p.1, p.2) (elim found [
       | inl memory ↦ inl memory
-      | inr wrong ↦ inr (λ handle ends. ap (functions_fault handle xs ids) (sym fns) ∙ ap (λ (o : Option Fault). option_or o (alone_faults (word_fault xs) handle xs (λ side. names_on side (map name_of_id ids)) (map function_view c.deref.result.now))) none ∙ sym (by_scope xs ids types handle (λ s. defined_on s in_use) (λ s. names_on s (map name_of_id ids)) (map function_view c.deref.result.now) c.requires.turn c.requires.listed before) ∙ wrong handle ends)
+      | inr wrong ↦ inr (λ handle ends. ap (λ (l : List SourceFunction). functions_fault xs ids l handle) (sym fns) ∙ ap (λ (o : Option Fault). option_or o (alone_faults (word_fault xs) handle xs (λ side. names_on side (map name_of_id ids)) (map function_view c.deref.result.now))) none ∙ sym (by_scope xs ids types handle (λ s. defined_on s in_use) (λ s. names_on s (map name_of_id ids)) (map function_view c.deref.result.now) c.requires.turn c.requires.listed before) ∙ wrong handle ends)
     ])
 
 pub returns-clause-written : goal.returns-clause-written
@@ -122,7 +118,7 @@ returns-clause-first c = λ handle safe.
     let none : defined_fault [] (map name_of_id ids) ≡ None = sym (ap (λ (l : List Name). defined_fault l (map name_of_id ids)) (c.new-in_use.ensures Imported)) ∙ c.in_ok-define_names.ensures.first in
     let before = λ (s : WorldSide). used_before s c.new-in_use.result in_use ids ids c.new-in_use.ensures c.in_ok-define_names.ensures.defined refl in
     let found = c.in_ok-functions.ensures.first xs (record { names = all_names xs ids types c.requires.turn c.requires.listed; results = c.in_ok-results.ensures }) in
-    ap (functions_fault handle xs ids) (sym fns) ∙ none_both none (sym (by_scope xs ids types handle (λ s. defined_on s in_use) (λ s. names_on s (map name_of_id ids)) (map function_view c.deref.result.now) c.requires.turn c.requires.listed before) ∙ found handle safe)
+    ap (λ (l : List SourceFunction). functions_fault xs ids l handle) (sym fns) ∙ none_both none (sym (by_scope xs ids types handle (λ s. defined_on s in_use) (λ s. names_on s (map name_of_id ids)) (map function_view c.deref.result.now) c.requires.turn c.requires.listed before) ∙ found handle safe)
 
 pub returns-in_err-written-clause-extended : goal.returns-in_err-written-clause-extended
 returns-in_err-written-clause-extended c = extended_same c.args.types.now

@@ -1,7 +1,6 @@
 use Rattle.std.proofs.Common.{rules, ◌≡◌, ◌++◌, ◌∷◌, [], ap, ◌∙◌, sym, append_assoc}
 use Rattle.wit_items.proofs.Common.{AllDiffer, append-nil, by_name, into_iter_items, is_getter_of, made_name, map, nil_from_length, setters_placed}
-use Rattle.wit_item_entries.proofs.FunctionTables.{function_next}
-use Rattle.wit_item_entries.proofs.PlacedNames.{placed_differ, table_placed}
+use Rattle.wit_item_entries.proofs.FunctionTables.{function_next, placed_differ, table_placed}
 use Rattle.wit_item_entries.proofs.functions.function_table.Goals as goal
 
 pub loop-function-preserved : goal.loop-function-preserved

@@ -1,6 +1,6 @@
 use Rattle.std.proofs.Common.{◌≡◌, ◌+◌, ◌++◌, ◌∷◌, [], List, map, take, refl, sym, ap, ◌∙◌}
 use Rattle.wit_items.proofs.Common.{InterfaceItem, SourceFunction, append-nil, definition_functions, flat_map, free_function, interface_part, map-append, part_functions, parts_more, take_all, take_more}
-use Rattle.wit_rules.specs.BorrowedFunctions.{function_view}
+use Rattle.wit_rules.specs.Signatures.{function_view}
 use Rattle.wit_item_entries.proofs.functions.items_functions.Goals.{in-TypeDef+in_ok-add_definition-in-TypeDef, in-Func+in_ok-push-in-Func, in-Use}
 use Rattle.wit_item_entries.proofs.functions.items_functions.Goals as goal
 

@@ -1,6 +1,6 @@
 use Rattle.std.proofs.Common.{◌≡◌, map, take}
 use Rattle.wit_items.proofs.Common.{flat_map, interface_part, part_functions}
-use Rattle.wit_rules.specs.BorrowedFunctions.{function_view}
+use Rattle.wit_rules.specs.Signatures.{function_view}
 use Rattle.wit_item_entries.proofs.functions.items_functions.Given as goal
 
 abbrev pub invariant-loop-part : goal.invariant-loop-part

@@ -1,6 +1,6 @@
 use Rattle.std.proofs.Common.{◌≡◌, map, take}
 use Rattle.wit_items.proofs.Common.{flat_map, part_functions, world_part}
-use Rattle.wit_rules.specs.BorrowedFunctions.{function_view}
+use Rattle.wit_rules.specs.Signatures.{function_view}
 use Rattle.wit_item_entries.proofs.functions.world_functions.Given as goal
 
 abbrev pub invariant-loop-part : goal.invariant-loop-part

@@ -1,7 +1,7 @@
 use Rattle.std.proofs.Common.{◌≡◌, ◌+◌, ◌++◌, ◌∷◌, [], List, None, Some, map, take, refl, sym, ap, ◌∙◌, subst}
 use Rattle.wit_items.proofs.Common.{Borrowed as ScopeName, Defined, body_ok, local_name, map-append, meaning, meant_ok, name_view, option_map, slice_get, slice_get-map, slice_get_read, take-map, take_all, take_next}
 use Rattle.wit_rules.specs.Signatures.{AreResults, stated_ok}
-use Rattle.wit_item_entries.proofs.Results.{unmeant_before, results_same, results_more}
+use Rattle.wit_item_entries.proofs.ScopeFunctions.{unmeant_before, results_same, results_more}
 use Rattle.wit_item_entries.proofs.functions.written_results.Goals.{in-Defined+in-Some+in_ok-from_str+in_ok-put, in-Defined+in_default-written_result, in_default}
 use Rattle.wit_item_entries.proofs.functions.written_results.Goals as goal
 

@@ -1,10 +1,9 @@
 use Rattle.std.proofs.Common.{◌≡◌, ◌+◌, ◌++◌, ◌∷◌, List, [], take, Some, None, inl, inr, refl, sym, ◌∙◌, subst, arith}
 use Rattle.wit_items.proofs.Common.{Defined, Defines, TypeDef, TypeOwner, append-nil, defines_more, defines_none, definition_fault, definition_view, env_of, err_from_is_err_and, in-all, in-at, in-following, length-map, map, names_in, names_kept, names_more, names_none, read_map, slice_get, take_next}
 use Rattle.wit_entries.proofs.Requiring.{extended_then, requires_none}
-use Rattle.wit_externs.specs.AloneFaults.{EndsIn}
+use Rattle.wit_externs.specs.Clash.{EndsIn}
 use Rattle.wit_externs.proofs.AloneFaults.{safe_arena, safe_names, safe_of}
-use Rattle.wit_item_entries.proofs.Handled.{next_free, listed_next, requires_next, stored_kept}
-use Rattle.wit_item_entries.proofs.ReachedFaults.{definition_safe, definition_same, meant_in}
+use Rattle.wit_item_entries.proofs.ReachedFaults.{next_free, listed_next, requires_next, stored_kept, definition_safe, definition_same, meant_in}
 use Rattle.wit_item_entries.proofs.names.define_all.Goals as goal
 
 pub loop-definition-init : goal.loop-definition-init

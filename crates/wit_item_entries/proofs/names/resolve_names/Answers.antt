@@ -1,11 +1,10 @@
 use Rattle.std.proofs.Common.{◌≡◌, [], None, map, subst, sym, ap, ◌∙◌}
-use Rattle.wit_items.proofs.Common.{Address, Defines, TypeOwner, err_from_is_err_and, flat_map, local_names, name_view, none_both, own_use, prefix_of, reports_back, reports_prefix, reports_same, resolved_scopes_of, use_view, used, uses_viewed}
+use Rattle.wit_items.proofs.Common.{Address, Defines, TypeOwner, err_from_is_err_and, first_after, flat_map, local_names, name_view, none_both, own_use, prefix_of, reports_back, reports_prefix, reports_same, resolved_scopes_of, use_view, used, uses_viewed}
 use Rattle.wit_entries.proofs.Requiring.{extended_then}
 use Rattle.wit_scopes.proofs.Placed.{uses_placed}
-use Rattle.wit_item_entries.specs.UseFaults.{local_faults}
-use Rattle.wit_item_entries.proofs.ReachedFaults.{after_uses}
+use Rattle.wit_item_entries.specs.ReachedFaults.{local_fault}
+use Rattle.wit_item_entries.proofs.ReachedFaults.{after_uses, turn_named}
 use Rattle.wit_item_entries.specs.AddedNames.{AddsTurn}
-use Rattle.wit_item_entries.proofs.FunctionFaults.{turn_named}
 use Rattle.wit_item_entries.proofs.names.resolve_names.Goals as goal
 
 pub resolve_uses-requires-clause-placed : goal.resolve_uses-requires-clause-placed
@@ -14,7 +13,7 @@ resolve_uses-requires-clause-placed c = rw (c.deref.ensures.value, c.in_ok-uses.
 pub returns-in_err-resolve_uses-clause-first : goal.returns-in_err-resolve_uses-clause-first
 returns-in_err-resolve_uses-clause-first c =
     let p = err_from_is_err_and c.from_residual-in_err-resolve_uses.result c.from_residual-in_err-resolve_uses.ensures.1 in
-    rw (p.1, p.2) (λ outcome right handle along. reports_prefix _ (reports_same (ap (local_faults c.args.interfaces.now) (c.deref.ensures.value ∙ c.in_ok-uses.ensures)) c.in_err-resolve_uses.ensures.first))
+    rw (p.1, p.2) (λ outcome right handle along. reports_prefix _ (reports_same (ap (first_after (local_fault c.args.interfaces.now) []) (c.deref.ensures.value ∙ c.in_ok-uses.ensures)) c.in_err-resolve_uses.ensures.first))
 
 pub resolve_types-requires-clause-uses : goal.resolve_types-requires-clause-uses
 resolve_types-requires-clause-uses c = ap (map use_view) (c.deref-2.ensures.value ∙ c.in_ok-uses.ensures) ∙ uses_viewed c.args.names.now
@@ -62,7 +61,7 @@ returns-in_err-turn-clause-first c =
     let first = c.resolve_uses.new.types in
     let scope = c.resolve_uses.new.scope in
     let uses : (s : Address) → Defines old first cs o s [] scope.names (used xs) = rw (names, c.in_ok-with_capacity.ensures) at c.in_ok-resolve_uses.ensures.defines in
-    let none : local_faults is (flat_map own_use c.args.names.now) ≡ None = ap (local_faults is) (sym (c.deref.ensures.value ∙ c.in_ok-uses.ensures)) ∙ c.in_ok-resolve_uses.ensures.first in
+    let none : first_after (local_fault is) [] (flat_map own_use c.args.names.now) ≡ None = ap (first_after (local_fault is) []) (sym (c.deref.ensures.value ∙ c.in_ok-uses.ensures)) ∙ c.in_ok-resolve_uses.ensures.first in
     rw (p.1, p.2) (λ outcome right handle along. reports_back none (c.in_err-turn.ensures.first outcome right cs handle (after_uses cs o scope old first xs outcome handle c.in_ok-resolve_uses.ensures.owner uses along)))
 
 pub returns-clause-first : goal.returns-clause-first
@@ -73,5 +72,5 @@ returns-clause-first c = λ outcome right handle along.
     let names : map use_view c.deref.result.now ≡ used xs = ap (map use_view) (c.deref.ensures.value ∙ c.in_ok-uses.ensures) ∙ uses_viewed c.args.names.now in
     let scope = c.resolve_uses.new.scope in
     let uses : (s : Address) → Defines c.args.types.now c.resolve_uses.new.types cs c.args.owner s [] scope.names (used xs) = rw (names, c.in_ok-with_capacity.ensures) at c.in_ok-resolve_uses.ensures.defines in
-    let none : local_faults is (flat_map own_use c.args.names.now) ≡ None = ap (local_faults is) (sym (c.deref.ensures.value ∙ c.in_ok-uses.ensures)) ∙ c.in_ok-resolve_uses.ensures.first in
+    let none : first_after (local_fault is) [] (flat_map own_use c.args.names.now) ≡ None = ap (first_after (local_fault is) []) (sym (c.deref.ensures.value ∙ c.in_ok-uses.ensures)) ∙ c.in_ok-resolve_uses.ensures.first in
     none_both none (c.in_ok-turn.ensures.first outcome right cs handle (after_uses cs c.args.owner scope c.args.types.now c.resolve_uses.new.types xs outcome handle c.in_ok-resolve_uses.ensures.owner uses along))

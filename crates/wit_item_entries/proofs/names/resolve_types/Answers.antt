@@ -1,11 +1,10 @@
 use Rattle.std.proofs.Common.{◌≡◌, ◌++◌, List, map, ap, sym, ◌∙◌, subst, []}
 use Rattle.wit_items.proofs.Common.{Address, AreDistinct, Defines, Id, Required, ResolvedScope, all_handles, defined, defines_more, definition_view, distinct_names, env_of, err_from_is_err_and, flat_map, in_order, listed_has, local_id, local_name, local_names, local_names_differ, local_names_fault, map-append, name_types, name_view, names_in, reports_back, reports_prefix, reports_same, used, «Type» as Written}
 use Rattle.wit_scopes.specs.DefinitionOrder.{AreOrdered}
-use Rattle.wit_item_entries.proofs.ReachedFaults.{definitions_found, done, failed, outcome_reported}
-use Rattle.wit_scopes.proofs.Turning.{in_their_turn, own_borrowed, differ_names, turn_differs}
+use Rattle.wit_item_entries.proofs.ReachedFaults.{definitions_found, done, failed, outcome_reported, types-in_turn}
+use Rattle.wit_scopes.proofs.Placed.{in_their_turn, own_borrowed, differ_names, turn_differs}
 use Rattle.wit_item_entries.proofs.names.resolve_types.Goals as goal
-use Rattle.wit_entries.specs.Requiring.{Requires}
-use Rattle.wit_item_entries.proofs.Handled.{types-in_turn}
+use Rattle.wit_entries.specs.EntryFaults.{Requires}
 
 pub ordered_turn-requires-clause-distinct : goal.ordered_turn-requires-clause-distinct
 ordered_turn-requires-clause-distinct c =

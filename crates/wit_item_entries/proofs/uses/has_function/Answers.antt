@@ -1,6 +1,6 @@
 use Rattle.std.proofs.Common.{◌≡◌, ◌≤◌, length, Some, refl, rules, arith}
 use Rattle.wit_items.proofs.Common.{false≢true, slice_get}
-use Rattle.wit_item_entries.proofs.Calling.{called_at, called_none}
+use Rattle.wit_item_entries.proofs.FunctionTables.{called_at, called_none}
 use Rattle.wit_item_entries.proofs.uses.has_function.Goals as goal
 
 pub returns-then-is_called : goal.returns-then-is_called

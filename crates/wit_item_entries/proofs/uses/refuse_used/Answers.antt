@@ -1,6 +1,6 @@
 use Rattle.std.proofs.Common.{Some, inl, inr, sym, ap, ◌∙◌, ◌++◌}
 use Rattle.wit_items.proofs.Common.{codes, false≢true, free_functions}
-use Rattle.wit_item_entries.proofs.UseFaults.{of_function, of_nothing}
+use Rattle.wit_item_entries.proofs.ReachedFaults.{of_function, of_nothing}
 use Rattle.wit_item_entries.proofs.uses.refuse_used.Goals as goal
 
 pub returns-then-has_function : goal.returns-then-has_function

@@ -1,9 +1,8 @@
-use Rattle.std.proofs.Common.{◌≡◌, true, None, Some, inl, inr, refl, sym, ap, ◌∙◌, rules}
-use Rattle.wit_items.proofs.Common.{codes, defined_twice, env_of, err_from_is_err_and, free_functions, local_id, name_twice, option_and_then, option_map_or, reports_back, reports_prefix, reports_same, resolved_scope_at, slice_get, source_view, source_within, use_view}
+use Rattle.std.proofs.Common.{◌≡◌, true, None, Some, inl, inr, refl, sym, ap, ◌∙◌, rules, ℕ, Option}
+use Rattle.wit_items.proofs.Common.{codes, defined_twice, env_of, err_from_is_err_and, free_functions, if◌then◌else◌, is_none, local_id, name_twice, option_and_then, option_map_or, reports_back, reports_prefix, reports_same, resolved_scope_at, slice_get, source_view, source_within, use_view}
 use Rattle.std.specs.Prelude.{is_some}
-use Rattle.wit_entries.specs.EntryFaults.{unless_found}
-use Rattle.wit_item_entries.specs.UseFaults.{interface_of, asked_fault, lost_name, used_fault, spelled_fault}
-use Rattle.wit_item_entries.proofs.UseFaults.{found_of, used_from}
+use Rattle.wit_item_entries.specs.ReachedFaults.{interface_of, asked_fault, lost_name, used_fault, spelled_fault}
+use Rattle.wit_item_entries.proofs.ReachedFaults.{found_of, used_from}
 use Rattle.wit_item_entries.proofs.uses.resolve_use.Goals as goal
 
 pub returns-in_err-id-clause-first : goal.returns-in_err-id-clause-first
@@ -21,7 +20,7 @@ returns-in-None-clause-first c =
     let id = u.name.now.name in
     let free : env_of i.types id.name.now ≡ None = search rules in
     let at : interface_of is u.from ≡ Some i = ap (option_and_then (slice_get is.arena)) c.in_ok-id.ensures.id ∙ c.get-interface.ensures in
-    let lost : used_fault is u ≡ Some (lost_name (free_functions i) id) = used_from is u i c.in_ok-id.ensures.first at ∙ ap (unless_found (lost_name (free_functions i) id)) free in
+    let lost : used_fault is u ≡ Some (lost_name (free_functions i) id) = used_from is u i c.in_ok-id.ensures.first at ∙ ap (λ (o : Option ℕ). if is_none o then Some (lost_name (free_functions i) id) else None) free in
     reports_prefix (spelled_fault c.args.scope.now.names (local_id (use_view u))) (reports_same (sym lost) c.refuse_used.ensures)
 
 pub returns-then-is_some-clause-first : goal.returns-then-is_some-clause-first
@@ -34,7 +33,7 @@ returns-then-is_some-clause-first c =
     let local = c.local_of-local.result in
     let found : env_of i.types id.name.now ≡ Some c.in-Some.original.now = search rules in
     let at : interface_of is u.from ≡ Some i = ap (option_and_then (slice_get is.arena)) c.in_ok-id.ensures.id ∙ c.get-interface.ensures in
-    let right : used_fault is u ≡ None = used_from is u i c.in_ok-id.ensures.first at ∙ ap (unless_found (lost_name (free_functions i) id)) found in
+    let right : used_fault is u ≡ None = used_from is u i c.in_ok-id.ensures.first at ∙ ap (λ (o : Option ℕ). if is_none o then Some (lost_name (free_functions i) id) else None) found in
     let here : is_some (env_of names local.name.now) ≡ true = search rules in
     let twice : spelled_fault names local ≡ Some (name_twice local) = rw here refl in
     elim (c.refuse_in.ensures (defined_twice (codes "name") local.name.now) c.defined_twice.ensures) [

@@ -1,8 +1,8 @@
 use Rattle.std.proofs.Common.{◌≡◌, ◌+◌, ◌++◌, ◌∷◌, [], take, Some, refl, ap, sym, ◌∙◌, subst, arith}
 use Rattle.wit_items.proofs.Common.{Defines, TypeOwner, Used, after-next, defines_more, defines_used, err_from_is_err_and, first_after, length-map, listed_more, local_names, map, read_map, reports-after, reports_same, resolved_scopes_of, slice_get, slice_get_read, source_view, take-map, take_all, take_next, use_view}
 use Rattle.wit_entries.proofs.Requiring.{extended_then}
-use Rattle.wit_item_entries.specs.UseFaults.{local_fault}
-use Rattle.wit_item_entries.proofs.UseFaults.{local_next}
+use Rattle.wit_item_entries.specs.ReachedFaults.{local_fault}
+use Rattle.wit_item_entries.proofs.ReachedFaults.{local_next}
 use Rattle.wit_item_entries.proofs.uses.resolve_uses.Goals as goal
 
 pub resolve_use-requires : goal.resolve_use-requires

@@ -1,7 +1,7 @@
 use Rattle.std.proofs.Common.{◌≡◌, [], None, map, take}
 use Rattle.wit_items.proofs.Common.{Address, Defines, first_after, local_names, resolved_scopes_of, use_view}
-use Rattle.wit_entries.specs.Requiring.{IsExtended}
-use Rattle.wit_item_entries.specs.UseFaults.{local_fault}
+use Rattle.wit_entries.specs.EntryFaults.{IsExtended}
+use Rattle.wit_item_entries.specs.ReachedFaults.{local_fault}
 use Rattle.wit_item_entries.proofs.uses.resolve_uses.Given as goal
 
 abbrev pub invariant-loop-name : goal.invariant-loop-name

@@ -2,10 +2,9 @@ use Rattle.std.proofs.Common.{◌≡◌, ◌+◌, ℕ, List, [], ◌∷◌, ◌+
 use Rattle.wit_items.proofs.Common.{Include, IncludePart, TheWorld, TopName, contains_at, err_from_is_err_and, first_in, in-following, map, option_map, or_none, others_of, reports-in, reports_same, slice_get, slice_get-get_or, slice_get-map, take_all, top_at, world_part, worlds_at}
 use Rattle.wit_syntax.proofs.Common.{WorldItem}
 use Rattle.wit_tree.specs.declared.tree.WorldItem.TheVariants as world_item
-use Rattle.wit_links.specs.Includes.{included_fault}
+use Rattle.wit_links.specs.Links.{included_fault}
 use Rattle.wit_links.specs.declared.worlds.Worlds.{Worlds}
-use Rattle.wit_links.proofs.IncludeFaults.{part_fault, parts_fault}
-use Rattle.wit_links.proofs.IncludePart.{included, AreIncluded, included_none, included_next, no_include, included_past, included_more, includes_are}
+use Rattle.wit_links.proofs.Leading.{part_fault, parts_fault, included, AreIncluded, included_none, included_next, no_include, included_past, included_more, includes_are}
 use Rattle.wit_links.proofs.includes.resolve_includes.Goals.{in-Include+in_ok-include+in_ok-push, in_default}
 use Rattle.wit_links.proofs.includes.resolve_includes.Goals as goal
 

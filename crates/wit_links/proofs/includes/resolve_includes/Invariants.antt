@@ -1,7 +1,6 @@
 use Rattle.std.proofs.Common.{◌≡◌, None, take}
 use Rattle.wit_items.proofs.Common.{first_in, others_of, top_at, worlds_at}
-use Rattle.wit_links.proofs.IncludeFaults.{part_fault}
-use Rattle.wit_links.proofs.IncludePart.{included, AreIncluded}
+use Rattle.wit_links.proofs.Leading.{part_fault, included, AreIncluded}
 use Rattle.wit_links.proofs.includes.resolve_includes.Given as goal
 
 abbrev pub invariant-loop-part : goal.invariant-loop-part

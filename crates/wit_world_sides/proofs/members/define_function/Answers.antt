@@ -2,7 +2,7 @@ use Rattle.std.proofs.Common.{◌≡◌, ◌∷◌, [], List, ℕ, ap, sym, ◌�
 use Rattle.wit_arena.proofs.Common.{Fault, Imported, SideFunction, role_side}
 use Rattle.wit_refusals.specs.NameScopes.{Name}
 use Rattle.wit_sides.specs.SideNames.{defined_on}
-use Rattle.wit_rules.specs.BorrowedFunctions.{function_view}
+use Rattle.wit_rules.specs.Signatures.{function_view}
 use Rattle.wit_externs.specs.Clash.{item_names}
 use Rattle.wit_externs.proofs.Clashing.{side_imported, side_across, item_defined, name_differs}
 use Rattle.wit_walk.proofs.Common.{Finds, is_on_side}

@@ -1,10 +1,10 @@
 use Rattle.std.proofs.Common.{◌++◌, List, map, sym, ap, ◌∙◌, subst}
 use Rattle.wit_arena.proofs.Common.{AllDiffer, Imported, WorldSide, differ_none, err_from_is_err_and, names_on}
 use Rattle.wit_refusals.specs.NameScopes.{Name}
-use Rattle.wit_signatures.specs.ForeignName.{name_key, name_of_id}
+use Rattle.wit_signatures.specs.FunctionsOfScope.{name_key, name_of_id}
 use Rattle.wit_world_sides.proofs.Putting.{begun_with}
 use Rattle.wit_walk.proofs.Common.{reports_same}
-use Rattle.wit_externs.specs.AloneFaults.{defined_fault}
+use Rattle.wit_externs.specs.Clash.{defined_fault}
 use Rattle.wit_world_sides.proofs.members.named_members.Goals as goal
 
 pub returns-clause-in_use : goal.returns-clause-in_use

@@ -3,13 +3,11 @@ use Rattle.wit_arena.proofs.Common.{Id, SideLink, WorldSide, append-nil, err_fro
 use Rattle.wit_model.specs.declared.world.WorldKey.TheVariants as key
 use Rattle.wit_refusals.specs.NameScopes.{Name}
 use Rattle.wit_sides.specs.SideNames.{defined_on, only_on}
-use Rattle.wit_externs.specs.Clash.{item_names}
-use Rattle.wit_externs.specs.Next.{IsLinked, linked_on}
+use Rattle.wit_externs.specs.Clash.{item_names, IsLinked, linked_on}
 use Rattle.wit_externs.proofs.Linked.{places_differ}
 use Rattle.wit_externs.proofs.Steps.{kept_nothing}
-use Rattle.wit_world_sides.specs.Members.{path_link, text}
-use Rattle.wit_world_sides.proofs.Putting.{names_itself, put_itself, puts, sorted_itself}
-use Rattle.wit_world_sides.proofs.SideCalled.{other_called}
+use Rattle.wit_world_sides.specs.Members.{path_link}
+use Rattle.wit_world_sides.proofs.Putting.{names_itself, put_itself, puts, sorted_itself, other_called}
 use Rattle.wit_world_sides.proofs.PutFaults.{linked_free, linked_report}
 use Rattle.wit_world_sides.proofs.members.put_bare.Goals as goal
 
@@ -25,7 +23,7 @@ returns-clause-puts c = λ keyed.
     let more = λ (s : WorldSide). subst (λ (n : ℕ). linked_on s new ≡ linked_on s m.links ++ only_on s link.side n) c.index.ensures (c.in_ok-define.ensures.defined s) in
     let apart = λ (s : WorldSide). places_differ link.side (λ t. linked_on t m.links) (λ t. linked_on t new) c.index.result c.in_ok-define.ensures.defined c.in_ok-define.ensures.free s (keyed.apart s) in
     let same = λ (s : WorldSide). sym (append-nil (defined_on s m.in_use)) ∙ ap (λ (l : List Name). defined_on s m.in_use ++ l) (kept_nothing item_names (λ y. same_side s (item_side y)) x named) in
-    put_itself m _ link id item c.requires.bare c.requires.interface (puts m _ x (id ∷ []) (key.Interface id, item) keyed same keyed.differ more apart (sym (ap (map text) named)) refl (other_called (key.Interface id, item) (ap function_of c.requires.interface)) (sym (sorted_itself link c.requires.bare)) c.in_ok-add_item.ensures)
+    put_itself m _ link id item c.requires.bare c.requires.interface (puts m _ x (id ∷ []) (key.Interface id, item) keyed same keyed.differ more apart (sym (ap (map (λ (n : Name). n.0)) named)) refl (other_called (key.Interface id, item) (ap function_of c.requires.interface)) (sym (sorted_itself link c.requires.bare)) c.in_ok-add_item.ensures)
 
 pub returns-in_err-define-clause-first : goal.returns-in_err-define-clause-first
 returns-in_err-define-clause-first c =

@@ -1,12 +1,10 @@
 use Rattle.std.proofs.Common.{◌≡◌, ◌∷◌, [], refl, ap, ◌∙◌}
 use Rattle.wit_arena.proofs.Common.{SideFunction, WorldSide, codes, function_item, role_side, same_side}
 use Rattle.wit_refusals.specs.NameScopes.{Name}
-use Rattle.wit_rules.specs.BorrowedFunctions.{function_view}
-use Rattle.wit_externs.specs.Next.{linked_on}
-use Rattle.wit_world_sides.specs.FilledSides.{entries_of, inserted_on}
-use Rattle.wit_world_sides.proofs.Putting.{puts}
-use Rattle.wit_world_sides.proofs.SideCalled.{function_called}
-use Rattle.wit_world_sides.proofs.SideKeys.{nothing_more}
+use Rattle.wit_rules.specs.Signatures.{function_view}
+use Rattle.wit_externs.specs.Clash.{linked_on}
+use Rattle.wit_world_sides.specs.Members.{entries_of, inserted_on}
+use Rattle.wit_world_sides.proofs.Putting.{puts, function_called, nothing_more}
 use Rattle.wit_world_sides.proofs.members.put_function.Goals as goal
 
 pub returns-clause-puts : goal.returns-clause-puts

@@ -3,7 +3,7 @@ use Rattle.wit_arena.proofs.Common.{Fault, SideInline, WorldItem, err_from_is_er
 use Rattle.wit_model.specs.declared.world.WorldKey.TheVariants as key
 use Rattle.wit_world_sides.specs.Members.{Puts, item_word}
 use Rattle.wit_walk.proofs.Common.{Finds}
-use Rattle.wit_signatures.specs.ForeignName.{name_of_id}
+use Rattle.wit_signatures.specs.FunctionsOfScope.{name_of_id}
 use Rattle.wit_world_sides.proofs.PutFaults.{clash_one}
 use Rattle.wit_world_sides.proofs.members.put_inline.Goals as goal
 

@@ -1,7 +1,7 @@
 use Rattle.std.proofs.Common.{Option, sym, ap, ◌∙◌}
 use Rattle.wit_arena.proofs.Common.{WorldItem, codes, option_copied, option_map_or}
 use Rattle.wit_world_sides.specs.Members.{item_word}
-use Rattle.wit_world_sides.proofs.Sorts.{sort_lookup}
+use Rattle.wit_world_sides.proofs.Putting.{sort_lookup}
 use Rattle.wit_world_sides.proofs.members.sort_at.Goals as goal
 
 pub returns-in-Some : goal.returns-in-Some

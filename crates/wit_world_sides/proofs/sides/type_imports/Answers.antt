@@ -1,7 +1,7 @@
 use Rattle.std.proofs.Common.{◌≡◌, ◌+◌, take, Some, None, sym, ap, ◌∙◌, subst}
 use Rattle.wit_arena.proofs.Common.{Id, Type_, eq-value as key_test, insert_entry, local_id, map_at, option_map, slice_get, slice_get-get_or, type_imports}
 use Rattle.wit_model.specs.declared.world.WorldKey.TheVariants as key
-use Rattle.wit_world_sides.proofs.Importing.{import_next, imports_past}
+use Rattle.wit_world_sides.proofs.Putting.{import_next, imports_past}
 use Rattle.wit_world_sides.proofs.sides.type_imports.Goals.{in-Some+in_ok-add_import, in_default}
 use Rattle.wit_world_sides.proofs.sides.type_imports.Goals as goal
 

@@ -1,7 +1,7 @@
 use Rattle.std.proofs.Common.{◌+◌, refl, ap, ◌∙◌, subst}
 use Rattle.wit_items.proofs.Common.{Exported, Imported, WorldSide}
 use Rattle.wit_links.specs.declared.inside.Counts.{Counts}
-use Rattle.wit_links.specs.SideCounts.{IsInterfaceOn, seen_on}
+use Rattle.wit_links.specs.Links.{IsInterfaceOn, seen_on}
 use Rattle.wit_links.proofs.Counted.{kept_exports, kept_imports, seen_interface}
 use Rattle.wit_links.proofs.inside.Seen.with_interface.Goals as goal
 
