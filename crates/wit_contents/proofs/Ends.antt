@@ -1,21 +1,20 @@
 -- Where names in handles end in an arena, they end by files in so many steps: also once some names of the next interface or world, or of what is written in it, were added.
 use Rattle.std.proofs.Common.{◌≡◌, ℕ, zero, suc, ◌<◌, List, [], ◌∷◌, ◌++◌, take, Option, Some, None, inl, inr, refl, sym, ap, ◌∙◌, arith, true, false, length, map, subst, ◌+◌}
-use Rattle.wit_contents.proofs.Names.{Address, AddsForeign, AddsScope, AddsSides, AliasForm, AreDistinct, AreItems, AreKnown, AreNames, AreOfSort, AreOwned, AreUsableUses, AreWorldsDone, AtForeign, AtResource, Decls, Def, Defines, DoneScope, Elsewhere, EndIs, EndsAt, EndsInTurn, EntryEnd, Env, Form, Function, Id, Interface, InterfacesDone, IsDeclared, IsDefined, IsKeyed, IsNameOf, IsOrder, IsOther, IsOutcome, IsResource, IsUnknown, Key, Names, Occurrence, Outcome, PackageFile, Required, ResolvedScope, ResourceForm, ScopeName, SideItem, Turned, TypeDef, TypeOwner, UnknownForm, Word, World, WorldArenas, address, all_items, all_name_occurrences, all_occurrences, all_turns, at_part, at_prefix, at_seam, at_take, cases_lt, collects_from, decls, defines_wider, differ_at, differ_by, done_address, end_fault as walk_fault, end_source-more, entry_end, env_of, flat_map, foreign_interfaces, found_end, function_part_declared, handle_fault, in_turn, in_turn_among, in_turn_distinct, inline_items, inline_items_differ, item_declared, item_of, item_scopes, keys, kind_end, kind_of, length-map, local_name, map-append, map_at, name_seen_in, next_interface, next_world, none_is_next, option_cases, option_map, own_item, own_order, part_end, prefix_apart, prefix_scopes, resolved_scope_of, resolved_scopes, resolved_scopes_among, rows_of, scope, scope_names, scope_of, scopes_of, shape_end, slice_get, slice_get-map, slice_get_within, turned, visited, world_item_declared}
+use Rattle.wit_contents.proofs.Names.{Address, AddsForeign, AddsScope, AddsSides, AliasForm, AreDistinct, AreItems, AreKnown, AreNames, AreOfSort, AreOwned, AreUsableUses, AreWorldsDone, AtForeign, AtResource, Decls, Def, Defines, DoneScope, Elsewhere, EndIs, EndsAt, EndsInTurn, EntryEnd, Env, Extends, Form, Function, Id, Interface, InterfacesDone, IsDeclared, IsKeyed, IsNameOf, IsOrder, IsOther, IsOutcome, IsResource, IsUnknown, Key, Names, Occurrence, Outcome, PackageFile, Required, ResolvedScope, ResourceForm, ScopeName, SideItem, Turned, TypeDef, TypeOwner, UnknownForm, Word, World, WorldArenas, address, all_items, all_name_occurrences, all_occurrences, all_turns, at_part, at_prefix, at_seam, at_take, cases_lt, collects_from, decls, defines_wider, differ_at, differ_by, done_address, end_fault as walk_fault, end_source-more, entry_end, env_of, flat_map, foreign_interfaces, found_end, function_part_declared, handle_fault, in_turn, in_turn_among, in_turn_distinct, inline_items, inline_items_differ, item_declared, item_of, item_scopes, keys, kind_end, kind_of, length-map, local_name, local_names, map-append, map_at, name_seen_in, names_in, next_interface, next_world, none_is_next, option_cases, option_map, own_item, own_order, part_end, prefix_apart, prefix_scopes, resolved_scope_of, resolved_scopes, resolved_scopes_among, rows_of, scope, scope_names, scope_of, scopes_of, shape_end, slice_get, slice_get-map, slice_get_within, turned, visited, world_item_declared}
 use Rattle.wit_walk.proofs.Common.{End}
 use Rattle.wit_arena.proofs.Common.{Item}
 use Rattle.wit_types.specs.declared.types.«Type».{«Type» as Ty}
 use Rattle.wit_types.specs.declared.types.«Type».TheVariants as type
 use Rattle.wit_arena.proofs.Interfaces.{functions_of}
-use Rattle.wit_entries.specs.EntryFaults.{end_fault, end_in}
-use Rattle.wit_externs.specs.AloneFaults.{EndsIn}
+use Rattle.wit_entries.specs.EntryFaults.{end_fault, end_in, IsExtended}
+use Rattle.wit_externs.specs.Clash.{EndsIn}
 use Rattle.wit_types.specs.declared.types.TypeOwner.TheVariants as owner
 use Rattle.wit_arena.proofs.DoneNames.{function_part_of}
 use Rattle.wit_arena.proofs.FunctionPart.{DoneFunction, IsFunctionPart, scope_functions}
-use Rattle.wit_arena.proofs.Sided.{IsFreshInside, AreSided}
+use Rattle.wit_arena.proofs.Sided.{IsFreshInside, AreSided, side_required}
 use Rattle.wit_arena.proofs.Inside.{inside_at, inside_scopes-count}
 use Rattle.wit_arena.proofs.WorldSides.{fresh_inside, names_done, sides_done, world_fresh}
 use Rattle.wit_arena.proofs.WorldSides as done
-use Rattle.wit_entries.specs.Requiring.{IsExtended}
 
 -- each part has an end, and so has what is made of them
 module _ (ends : ℕ → Option EntryEnd) (all : (j : ℕ) → (e : EntryEnd) × (ends j ≡ Some e)) where
@@ -114,7 +113,7 @@ module _ (files : List PackageFile) (declares : Decls) (written : List Occurrenc
     apart : AreDistinct some
     apart = differ_by local_name some (λ i j x y at_x at_y same. differ_at local_name turn (in_turn_distinct (scope_names w) order least distinct) i j x y (at_take turn count i x at_x).0 (at_take turn count j y at_y).0 same)
 
-    defined : IsDefined declares d.seen mid s [] names some
+    defined : Extends declares d.seen (all_name_occurrences s some) mid (λ ks. AreNames ks s (env_of names) × (names_in names ≡ local_names some))
     defined = (defines_wider es mid resolved (map resolved_scope_of cs) o s [] names some among (defines s)).from declares d.seen declared apart (record { new = λ i x at was. unmet was.0 (local_name x) was.1 }) known d.occurrence nothing
 
     -- the scope of what occurred is declared by files
@@ -131,7 +130,7 @@ module _ (files : List PackageFile) (declares : Decls) (written : List Occurrenc
   reached_ends resolved among outcome right steps enough order is distinct count mid more names defines =
       let least : IsOrder (rows_of (scope_names w)) order = subst (IsOutcome (rows_of (scope_names w))) is right in
       let d = defined resolved among order least distinct count mid names defines in
-      walk_ends files declares (keys d.now) mid more d.occurrence.keyed (seen_declared resolved among order least distinct count mid names defines) s (env_of names) d.are_present steps enough
+      walk_ends files declares (keys d.now) mid more d.occurrence.keyed (seen_declared resolved among order least distinct count mid names defines) s (env_of names) d.holds.0 steps enough
 
 -- a scope whose names are done, also once the arena has grown
 pub part_ends : (files : List PackageFile) (declares : Decls) (written : List Occurrence) (cs : List DoneScope) (gs : List DoneFunction) (es more : List TypeDef) → IsFunctionPart files declares written cs gs es → (t : ℕ) (c : DoneScope) → slice_get cs t ≡ Some c → (steps : ℕ) → IsEnough files steps c.address → EndsIn (env_of c.types) (es ++ more) (handle_fault files steps c.address)
@@ -161,7 +160,7 @@ module _ (files : List PackageFile) (is ws : List Item) (interfaces : AreOfSort 
     fresh_interface =
         let long : length us ≡ length d.ordered = sym (ap length d.all) ∙ length-map d.ordered item_of in
         let next : slice_get is (length d.ordered) ≡ Some w = subst (λ (n : ℕ). slice_get is n ≡ Some w) long there in
-        let at : slice_get is (length xs) ≡ Some w = subst (λ (n : ℕ). slice_get is n ≡ Some w) (sym d.laid.count) next in
+        let at : slice_get is (length xs) ≡ Some w = subst (λ (n : ℕ). slice_get is n ≡ Some w) (sym d.laid.says.count) next in
         let whose = next_interface files is ws interfaces worlds is_items ws_items uses es prefix wprefix foreign xs in
         record {
           interface = interfaces.each (length xs) w at;
@@ -194,7 +193,7 @@ module _ (files : List PackageFile) (is ws : List Item) (interfaces : AreOfSort 
     -- of the world, once some of its names were added
     pub world_ends : (outcome : Outcome) → IsOutcome (rows_of (scope_names w)) outcome → (steps : ℕ) → IsEnough files steps (address w) → EndsInTurn resolved (owner.World (length a.worlds)) old (scope_names w) outcome (handle_fault files steps (address w))
     world_ends =
-        let place : length e.own ≡ length us = e.laid.count ∙ length-map e.ordered own_order ∙ sym (length-map e.ordered own_item) ∙ ap length e.all in
+        let place : length e.own ≡ length us = e.laid.says.count ∙ length-map e.ordered own_order ∙ sym (length-map e.ordered own_item) ∙ ap length e.all in
         let own = world_item_declared files is ws interfaces worlds is_items ws_items (length e.own) w (ap (slice_get ws) place ∙ there) in
         let whose = ap (λ (l : List World). owner.World (length l)) e.arena ∙ next_world files is ws interfaces worlds is_items ws_items uses es prefix wprefix foreign e.own in
         reached_ends files (decls files is ws) written before (flat_map scope_functions before) old (function_part_of files (decls files is ws) written before old e.done) w (owner.World (length a.worlds)) (world_fresh files is ws interfaces worlds is_items ws_items uses es prefix wprefix foreign middle xs irs d us old a qs e w there) (own ∙ ap (λ (o : TypeOwner). (scope files (address w), o)) (sym whose)) (scope_of files ws (item_scopes files ws ws_items) (length us) w there) resolved known_before
@@ -210,7 +209,7 @@ module _ (files : List PackageFile) (is ws : List Item) (interfaces : AreOfSort 
       -- and of an interface that is written in it, after what comes first on its sides
       module _ (xs_done : List SideItem) (inside_done : List Item) (count : ℕ) (first : inside_done ≡ take count (inline_items w)) (inner : Item) (next : slice_get (inline_items w) count ≡ Some inner) (mid : List TypeDef) (now : List Interface) (made : List Function) (rs : List Required) (sides : AddsSides resolved (length (prefix ++ xs)) (address w) types named mid a.inside now made rs xs_done inside_done) (covered : length now ≡ length a.inside + count) where
         abbrev IsSided : Type 0
-        IsSided = AreSided files (decls files is ws) (written ++ all_name_occurrences (address w) own_scope.names) (before ++ own_scope ∷ []) (flat_map scope_functions before) (length (prefix ++ xs) + length a.inside) (address w) mid a.inside now made rs xs_done inside_done
+        IsSided = AreSided files (decls files is ws) (written ++ all_name_occurrences (address w) own_scope.names) (before ++ own_scope ∷ []) (flat_map scope_functions before) (length (prefix ++ xs) + length a.inside) (address w) mid a.inside now made rs xs_done inside_done (side_required resolved (length (prefix ++ xs)) (address w) types named mid a.inside now made rs xs_done inside_done sides)
 
         among_first : (k : ℕ) (i : Item) → slice_get inside_done k ≡ Some i → slice_get (inline_items w) k ≡ Some i
         among_first k i at = (at_take (inline_items w) count k i (ap (λ (l : List Item). slice_get l k) (sym first) ∙ at)).0

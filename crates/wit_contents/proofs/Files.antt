@@ -1,11 +1,11 @@
 -- What holds of files, of what comes before their interfaces and worlds, and once these were added.
 use Rattle.std.proofs.Common.{◌≡◌, List, sym, ap, ◌∙◌, ◌<◌, ℕ, All, length, map, get_or, subst, ◌≤◌, [], arith, refl, ◌++◌}
-use Rattle.wit_contents.proofs.Names.{AddsForeign, AddsInterfaces, AddsWorlds, AreEntriesOf, AreItemsOf, AreUsableUses, Fault, ForeignVisit, Interface, InterfaceNamed, IsBrokenNames, IsItemPlaced, IsNameIndex, IsOrder, Item as BorrowedItem, Names, PackageFile, Required, TypeDef, World, WorldArenas, WorldNamed, all_items, append-nil, dep, first_foreign_uses, foreign_interfaces, foreign_items, foreign_packages, foreign_view, foreign_worlds, in_order, index_prefix, interfaces_at, interfaces_at-append, interfaces_differ, interfaces_of, item_rows, item_view, items_within, length-map, option_map, others_of, package_of, prefix_of, prefix_worlds, slice_get-get_or, visited, visited_foreign, visits_differ, worlds_at, worlds_at-append, worlds_of}
+use Rattle.wit_contents.proofs.Names.{AddsForeign, AddsInterfaces, AddsWorlds, AreItemsOf, AreUsableUses, Fault, ForeignVisit, Interface, InterfaceNamed, IsBrokenNames, IsItemPlaced, IsNameIndex, IsOrder, Item as BorrowedItem, Names, PackageFile, Required, TypeDef, World, WorldArenas, WorldNamed, all_items, append-nil, dep, first_foreign_uses, foreign_entry, foreign_interfaces, foreign_items, foreign_packages, foreign_view, foreign_worlds, in_order, index_prefix, interfaces_at, interfaces_at-append, interfaces_differ, interfaces_of, item_rows, item_view, items_within, length-map, option_map, others_of, package_of, prefix_of, prefix_worlds, slice_get-get_or, visited, visited_foreign, visits_differ, worlds_at, worlds_at-append, worlds_of}
 use Rattle.wit_tree.specs.declared.tree.PackageName.{PackageName as Header}
 use Rattle.wit_arena.proofs.MadePackage.{made_of_package}
 use Rattle.wit_arena.proofs.Resolved.{files_package}
 use Rattle.wit_model.specs.declared.foreign.ForeignItems.{ForeignItems}
-use Rattle.wit_contents.specs.AddedFiles.{MakeContents, package_with}
+use Rattle.wit_contents.specs.Files.{MakeContents, package_with}
 use Rattle.wit_files.specs.declared.foreign.ForeignVisit.{ForeignVisit as BorrowedVisit}
 use Rattle.wit_front.specs.declared.foreign.ForeignArenas.{ForeignArenas}
 use Rattle.wit_front.specs.ForeignPrefix.{AddsPrefix, AreAdded, HasUsed, IsPrefix, entries_after}
@@ -54,7 +54,7 @@ bare files vs types a all empty h = subst (λ (ts : List TypeDef). AreAdded (for
 
 module _ (files : List PackageFile) (vs : List BorrowedVisit) (types : List TypeDef) (a : ForeignArenas) (all : map foreign_view vs ≡ foreign_items files) (empty : types ≡ []) (made : AreAdded (map foreign_view vs) [] [] a) where
   -- the entries of these items
-  pub prefix_entries : AreEntriesOf files a.entries.items
+  pub prefix_entries : a.entries.items ≡ map (foreign_entry files) (foreign_items files)
   prefix_entries = made.entries ∙ ap (entries_after 0 0) all ∙ entries_after-among (foreign_items files) (visits_differ files)
 
   module _ (items borrowed : List BorrowedItem) (lent : borrowed ≡ items) (are : AreItemsOf files items) where

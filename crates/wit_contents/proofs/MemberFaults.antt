@@ -1,25 +1,67 @@
--- The first fault of what is on the sides of a world: of one that comes next, and of more after some, part by part.
-use Rattle.std.proofs.Common.{◌≡◌, ℕ, List, [], ◌∷◌, ◌++◌, length, map, take, Option, Some, None, refl, sym, ap, ◌∙◌, subst, append_assoc, ◌<◌, ◌+◌, drop, get_or}
-use Rattle.wit_contents.proofs.Names.{AddsMembers, AreKeyed, AreNamesPlaced, AreRightMembers, Declared, Env, Fault, Finds, FindsInterface, Id, Interfaces, IsLinkedTo, IsNext, IsRightMember, IsRightOf, ItemScope, ItemWalk, Link, MemberTest, ParseError, Reports, ResourceFunc, Result, ScopeName, SideFunction, SideItem, SideLink, SourceFunction, Stage, TheInline, TheWorld, TopName, TypeBody, TypeDef, about, after-append, append-nil, declared_view, definition_functions, env_of, finds_same, first_after, flat_map, flat_map-append, function_fault, function_member, functions_items, inline_item, inline_member, inline_of, inline_side, inside_of, inside_view, item_function, item_inline, item_name, items_on, lead, length-map, link_member, linked_fault, lost_word, map-append, meaning, metadata_fault, name_view, names_at_top, names_of, next_place, none_both, option_map, option_map_or, option_or, or_none, part_items, parts_more, prefix_of, put_link_fault, reports_prefix, reports_same, resource_function, resource_items, scope_item, scope_names, seen_on, side_items, slice_get, slice_get_read, slice_get_within, stage, take_next, take_seam, top_at, walk_item, word_fault, world_part}
+-- The first fault of an interface: of its names, or, once they are resolved, of what comes after them.
+use Rattle.std.proofs.Common.{◌≡◌, ℕ, List, [], length, map, Option, None, sym, ap, ◌∙◌, subst, arith, ◌∷◌, ◌++◌, take, Some, refl, append_assoc, ◌<◌, ◌+◌, drop, get_or}
+use Rattle.wit_contents.proofs.Names.{AddsTurn, Defines, EndsInTurn, Env, Err, Fault, Finds, FindsInterface, Id, InOrder, Interfaces, IsLent, IsOutcome, IsRightOf, ItemScope, Names, Ok, Outcome, ParseError, Required, ResolvedScope, Result, ScopeName, TypeDef, TypeOwner, env_of, finds_same, in_turn, interface_fault, local_id, names_of, option_or, order_of, outcome_one, resolved_scopes_of, rest_fault, rows_of, scope_item, scope_names, take_all, AddsMembers, AreKeyed, AreNamesPlaced, AreRightMembers, Declared, IsLinkedTo, IsNext, IsRightMember, ItemWalk, Link, MemberTest, Reports, ResourceFunc, SideFunction, SideItem, SideLink, SourceFunction, Stage, TheInline, TheWorld, TopName, TypeBody, about, after-append, append-nil, declared_view, definition_functions, first_after, flat_map, flat_map-append, function_fault, function_member, functions_items, inline_item, inline_member, inline_of, inline_side, inside_of, inside_view, item_function, item_inline, item_name, items_on, lead, length-map, link_member, linked_fault, lost_word, map-append, meaning, metadata_fault, name_view, names_at_top, next_place, none_both, option_map, option_map_or, or_none, part_items, parts_more, prefix_of, put_link_fault, reports_prefix, reports_same, resource_function, resource_items, seen_on, side_items, slice_get, slice_get_read, slice_get_within, stage, take_next, take_seam, top_at, word_fault, world_part, item_stability, names_fault, item_view}
+use Rattle.wit_arena.proofs.Common.{Item}
+use Rattle.wit_entries.specs.EntryFaults.{IsExtended, written_fault}
+use Rattle.wit_externs.specs.Clash.{EndsIn, FindsIn, signed_by, words_in}
+use Rattle.wit_externs.proofs.AloneFaults.{safe_of, function_same}
+use Rattle.wit_item_entries.specs.Body.{HasTurn}
+use Rattle.wit_item_entries.specs.declared.names.ResolvedNames.{ResolvedNames}
+use Rattle.wit_contents.proofs.FileFaults.{or_found}
 use Rattle.wit_contents.specs.declared.walk.Growing.{Growing}
 use Rattle.wit_contents.specs.declared.walk.Walked.{Walked}
-use Rattle.wit_arena.proofs.Common.{Item}
 use Rattle.wit_walk.proofs.Common.{World, WorldItem}
-use Rattle.wit_rules.specs.BorrowedFunctions.{function_view}
-use Rattle.wit_rules.specs.Signatures.{HaveOwners}
-use Rattle.wit_externs.specs.AloneFaults.{EndsIn, signed_by, words_in}
-use Rattle.wit_externs.proofs.AloneFaults.{function_same}
-use Rattle.wit_entries.specs.Requiring.{IsExtended}
+use Rattle.wit_rules.specs.Signatures.{function_view, HaveOwners}
 use Rattle.wit_items.specs.declared.items.InlineInterface.{InlineInterface}
 use Rattle.wit_links.proofs.Inlined.{names_own, lent_named, lent_placed}
-use Rattle.wit_item_entries.proofs.FunctionFaults.{words_same, all_names}
-use Rattle.wit_item_entries.proofs.Owners.{owners, turn_has}
-use Rattle.wit_contents.proofs.InterfaceFaults.{finds_right}
+use Rattle.wit_item_entries.proofs.ReachedFaults.{words_same, all_names}
+use Rattle.wit_item_entries.proofs.ScopeFunctions.{owners, turn_has}
 use Rattle.wit_contents.proofs.Members.{function_there, inline_here, members_none, members_then, next_then}
-use Rattle.wit_type_tree.specs.declared.types.TypeBody.TheVariants as body
-use Rattle.wit_entries.specs.EntryFaults.{written_fault}
 use Rattle.wit_externs.proofs.Steps.{split_at}
+use Rattle.wit_types.specs.declared.types.TypeOwner.TheVariants as owner
+use Rattle.wit_type_tree.specs.declared.types.TypeBody.TheVariants as body
 
+-- names that were added in turn are in the order of their outcome
+module _ (old mid : List TypeDef) (cs : List ResolvedScope) (o : TypeOwner) (xs : List ScopeName) (types : Names) (ids : List Id) (required : List Required) (turn : AddsTurn old mid cs o xs types ids required) (outcome : Outcome) (right : IsOutcome (rows_of xs) outcome) where
+  abbrev ys : List ScopeName
+  ys = in_turn xs (order_of outcome)
+
+  in_turn_is : ys ≡ in_turn xs turn.adds.order
+  in_turn_is = ap (λ (p : Outcome). in_turn xs (order_of p)) (outcome_one (rows_of xs) outcome (InOrder turn.adds.order) right turn.adds.least)
+
+  pub turned : ids ≡ map local_id (in_turn xs (order_of outcome))
+  turned = turn.turn ∙ ap (map local_id) (sym in_turn_is)
+
+  -- so a test that is right in turn is right of them, also once the arena has grown
+  pub turn_ends : (handle : Id → Option Fault) → EndsInTurn cs o old xs outcome handle → (new : List TypeDef) → IsExtended mid new → EndsIn (env_of types) new handle
+  turn_ends handle ends new g =
+      let zs = in_turn xs turn.adds.order in
+      subst (λ (es : List TypeDef). EndsIn (env_of types) es handle) (sym g.is)
+      (ends turn.adds.order (outcome_one (rows_of xs) outcome (InOrder turn.adds.order) right turn.adds.least) turn.adds.distinct (length zs) mid g.more types (λ s. subst (λ (l : List ScopeName). Defines old mid cs o s [] types l) (sym (take_all (length zs) zs (omega arith))) (turn.adds.defines s)))
+
+-- they are those of an interface
+abbrev own_turn : (i : ItemScope) (n : ResolvedNames) (old mid : List TypeDef) (cs : List ResolvedScope) (o : TypeOwner) → names_of i ≡ scope_names (scope_item i) → HasTurn n mid (scope_item i) old cs o → AddsTurn old mid cs o (names_of i) n.types n.turn.items n.required.items
+own_turn i n old mid cs o named turn = subst (λ (xs : List ScopeName). AddsTurn old mid cs o xs n.types n.turn.items n.required.items) (sym named) turn
+
+-- what is found of what comes after them is found of it
+pub rest_found : {T : Type 0} (r : Result T ParseError) (is : Interfaces) (o : TypeOwner) (old mid new : List TypeDef) (i : ItemScope) (n : ResolvedNames) → names_of i ≡ scope_names (scope_item i) → HasTurn n mid (scope_item i) old (resolved_scopes_of is) o → IsExtended mid new → (outcome : Outcome) → IsOutcome (rows_of (names_of i)) outcome → (handle : Id → Option Fault) → EndsInTurn (resolved_scopes_of is) o old (names_of i) outcome handle → option_or (item_stability (scope_item i)) (names_fault is i.names.now outcome handle) ≡ None → FindsIn (env_of n.types) new (rest_fault i n.turn.items) r → Finds (interface_fault is i outcome handle) r
+rest_found r is o old mid new i n named turn g outcome right handle ends none found =
+    let own = own_turn i n old mid (resolved_scopes_of is) o named turn in
+    let now = turn_ends old mid (resolved_scopes_of is) o (names_of i) n.types n.turn.items n.required.items own outcome right handle ends new g in
+    let ids = turned old mid (resolved_scopes_of is) o (names_of i) n.types n.turn.items n.required.items own outcome right in
+    finds_same r (ap (λ (l : List Id). rest_fault i l handle) ids ∙ sym (ap (λ (x : Option Fault). option_or x (rest_fault i (map local_id (in_turn (names_of i) (order_of outcome))) handle)) none)) (finds_in r (env_of n.types) new (rest_fault i n.turn.items) handle now found)
+  where
+    finds_in : {T : Type 0} (r : Result T ParseError) (env : Env) (es : List TypeDef) (wrong : (Id → Option Fault) → Option Fault) (handle : Id → Option Fault) → EndsIn env es handle → FindsIn env es wrong r → Finds (wrong handle) r
+    finds_in (Ok x) env es wrong handle ends found = found handle (safe_of env es handle ends)
+    finds_in (Err e) env es wrong handle ends found = or_found found (λ is. is handle ends)
+
+-- what is found of an interface is what a test that is right of it says
+pub finds_right : {T : Type 0} (r : Result T ParseError) (test : Item → Option Fault) (is : Interfaces) (old : List TypeDef) (place : ℕ) (w : Item) (s : ItemScope) → IsLent s is.files w → IsRightOf test is old place w → FindsInterface is place old s r → Finds (test w) r
+finds_right r test is old place w s lent right found = finds_same r (sym (right.says s lent)) (found right.outcome
+    (subst (λ (xs : List ScopeName). IsOutcome (rows_of xs) right.outcome) (sym lent.named) right.right) right.handle
+    (subst (λ (xs : List ScopeName). EndsInTurn (resolved_scopes_of is) (owner.Interface place) old xs right.outcome right.handle) (sym lent.named) right.ends))
+
+-- The first fault of what is on the sides of a world: of one that comes next, and of more after some, part by part.
 -- by each test that is right of all, the first of them have no fault; and an error reports the first of all
 abbrev pub HaveNone : ItemWalk → (prefix all done : List SideItem) → Stage → Type 0
 HaveNone w prefix all done a = (wrong : MemberTest) → AreRightMembers wrong w prefix all a → first_after wrong prefix done ≡ None
@@ -86,17 +128,17 @@ module _ {w : ItemWalk} {fn : SourceFunction} {m : Walked} (n : IsNext w (SideFu
   env = env_of w.scope.names.types
 
   abbrev xs : List ScopeName
-  xs = scope_names (walk_item w)
+  xs = scope_names (item_view w.item)
 
   -- it is there, in a scope of the names
   pub function_next : slice_get (map function_view w.scope.functions.items) m.seen.functions ≡ Some fn
-  function_next = ap (λ (l : List SourceFunction). slice_get l place) n.walk.functions ∙ function_there (walk_item w) n.prefix n.rest fn place n.sides n.seen.functions
+  function_next = ap (λ (l : List SourceFunction). slice_get l place) n.walk.functions ∙ function_there (item_view w.item) n.prefix n.rest fn place n.sides n.seen.functions
 
   pub function_within : m.seen.functions < length w.scope.functions.items
   function_within = subst (λ (k : ℕ). place < k) (length-map w.scope.functions.items function_view) (slice_get_within fns place fn function_next)
 
   pub function_owners : HaveOwners (env_of w.scope.names.types) (map function_view w.scope.functions.items)
-  function_owners = subst (HaveOwners env) (sym n.walk.functions) (owners (walk_item w) env (turn_has xs w.scope.names.turn.items w.scope.names.types n.walk.turn w.scope.names.listed))
+  function_owners = subst (HaveOwners env) (sym n.walk.functions) (owners (item_view w.item) env (turn_has xs w.scope.names.turn.items w.scope.names.types n.walk.turn w.scope.names.listed))
 
   pub function_scoped : (name : List ℕ) → env name ≡ None → meaning xs name ≡ None
   function_scoped = all_names xs w.scope.names.turn.items w.scope.names.types n.walk.turn w.scope.names.listed
@@ -105,7 +147,7 @@ module _ {w : ItemWalk} {fn : SourceFunction} {m : Walked} (n : IsNext w (SideFu
   upto =
       let before = flat_map item_function n.prefix in
       let later = flat_map item_function (SideFunction fn ∷ n.rest) in
-      let all : fns ≡ before ++ later = n.walk.functions ∙ functions_items (walk_item w) ∙ ap (flat_map item_function) n.sides ∙ flat_map-append item_function n.prefix (SideFunction fn ∷ n.rest) in
+      let all : fns ≡ before ++ later = n.walk.functions ∙ functions_items (item_view w.item) ∙ ap (flat_map item_function) n.sides ∙ flat_map-append item_function n.prefix (SideFunction fn ∷ n.rest) in
       ap (λ (k : ℕ). take k fns) n.seen.functions ∙ ap (take (length before)) all ∙ take_seam before later
 
   -- by the names of the scope, and by those of the table
@@ -138,10 +180,10 @@ module _ {w : ItemWalk} {link : Link} {m : Walked} (n : IsNext w (SideLink link 
   resolved = w.interfaces
 
   -- what is at the top of its file
-  at_top : top_at resolved.files w.item.place ≡ (walk_item w).top
-  at_top = ap names_at_top n.walk.world.item.filed.file
+  at_top : top_at resolved.files w.item.place ≡ (item_view w.item).top
+  at_top = ap names_at_top n.walk.world.item.file
 
-  pub link_leads : (id : ℕ) → IsLinkedTo resolved.files resolved.by_name (top_at resolved.files w.item.place) link.path id → IsLinkedTo resolved.files resolved.by_name (walk_item w).top link.path id
+  pub link_leads : (id : ℕ) → IsLinkedTo resolved.files resolved.by_name (top_at resolved.files w.item.place) link.path id → IsLinkedTo resolved.files resolved.by_name (item_view w.item).top link.path id
   link_leads id leads = subst (λ (t : List TopName). IsLinkedTo resolved.files resolved.by_name t link.path id) at_top leads
 
   abbrev lost : List TopName → Option Fault
@@ -151,14 +193,14 @@ module _ {w : ItemWalk} {link : Link} {m : Walked} (n : IsNext w (SideLink link 
   put = option_map_or (put_link_fault m.members link) (lead w link.path) None
 
   pub link_noted : (f : Fault) → metadata_fault link.attributes ≡ Some f → link_member w m.members link ≡ Some f
-  link_noted f noted = ap (λ (o : Option Fault). option_or o (option_or (lost (walk_item w).top) put)) noted
+  link_noted f noted = ap (λ (o : Option Fault). option_or o (option_or (lost (item_view w.item).top) put)) noted
 
   pub link_lost : (f : Fault) → metadata_fault link.attributes ≡ None → lost (top_at resolved.files w.item.place) ≡ Some f → link_member w m.members link ≡ Some f
-  link_lost f noted wrong = ap (λ (o : Option Fault). option_or o (option_or (lost (walk_item w).top) put)) noted ∙ ap (λ (o : Option Fault). option_or o put) (sym (ap lost at_top) ∙ wrong)
+  link_lost f noted wrong = ap (λ (o : Option Fault). option_or o (option_or (lost (item_view w.item).top) put)) noted ∙ ap (λ (o : Option Fault). option_or o put) (sym (ap lost at_top) ∙ wrong)
 
   pub link_put : (id : ℕ) (o : Option Fault) → metadata_fault link.attributes ≡ None → lost (top_at resolved.files w.item.place) ≡ None → lead w link.path ≡ Some id → put_link_fault m.members link id ≡ o → link_member w m.members link ≡ o
   link_put id o noted leads there is =
-      ap (λ (p : Option Fault). option_or p (option_or (lost (walk_item w).top) put)) noted
+      ap (λ (p : Option Fault). option_or p (option_or (lost (item_view w.item).top) put)) noted
       ∙ ap (λ (p : Option Fault). option_or p put) (sym (ap lost at_top) ∙ leads)
       ∙ ap (λ (p : Option ℕ). option_map_or (put_link_fault m.members link) p None) there
       ∙ is
@@ -167,11 +209,11 @@ pub link_found : {T : Type 0} (r : Result T ParseError) (w : ItemWalk) (link : L
 link_found r w link a n found = one_found w r (SideLink link) a n (λ wrong right. finds_same r (sym right) found)
 
 -- an inline interface that comes next, as it is lent
-module _ {w : ItemWalk} {m : Walked} (x : InlineInterface) (n : IsNext w (inline_side x ∷ []) m) (world : x.world.now ≡ item_name (walk_item w)) (place : x.place ≡ (seen_on x.written.now.side m.seen).interfaces) (s : ItemScope) (before : ℕ) (count : before ≡ (seen_on x.written.now.side m.seen).inline) (item : scope_item s ≡ inline_of (walk_item w) x) (own : option_map (λ ns. ns.items) (slice_get (inside_of x.written.now.side w.item) before) ≡ Some s.names.now) where
-  names : names_of s ≡ scope_names (inline_of (walk_item w) x)
+module _ {w : ItemWalk} {m : Walked} (x : InlineInterface) (n : IsNext w (inline_side x ∷ []) m) (world : x.world.now ≡ item_name (item_view w.item)) (place : x.place ≡ (seen_on x.written.now.side m.seen).interfaces) (s : ItemScope) (before : ℕ) (count : before ≡ (seen_on x.written.now.side m.seen).inline) (item : scope_item s ≡ inline_of (item_view w.item) x) (own : option_map (λ ns. ns.items) (slice_get (inside_of x.written.now.side w.item) before) ≡ Some s.names.now) where
+  names : names_of s ≡ scope_names (inline_of (item_view w.item) x)
   names =
       let side = x.written.now.side in
-      let i = walk_item w in
+      let i = item_view w.item in
       let number : before ≡ length (flat_map item_inline (items_on side n.prefix)) = count ∙ n.seen.inline side in
       let here : inline_item i x.place (inline_side x) ≡ inline_of i x ∷ [] = ap (λ (world : List _). record { top = i.top; declared = TheInline world x.place x.written.now x.name x.items.now } ∷ []) (sym world) in
       names_own (inside_view side w.item) i (inline_of i x) n.prefix n.rest x.written.now x.name x.items.now before x.place (map name_view s.names.now) (n.walk.world.item.written side) n.sides number here (lent_named (inside_of side w.item) before s.names.now own)
@@ -187,7 +229,7 @@ module _ {w : ItemWalk} {m : Walked} (x : InlineInterface) (n : IsNext w (inline
     is = w.interfaces
 
     abbrev u : Item
-    u = inline_of (walk_item w) x
+    u = inline_of (item_view w.item) x
 
     abbrev IsRight : (Item → Option Fault) → Type 0
     IsRight test = IsRightOf test is old.types (next_place is old.inside) u
@@ -199,7 +241,7 @@ module _ {w : ItemWalk} {m : Walked} (x : InlineInterface) (n : IsNext w (inline
     -- that, and then its name
     pub inline_found : {T : Type 0} (r : Result T ParseError) → ((test : Item → Option Fault) → IsRight test → Finds (option_or (test u) (inline_member m.members n.prefix (inline_side x))) r) → (wrong : MemberTest) → AreRightMembers wrong w n.prefix (inline_side x ∷ []) (stage old m) → Finds (first_after wrong n.prefix (inline_side x ∷ [])) r
     inline_found r found = one_found w r (inline_side x) (stage old m) n (λ wrong right. (
-        let it = right.1 u (inline_here (walk_item w) n.prefix x world (place ∙ n.seen.interfaces x.written.now.side)) in
+        let it = right.1 u (inline_here (item_view w.item) n.prefix x world (place ∙ n.seen.interfaces x.written.now.side)) in
         finds_same r (sym it.1) (found right.0 it.0)))
 
 -- what parts of a world are on its sides
@@ -207,18 +249,18 @@ abbrev pub world_sides : List WorldItem → List SideItem
 world_sides xs = flat_map part_items (map world_part xs)
 
 -- those of the world are what the item has on its sides
-pub all_sides : (w : ItemWalk) (world : World) (xs : List WorldItem) → declared_view w.item.declared ≡ TheWorld world → xs ≡ world.items.items → side_items (walk_item w) ≡ world_sides xs
+pub all_sides : (w : ItemWalk) (world : World) (xs : List WorldItem) → declared_view w.item.declared ≡ TheWorld world → xs ≡ world.items.items → side_items (item_view w.item) ≡ world_sides xs
 all_sides w world xs is same = ap (λ (d : Declared). flat_map part_items (about d).parts) is ∙ ap world_sides (sym same)
 
 -- those before a part were done
-module _ (w : ItemWalk) (world : World) (xs : List WorldItem) (k : ℕ) (x y : WorldItem) (is : declared_view w.item.declared ≡ TheWorld world) (same : xs ≡ world.items.items) (within : k < length xs) (item : x ≡ get_or xs k x) (own : x ≡ y) (a b : Stage) (was : AreDone w (side_items (walk_item w)) (world_sides (take k xs)) a b) where
+module _ (w : ItemWalk) (world : World) (xs : List WorldItem) (k : ℕ) (x y : WorldItem) (is : declared_view w.item.declared ≡ TheWorld world) (same : xs ≡ world.items.items) (within : k < length xs) (item : x ≡ get_or xs k x) (own : x ≡ y) (a b : Stage) (was : AreDone w (side_items (item_view w.item)) (world_sides (take k xs)) a b) where
   abbrev one : List SideItem
   one = part_items (world_part y)
 
   part_at : slice_get xs k ≡ Some y
   part_at = slice_get_read xs _ k x refl within item ∙ ap Some own
 
-  split : side_items (walk_item w) ≡ world_sides (take k xs) ++ (one ++ world_sides (drop (k + 1) xs))
+  split : side_items (item_view w.item) ≡ world_sides (take k xs) ++ (one ++ world_sides (drop (k + 1) xs))
   split =
       let prefix = take k xs in
       let back = drop (k + 1) xs in
@@ -231,18 +273,18 @@ module _ (w : ItemWalk) (world : World) (xs : List WorldItem) (k : ℕ) (x y : W
   more = sym (parts_more part_items world_part (take k xs) (take (k + 1) xs) y (world_part y) (take_next xs k y part_at) refl)
 
   -- so its own come next
-  pub part_next : IsNext w (side_items (walk_item w)) a.walked → IsNext w (part_items (world_part y)) b.walked
-  part_next n = next_of w (side_items (walk_item w)) (world_sides (take k xs)) one (world_sides (drop (k + 1) xs)) a b split was n
+  pub part_next : IsNext w (side_items (item_view w.item)) a.walked → IsNext w (part_items (world_part y)) b.walked
+  part_next n = next_of w (side_items (item_view w.item)) (world_sides (take k xs)) one (world_sides (drop (k + 1) xs)) a b split was n
 
   -- and are done, or report the first fault
-  pub part_done : (c : Stage) → ((n : IsNext w (part_items (world_part y)) b.walked) → AddsMembers w n.prefix (part_items (world_part y)) b c) → ((n : IsNext w (part_items (world_part y)) b.walked) → HaveNone w n.prefix (part_items (world_part y)) (part_items (world_part y)) b) → AreDone w (side_items (walk_item w)) (world_sides (take (k + 1) xs)) a c
-  part_done c adds none = subst (λ (l : List SideItem). AreDone w (side_items (walk_item w)) l a c) more (done_later w (side_items (walk_item w)) (world_sides (take k xs)) one (world_sides (drop (k + 1) xs)) a b split was c adds none)
+  pub part_done : (c : Stage) → ((n : IsNext w (part_items (world_part y)) b.walked) → AddsMembers w n.prefix (part_items (world_part y)) b c) → ((n : IsNext w (part_items (world_part y)) b.walked) → HaveNone w n.prefix (part_items (world_part y)) (part_items (world_part y)) b) → AreDone w (side_items (item_view w.item)) (world_sides (take (k + 1) xs)) a c
+  part_done c adds none = subst (λ (l : List SideItem). AreDone w (side_items (item_view w.item)) l a c) more (done_later w (side_items (item_view w.item)) (world_sides (take k xs)) one (world_sides (drop (k + 1) xs)) a b split was c adds none)
 
-  pub part_kept : part_items (world_part y) ≡ [] → AreDone w (side_items (walk_item w)) (world_sides (take (k + 1) xs)) a b
-  part_kept nothing = subst (λ (l : List SideItem). AreDone w (side_items (walk_item w)) l a b) (sym (append-nil (world_sides (take k xs))) ∙ ap (λ (l : List SideItem). world_sides (take k xs) ++ l) (sym nothing) ∙ more) was
+  pub part_kept : part_items (world_part y) ≡ [] → AreDone w (side_items (item_view w.item)) (world_sides (take (k + 1) xs)) a b
+  part_kept nothing = subst (λ (l : List SideItem). AreDone w (side_items (item_view w.item)) l a b) (sym (append-nil (world_sides (take k xs))) ∙ ap (λ (l : List SideItem). world_sides (take k xs) ++ l) (sym nothing) ∙ more) was
 
-  pub part_first : (e : ParseError) → ((n : IsNext w (part_items (world_part y)) b.walked) → ReportFirst w n.prefix (part_items (world_part y)) b e) → (n : IsNext w (side_items (walk_item w)) a.walked) → ReportFirst w n.prefix (side_items (walk_item w)) a e
-  part_first e own n = first_later w (side_items (walk_item w)) (world_sides (take k xs)) one (world_sides (drop (k + 1) xs)) a b split was e own n
+  pub part_first : (e : ParseError) → ((n : IsNext w (part_items (world_part y)) b.walked) → ReportFirst w n.prefix (part_items (world_part y)) b e) → (n : IsNext w (side_items (item_view w.item)) a.walked) → ReportFirst w n.prefix (side_items (item_view w.item)) a e
+  part_first e own n = first_later w (side_items (item_view w.item)) (world_sides (take k xs)) one (world_sides (drop (k + 1) xs)) a b split was e own n
 
 -- the same of the functions of a resource
 pub resource_split : (r : Id) (fs : List ResourceFunc) (k : ℕ) (f : ResourceFunc) → slice_get fs k ≡ Some f → resource_items r fs ≡ resource_items r (take k fs) ++ (SideFunction (resource_function r f) ∷ [] ++ resource_items r (drop (k + 1) fs))

@@ -1,15 +1,13 @@
 -- What is on the sides of a world, resolved one after another: nothing, more after some, and a function, an interface by its path, or an inline one.
 use Rattle.std.proofs.Common.{◌≡◌, ℕ, ◌+◌, List, [], ◌∷◌, ◌++◌, length, refl, sym, ap, ◌∙◌, subst, append_assoc, arith, Bool, true, false, if◌then◌else◌, map, Some, inl, inr, add-zero, Option, suc}
-use Rattle.wit_contents.proofs.Names.{Address, AddsFunctions, AddsInside, AddsInterface, AddsMembers, AddsSides, AreEnded, AreKeyed, AreSideItems, Contains-append_cases, Entry, Extern, Function, HasMore, HavePlaces, Id, Interface, InterfaceItem, IsNext, IsSeen, ItemWalk, Link, Name, Names, Puts, Required, ResolvedScope, SideFunction, SideInline, SideItem, SideLink, Sorted, SourceFunction, Stage, TheInline, TopName, TypeDef, WorldSide, address, all_handles, append-nil, at_back, at_prefix, bare_id, contains_one, entry_sorted, env_of, filter-append, flat_map, flat_map-append, function_item, functions, functions_items, inline_after, inline_after-append, inline_entry, inline_of, inline_side, interfaces_at, interfaces_on, item_function, item_inline, item_name, item_side, item_sorted, items_on, lead, length-append, length-inline_after, length-map, link_item, map-append, next_place, option_map_or, option_to_list, path_scope, prefix_of, put_on, resolved_scopes_of, role_side, same_side, side_items, slice_get, sorted_on, stage, walk_item, written_types}
+use Rattle.wit_contents.proofs.Names.{Address, AddsFunctions, AddsInside, AddsInterface, AddsMembers, AddsSides, AreEnded, AreKeyed, AreSideItems, Contains-append_cases, Entry, Extern, Function, HavePlaces, Id, Interface, InterfaceItem, IsNext, IsSeen, ItemWalk, Link, Name, Names, Puts, Required, ResolvedScope, SideFunction, SideInline, SideItem, SideLink, Sorted, SourceFunction, Stage, TheInline, TopName, TypeDef, WorldSide, address, all_handles, append-nil, at_back, at_prefix, bare_id, contains_one, entry_sorted, env_of, filter-append, flat_map, flat_map-append, function_item, functions, functions_items, inline_after, inline_after-append, inline_entry, inline_of, inline_side, interfaces_at, interfaces_on, item_function, item_inline, item_name, item_side, item_sorted, items_on, lead, length-append, length-inline_after, length-map, link_item, map-append, next_place, option_map_or, option_to_list, path_scope, prefix_of, put_on, resolved_scopes_of, role_side, same_side, side_items, slice_get, sorted_on, stage, written_types, AddsWorld, AddsWorlds, Appends, World, adds_append, adds_one, arenas, inline_items, prefix_worlds, resolved_scopes, item_view}
 use Rattle.wit_contents.specs.declared.walk.Walked.{Walked}
 use Rattle.wit_arena.proofs.Common.{Item}
 use Rattle.wit_entries.proofs.Requiring.{extended_then}
 use Rattle.wit_sides.specs.SideNames.{defined_on}
-use Rattle.wit_externs.specs.Clash.{item_names, names_of_items}
-use Rattle.wit_externs.specs.Links.{bare_place, bare_places}
-use Rattle.wit_externs.specs.Next.{linked_on}
-use Rattle.wit_world_sides.specs.FilledSides.{entries_of}
-use Rattle.wit_entries.specs.Requiring.{IsExtended, Requires}
+use Rattle.wit_externs.specs.Clash.{item_names, names_of_items, bare_place, bare_places, linked_on}
+use Rattle.wit_world_sides.specs.Members.{entries_of}
+use Rattle.wit_entries.specs.EntryFaults.{IsExtended, Requires}
 use Rattle.wit_externs.proofs.Steps.{at_middle, kept_nothing, kept_one}
 use Rattle.wit_items.specs.declared.items.InlineInterface.{InlineInterface}
 use Rattle.wit_world_sides.specs.declared.members.Members.{Members}
@@ -136,13 +134,13 @@ module _ (w : ItemWalk) where
     linked = λ s. sym (append-nil (linked_on s a.walked.members.links));
     sorted = λ s. sym (append-nil (sorted_on s a.walked.members.sides));
     keyed = keyed;
-    are_present = λ all places s. record { more = []; put = sym (append-nil _); are = refl };
+    are_present = λ all places s. ([], sym (append-nil _), refl);
     leads = λ link among. absurd (let lt = among.1 in let wrong : ⊥ = omega arith in wrong);
   }
 
   module _ (prefix xs ys : List SideItem) (a b c : Stage) (p : AddsMembers w prefix xs a b) (q : AddsMembers w (prefix ++ xs) ys b c) where
     abbrev item : Item
-    item = walk_item w
+    item = item_view w.item
 
     abbrev us : List Item
     us = inline_after item prefix xs
@@ -170,7 +168,7 @@ module _ (w : ItemWalk) where
         let both = sides_then (resolved_scopes_of w.interfaces) (length w.interfaces.arena) s w.scope.names.types a.growing.types b.growing.types c.growing.types a.growing.inside b.growing.inside c.growing.inside p.functions q.functions p.adds.own q.adds.own xs ys us vs given (p.adds.holds s) (q.adds.holds s) in
         subst (λ (l : List Item). AddsSides (resolved_scopes_of w.interfaces) (length w.interfaces.arena) s w.scope.names.types a.growing.types c.growing.types a.growing.inside c.growing.inside (p.functions ++ q.functions) (p.adds.own ++ q.adds.own) (xs ++ ys) l) (sym inline_both) both
 
-    present_both : (all : List Address) → HavePlaces w a.growing.inside all_inline all → (s : WorldSide) → HasMore all w s (xs ++ ys) (p.functions ++ q.functions) all_inline (entries_of s a.walked.members.sides) (entries_of s c.walked.members.sides)
+    present_both : (all : List Address) → HavePlaces w a.growing.inside all_inline all → (s : WorldSide) → (more : List Entry) × (entries_of s c.walked.members.sides ≡ entries_of s a.walked.members.sides ++ more) × AreSideItems all item.top s (xs ++ ys) (p.functions ++ q.functions) (map address all_inline) more
     present_both all places s =
         let named : map address all_inline ≡ map address us ++ map address vs = ap (map address) inline_both ∙ map-append address us vs in
         let first = p.are_present all (record {
@@ -185,12 +183,11 @@ module _ (w : ItemWalk) where
               let place : next_place w.interfaces a.growing.inside + (length (map address us) + k) ≡ next_place w.interfaces b.growing.inside + k = omega (arith, long, given, count) in
               subst (λ (n : ℕ). slice_get all n ≡ Some r) place there);
         }) s in
-        let all_given : length (map address us) ≡ length (flat_map item_inline xs) = length-map us address ∙ given in
-        record {
-          more = first.more ++ second.more;
-          put = second.put ∙ ap (λ (l : List Entry). l ++ second.more) first.put ∙ append_assoc _ first.more second.more;
-          are = subst (λ (l : List Address). AreSideItems all item.top s (xs ++ ys) (p.functions ++ q.functions) l (first.more ++ second.more)) (sym named) (items_then all item.top s xs ys p.functions q.functions (map address us) (map address vs) first.more second.more made all_given first.are second.are);
-        }
+        let all_given : length (map address us) ≡ length (flat_map item_inline xs) = length-map us address ∙ given in (
+          first.0 ++ second.0,
+          second.1 ∙ ap (λ (l : List Entry). l ++ second.0) first.1 ∙ append_assoc _ first.0 second.0,
+          subst (λ (l : List Address). AreSideItems all item.top s (xs ++ ys) (p.functions ++ q.functions) l (first.0 ++ second.0)) (sym named) (items_then all item.top s xs ys p.functions q.functions (map address us) (map address vs) first.0 second.0 made all_given first.2 second.2),
+        )
 
     -- more after some
     pub members_then : AddsMembers w prefix (xs ++ ys) a c
@@ -267,12 +264,12 @@ module _ (w : ItemWalk) (prefix : List SideItem) (a : Stage) where
     linked = λ s. put.linked s ∙ ap (λ (l : List ℕ). linked_on s a.walked.members.links ++ l) (none_either [] (same_side s (item_side (SideFunction fn))) ∙ kept_nothing (bare_place (lead w)) (λ y. same_side s (item_side y)) (SideFunction fn) refl);
     sorted = sorted_put a.walked.members m.members (SideFunction fn) [] (function_item made) put;
     keyed = put.keyed;
-    are_present = λ all places s. record { more = put_on s (item_side (SideFunction fn)) (function_item made) []; put = put.put s; are = ([], refl, refl) };
+    are_present = λ all places s. (put_on s (item_side (SideFunction fn)) (function_item made) [], put.put s, ([], refl, refl));
     leads = λ link among. absurd (let same : SideFunction fn ≡ SideLink link = contains_one (SideFunction fn) (SideLink link) among in let wrong : ⊥ = cc in wrong);
   }
 
   -- an interface by its path
-  pub member_link : (link : Link) (id : ℕ) (m : Walked) → lead w link.path ≡ Some id → slice_get (interfaces_at (prefix_of w.interfaces.files) w.interfaces.arena) id ≡ Some (path_scope (walk_item w).top link.path) → m.required.items ≡ a.walked.required.items → Puts a.walked.members m.members (SideLink link) (bare_id link.name id) (link_item link id) → ((ys : List SideItem) → IsSeen ys a.walked.seen → IsSeen (ys ++ SideLink link ∷ []) m.seen) → AddsMembers w prefix (SideLink link ∷ []) a (stage a.growing m)
+  pub member_link : (link : Link) (id : ℕ) (m : Walked) → lead w link.path ≡ Some id → slice_get (interfaces_at (prefix_of w.interfaces.files) w.interfaces.arena) id ≡ Some (path_scope (item_view w.item).top link.path) → m.required.items ≡ a.walked.required.items → Puts a.walked.members m.members (SideLink link) (bare_id link.name id) (link_item link id) → ((ys : List SideItem) → IsSeen ys a.walked.seen → IsSeen (ys ++ SideLink link ∷ []) m.seen) → AddsMembers w prefix (SideLink link ∷ []) a (stage a.growing m)
   member_link link id m leads present required put seen = record {
     functions = [];
     adds = record { own = []; list = required ∙ sym (append-nil a.walked.required.items); holds = λ s. sides_link (resolved_scopes_of w.interfaces) (length w.interfaces.arena) s w.scope.names.types a.growing.types a.growing.inside link };
@@ -282,12 +279,12 @@ module _ (w : ItemWalk) (prefix : List SideItem) (a : Stage) where
     linked = λ s. put.linked s ∙ ap (λ (l : List ℕ). linked_on s a.walked.members.links ++ l) (kept_one (bare_place (lead w)) (λ y. same_side s (item_side y)) (SideLink link) (bare_id link.name id) (ap (λ (o : Option ℕ). option_map_or (λ (own : Id). []) link.name (option_to_list o)) leads));
     sorted = sorted_put a.walked.members m.members (SideLink link) (bare_id link.name id) (link_item link id) put;
     keyed = put.keyed;
-    are_present = λ all places s. record { more = put_on s link.side (link_item link id) []; put = put.put s; are = (id, [], places.interfaces id _ present, refl, refl) };
+    are_present = λ all places s. (put_on s link.side (link_item link id) [], put.put s, (id, [], places.interfaces id _ present, refl, refl));
     leads = λ l among. (id, subst (λ (k : Link). lead w k.path ≡ Some id) (let both : SideLink link ≡ SideLink l = contains_one (SideLink link) (SideLink l) among in let same : link ≡ l = cc in same) leads);
   }
 
   -- an inline interface
-  pub member_inline : (x : InlineInterface) (u : Item) (types : List TypeDef) (inside : List Interface) (m : Walked) → inline_after (walk_item w) prefix (inline_side x ∷ []) ≡ u ∷ [] → AddsInside w.interfaces a.growing.types types a.growing.inside inside a.walked.required.items m.required.items u → Puts a.walked.members m.members (inline_side x) [] (inline_entry x.written.now x.name (next_place w.interfaces a.growing.inside)) → ((ys : List SideItem) → IsSeen ys a.walked.seen → IsSeen (ys ++ inline_side x ∷ []) m.seen) → AddsMembers w prefix (inline_side x ∷ []) a (stage (record { types = types; inside = inside }) m)
+  pub member_inline : (x : InlineInterface) (u : Item) (types : List TypeDef) (inside : List Interface) (m : Walked) → inline_after (item_view w.item) prefix (inline_side x ∷ []) ≡ u ∷ [] → AddsInside w.interfaces a.growing.types types a.growing.inside inside a.walked.required.items m.required.items u → Puts a.walked.members m.members (inline_side x) [] (inline_entry x.written.now x.name (next_place w.interfaces a.growing.inside)) → ((ys : List SideItem) → IsSeen ys a.walked.seen → IsSeen (ys ++ inline_side x ∷ []) m.seen) → AddsMembers w prefix (inline_side x ∷ []) a (stage (record { types = types; inside = inside }) m)
   member_inline x u types inside m own step put seen = record {
     functions = [];
     adds = record {
@@ -311,11 +308,48 @@ module _ (w : ItemWalk) (prefix : List SideItem) (a : Stage) where
         let id = next_place w.interfaces a.growing.inside in
         let e = inline_entry x.written.now x.name id in
         let there : slice_get all (id + 0) ≡ Some (address u) = places.inline 0 (address u) (ap (λ (us : List Item). slice_get (map address us) 0) own) in
-        let at : slice_get all id ≡ Some (address u) = subst (λ (n : ℕ). slice_get all n ≡ Some (address u)) (add-zero id) there in
-        record {
-          more = put_on s x.written.now.side e [];
-          put = put.put s;
-          are = subst (λ (us : List Item). AreSideItems all (walk_item w).top s (inline_side x ∷ []) [] (map address us) (put_on s x.written.now.side e [])) (sym own) (id, [], at, refl, refl);
-        };
+        let at : slice_get all id ≡ Some (address u) = subst (λ (n : ℕ). slice_get all n ≡ Some (address u)) (add-zero id) there in (
+          put_on s x.written.now.side e [],
+          put.put s,
+          subst (λ (us : List Item). AreSideItems all (item_view w.item).top s (inline_side x ∷ []) [] (map address us) (put_on s x.written.now.side e [])) (sym own) (id, [], at, refl, refl),
+        );
     leads = λ link among. absurd (let same : inline_side x ≡ SideLink link = contains_one (inline_side x) (SideLink link) among in let wrong : ⊥ = cc in wrong);
   }
+
+-- Worlds that are added one after another, with the interfaces that are written in them, and one more.
+-- the addresses of the interfaces that are written in worlds
+abbrev pub addresses_in : List Item → List Address
+addresses_in ws = map address (flat_map inline_items ws)
+
+pub addresses_more : (ws : List Item) (w : Item) → addresses_in (ws ++ w ∷ []) ≡ addresses_in ws ++ map address (inline_items w)
+addresses_more ws w = ap (map address) (flat_map-append inline_items ws (w ∷ []) ∙ ap (λ (l : List Item). flat_map inline_items ws ++ l) (append-nil (inline_items w))) ∙ map-append address (flat_map inline_items ws) (inline_items w)
+
+-- some worlds were added, of whose interfaces these are the addresses
+pub record AreWorldsTo (foreign others : List Address) (is : List Interface) (old new : List TypeDef) (prefix ws : List World) (inside : List Interface) (before after : List Required) (items : List Item) : Type 0 where
+  pub appends : Appends before after (λ rs. AddsWorlds foreign others is old new (prefix_worlds prefix) (arenas ws inside (addresses_in items)) rs items)
+  pub put : length (addresses_in items) ≡ length inside
+
+pub worlds_none : (foreign others : List Address) (is : List Interface) (old : List TypeDef) (prefix : List World) (inside : List Interface) (before : List Required) → inside ≡ [] → AreWorldsTo foreign others is old old prefix prefix inside before before []
+worlds_none foreign others is old prefix inside before bare = record {
+  appends = record { own = []; list = sym (append-nil before); holds = (refl, ap (λ (l : List Interface). arenas prefix l []) bare, refl) };
+  put = sym (ap length bare);
+}
+
+pub worlds_more : (foreign others : List Address) (is : List Interface) (old mid new : List TypeDef) (prefix ws ws' : List World) (inside now : List Interface) (before between after : List Required) (items : List Item) (w : Item) → AreWorldsTo foreign others is old mid prefix ws inside before between items → ((ss : List Address) → length ss ≡ length inside → Appends between after (λ rs. AddsWorld foreign others is mid new (arenas ws inside ss) (arenas ws' now (ss ++ map address (inline_items w))) rs w)) → AreWorldsTo foreign others is old new prefix ws' now before after (items ++ w ∷ [])
+worlds_more foreign others is old mid new prefix ws ws' inside now before between after items w p adds =
+    let q = adds (addresses_in items) p.put in
+    let more = addresses_more items w in
+    record {
+      appends = record {
+        own = p.appends.own ++ q.own;
+        list = q.list ∙ ap (λ (l : List Required). l ++ q.own) p.appends.list ∙ append_assoc before p.appends.own q.own;
+        holds = subst (λ (ss : List Address). AddsWorlds foreign others is old new (prefix_worlds prefix) (arenas ws' now ss) (p.appends.own ++ q.own) (items ++ w ∷ [])) (sym more) (adds_append (AddsWorld foreign others is) old mid new (prefix_worlds prefix) (arenas ws inside (addresses_in items)) (arenas ws' now (addresses_in items ++ map address (inline_items w))) p.appends.own q.own items (w ∷ []) p.appends.holds (adds_one (AddsWorld foreign others is) mid new (arenas ws inside (addresses_in items)) (arenas ws' now (addresses_in items ++ map address (inline_items w))) q.own w q.holds));
+      };
+      put = (
+          let long = ap length more ∙ length-append (addresses_in items) (map address (inline_items w)) in
+          let count = length-map (inline_items w) address in
+          let before = p.put in
+          let extended = sides_count (resolved_scopes foreign is) (length is) (address w) q.holds.types q.holds.middle new inside now q.holds.functions q.holds.rest (side_items w) (inline_items w) q.holds.sides in
+          let own = length-inline_after w [] (side_items w) in
+          omega (arith, long, count, before, extended, own));
+    }

@@ -4,10 +4,9 @@ use Rattle.wit_contents.proofs.Names.{Address, AddsForeign, AllDiffer, AreFuncti
 use Rattle.wit_arena.proofs.Common.{Item}
 use Rattle.wit_items.proofs.Common.{interface_fault}
 use Rattle.wit_arena.proofs.FreeNames.{free_of, AreStated, free_stated, stated_free, free_names}
-use Rattle.wit_entries.specs.EntryFaults.{unless_found}
 use Rattle.wit_scopes.specs.declared.scope_name.Source.TheVariants as borrowed_source
-use Rattle.wit_item_entries.specs.UseFaults.{asked_fault, interface_of, lost_name, used_fault}
-use Rattle.wit_item_entries.proofs.UseFaults.{found_of, of_function, of_nothing, used_from}
+use Rattle.wit_item_entries.specs.ReachedFaults.{asked_fault, interface_of, lost_name, used_fault}
+use Rattle.wit_item_entries.proofs.ReachedFaults.{found_of, of_function, of_nothing, used_from}
 use Rattle.wit_contents.proofs.Walked.{AreAsWalked}
 use Rattle.wit_model.specs.declared.ast_item.AstItem.TheVariants as entry
 
@@ -45,7 +44,7 @@ asked_same files from attributes n i t = by (env_of i.types n.name.name.now) ref
     lost : lost_name (free_functions i) n.name ≡ lost_use t.item n.name
     lost = lost_same (free_functions i) (free_names t.item) n.name t.free t.stated
 
-    by : (o : Option ℕ) → env_of i.types n.name.name.now ≡ o → unless_found (lost_name (free_functions i) n.name) o ≡ (if is_none (meaning (scope_names t.item) n.name.name.now) then Some (lost_use t.item n.name) else None)
+    by : (o : Option ℕ) → env_of i.types n.name.name.now ≡ o → (if is_none o then Some (lost_name (free_functions i) n.name) else None) ≡ (if is_none (meaning (scope_names t.item) n.name.name.now) then Some (lost_use t.item n.name) else None)
     by None free = ap Some lost ∙ sym (ap (λ (m : Option ScopeName). if is_none m then Some (lost_use t.item n.name) else None) (t.missing free))
     by (Some place) present = sym (ap (λ (m : Option ScopeName). if is_none m then Some (lost_use t.item n.name) else None) (t.meant place present).1)
 
@@ -61,7 +60,7 @@ means_in xs ys name same m = (m.0, ap (λ (zs : List ScopeName). meaning zs name
 
 -- an interface that has a name has no fault of it
 asked_none : (id : Id) (i : Interface) → IsSome (env_of i.types id.name.now) → asked_fault id i ≡ None
-asked_none id i present = (let p = some_of (env_of i.types id.name.now) present in ap (unless_found (lost_name (free_functions i) id)) p.1)
+asked_none id i present = (let p = some_of (env_of i.types id.name.now) present in ap (λ (o : Option ℕ). if is_none o then Some (lost_name (free_functions i) id) else None) p.1)
 
 module _ (files : List PackageFile) (places : List ℕ) (order : IsOrder (item_rows files) places) (differ : AllDiffer (map item_name (all_items files))) (uses : AreUsableUses files (all_items files)) (es : List TypeDef) (prefix : List Interface) (wprefix : List World) (foreign : AddsForeign files es prefix wprefix) where
   abbrev ss : List Address
@@ -225,7 +224,7 @@ module _ (files : List PackageFile) (places : List ℕ) (order : IsOrder (item_r
       let o = map_at own_item e.ordered j.0 v (ap (λ (l : List Item). slice_get l j.0) e.all ∙ j.1) in
       let own_at : slice_get (map own_order e.ordered) j.0 ≡ Some o.0.own = slice_get-map own_order e.ordered j.0 ∙ ap (option_map own_order) o.1 in
       let x = entry_of_item e.laid j.0 o.0.own own_at in
-      let called : x.0.name ≡ name = (e.laid.says j.0 o.0.own x.0 own_at x.1).says.0 ∙ ap item_name o.2 ∙ sym same in
+      let called : x.0.name ≡ name = (e.laid.says.each j.0 o.0.own x.0 own_at x.1).says.0 ∙ ap item_name o.2 ∙ sym same in
       let named = map (λ (y : World). WorldNamed y.name) e.own in
       let whole : worlds_at others a.worlds ≡ others ++ named = ap (worlds_at others) e.arena ∙ worlds_at-append others wprefix e.own (foreign.worlds.count ∙ sym (length-map (foreign_worlds files) visited)) in
       let place = length others + j.0 in

@@ -1,11 +1,11 @@
 -- The walk's fault of each interface is what is found of it, where its uses are as walked and the walk's test of names in handles is right, as it is once those before it are resolved.
-use Rattle.std.proofs.Common.{◌≡◌, ◌⊎◌, ◌++◌, ℕ, zero, suc, false, List, [], ◌∷◌, map, take, Option, Some, Contains, inl, inr, refl, sym, ap, ◌∙◌, subst, ◌+◌, Bool, true, not, length, None}
-use Rattle.wit_contents.proofs.Names.{Address, AddsForeign, AddsInterfaces, AllDiffer, AreNamesPlaced, AreUsableUses, Attribute, Borrowed, EndsInTurn, Fault, Id, Interface, InterfaceNamed, Interfaces, InterfacesDone, IsForeignUse, IsIndexed, IsLent, IsNameIndex, IsOrder, IsOutcome, IsPlaced, IsResolvedUse, IsRightOf, Item as BorrowedItem, ItemScope, Known, Outcome, PackageFile, Required, ResolvedScope, Row, ScopeName, TypeDef, UseName, Used, UsedName, World, address, all_items, are_interfaces, are_worlds, at_seam, contains_at, contents_fault, earliest, filter, flat_map, foreign_interfaces, handle_fault, in_order, interface_fault, interfaces, interfaces_at, interfaces_done, interfaces_of, interfaces_sort, is_world, item_name, item_rows, item_view, kept_early, kept_next, kept_prefix, name_view, names_of, option_map, own_use, prefix_of, resolved_scopes, resolved_scopes_of, rows_of, scope_faults, scope_names, slice_get, slice_get-map, source_view, use_view, used, used_before, uses_viewed, visited, worlds, worlds_sort}
+use Rattle.std.proofs.Common.{◌≡◌, ◌⊎◌, ◌++◌, ℕ, false, List, map, take, Option, Some, Contains, inl, inr, sym, ap, ◌∙◌, subst, ◌+◌, Bool, true, not, length, None}
+use Rattle.wit_contents.proofs.Names.{Address, AddsForeign, AddsInterfaces, AllDiffer, AreNamesPlaced, AreUsableUses, Attribute, Borrowed, EndsInTurn, Fault, Id, Interface, InterfaceNamed, Interfaces, InterfacesDone, IsForeignUse, IsIndexed, IsLent, IsNameIndex, IsOrder, IsOutcome, IsResolvedUse, IsRightOf, Item as BorrowedItem, ItemScope, Known, Outcome, PackageFile, Required, ResolvedScope, Row, ScopeName, TypeDef, UseName, Used, UsedName, World, address, all_items, are_interfaces, are_worlds, at_seam, contains_at, contents_fault, earliest, filter, flat_map, foreign_interfaces, handle_fault, in_order, interface_fault, interfaces, interfaces_at, interfaces_done, interfaces_of, interfaces_sort, is_world, item_name, item_rows, item_view, kept_early, kept_next, kept_prefix, name_view, names_of, option_map, own_use, prefix_of, resolved_scopes, resolved_scopes_of, rows_of, scope_faults, scope_names, slice_get, slice_get-map, source_view, use_view, used, used_before, uses_viewed, visited, worlds, worlds_sort}
 use Rattle.wit_arena.proofs.Common.{Item}
 use Rattle.wit_walk.proofs.Common.{used_at}
 use Rattle.wit_types.specs.declared.types.TypeOwner.TheVariants as owner
-use Rattle.wit_scopes.specs.declared.scope_name.Named.TheVariants as borrowed
 use Rattle.wit_items.proofs.Common.{ordered_fault}
+use Rattle.wit_scopes.proofs.Placed.{uses_placed}
 use Rattle.wit_contents.proofs.Ends.{IsEnough, interface_ends}
 use Rattle.wit_contents.proofs.Walked.{AreAsWalked, interface_walked}
 use Rattle.wit_contents.proofs.PathsWalked.{uses_as_walked}
@@ -16,12 +16,6 @@ borrowed_uses names xs same k u at =
     let seen : slice_get (used (map name_view names)) k ≡ Some (use_view u) = ap (λ (l : List ScopeName). slice_get l k) (sym (uses_viewed names)) ∙ slice_get-map use_view (flat_map own_use names) k ∙ ap (option_map use_view) at in
     let p = used_at (map name_view names) k (use_view u) seen in
     subst (λ (l : List ScopeName). Contains l (use_view u)) same (contains_at (map name_view names) p.0 (use_view u) p.1)
-
-pub placed_uses : (prefix : List Address) (names : List Borrowed) → AreNamesPlaced prefix names → (k : ℕ) (u : UsedName) → slice_get (flat_map own_use names) k ≡ Some u → IsPlaced prefix u.from
-placed_uses prefix [] placed k u at = absurd (cc)
-placed_uses prefix (borrowed.Used v ∷ names) placed zero u at = (let same : v ≡ u = cc in subst (λ (x : UsedName). IsPlaced prefix x.from) same (placed.each 0 (borrowed.Used v) refl))
-placed_uses prefix (borrowed.Used v ∷ names) placed (suc k) u at = placed_uses prefix names (record { each = λ j x there. placed.each (suc j) x there }) k u at
-placed_uses prefix (borrowed.Defined d ∷ names) placed k u at = placed_uses prefix names (record { each = λ j x there. placed.each (suc j) x there }) k u at
 
 module _ (files : List PackageFile) (known : Known) (outcomes : (rs : List Row) → IsOutcome rs (known.outcome rs)) (inside : Item → Option Fault) (is : Interfaces) (old : List TypeDef) (place : ℕ) (w : Item) (sort : is_world w ≡ false) (walked : (s : ItemScope) → IsLent s is.files w → AreAsWalked files is (flat_map own_use s.names.now)) (ends : EndsInTurn (resolved_scopes_of is) (owner.Interface place) old (scope_names w) (known.outcome (rows_of (scope_names w))) (handle_fault files known.steps (address w))) where
   abbrev handle : Id → Option Fault
@@ -90,7 +84,7 @@ module _ (files : List PackageFile) (places : List ℕ) (order : IsOrder (item_r
     walked s lent =
         let placed : AreNamesPlaced fore s.names.now = subst (λ (fs : List PackageFile). AreNamesPlaced (prefix_of fs) s.names.now) same lent.placed in
         let indexed : IsNameIndex InterfaceNamed (interfaces_at fore (prefix ++ done.0)) now.by_name = subst (λ (cs : List ResolvedScope). IsNameIndex InterfaceNamed (map (λ (c : ResolvedScope). c.address) cs) now.by_name) scopes_are index in
-        uses_as_walked files places order differ uses es prefix wprefix foreign vs mid done.0 rs done.2 now same done.1 indexed (flat_map own_use s.names.now) (placed_uses fore s.names.now placed) (λ k u at. earlier (source_view u.from) u.attributes.now u.name.now (borrowed_uses s.names.now (scope_names w) lent.named k u at))
+        uses_as_walked files places order differ uses es prefix wprefix foreign vs mid done.0 rs done.2 now same done.1 indexed (flat_map own_use s.names.now) (uses_placed fore s.names.now placed) (λ k u at. earlier (source_view u.from) u.attributes.now u.name.now (borrowed_uses s.names.now (scope_names w) lent.named k u at))
 
     there : slice_get (interfaces files places order differ) (length vs) ≡ Some w
     there = next_kept is_interface all places count place w next at (ap not sort)

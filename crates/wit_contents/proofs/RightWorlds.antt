@@ -9,18 +9,18 @@ use Rattle.wit_types.specs.declared.types.TypeOwner.TheVariants as owner
 use Rattle.wit_items.proofs.Common.{ordered_fault}
 use Rattle.wit_arena.proofs.WorldSides.{world_added}
 use Rattle.wit_arena.proofs.Worlds.{worlds_done}
-use Rattle.wit_entries.specs.Requiring.{IsExtended}
-use Rattle.wit_externs.specs.AloneFaults.{EndsIn}
+use Rattle.wit_entries.specs.EntryFaults.{IsExtended}
+use Rattle.wit_externs.specs.Clash.{EndsIn}
 use Rattle.wit_externs.proofs.Steps.{at_middle}
 use Rattle.wit_contents.proofs.Ends.{IsEnough, inline_ends, named_ends, world_ends}
 use Rattle.wit_contents.proofs.PathsWalked.{includes_walked, near_has, uses_as_walked}
-use Rattle.wit_contents.proofs.LinksWalked.{IsLeading}
+use Rattle.wit_contents.proofs.MembersWalked.{IsLeading, right_members}
 use Rattle.wit_contents.proofs.Members.{sides_count}
-use Rattle.wit_contents.proofs.MembersWalked.{right_members}
-use Rattle.wit_contents.proofs.RightInterfaces.{borrowed_uses, next_kept, placed_uses, right_interface, AreRightFrom, interfaces_right}
+use Rattle.wit_contents.proofs.RightInterfaces.{borrowed_uses, next_kept, right_interface, AreRightFrom, interfaces_right}
 use Rattle.wit_contents.proofs.Walked.{AreAsWalked, head_walked, world_split}
 use Rattle.wit_contents.proofs.FileFaults.{interfaces_reported, none_after, worlds_reported}
 use Rattle.wit_walk.proofs.MemberFaults.{path_among}
+use Rattle.wit_scopes.proofs.Placed.{uses_placed}
 
 -- all interfaces of files are resolved, in an order of their items, after those of other packages
 pub record AreDeclared (files : List PackageFile) (arena : List Interface) (places : List ℕ) (es : List TypeDef) (prefix : List Interface) (wprefix : List World) (middle : List TypeDef) (rs : List Required) : Type 0 where
@@ -94,7 +94,7 @@ module _ (ws : Worlds) (places : List ℕ) (es : List TypeDef) (prefix : List In
   ]
 
   walked : (v : Item) → Contains (all_scopes files) v → (names : List Borrowed) → map name_view names ≡ scope_names v → AreNamesPlaced fore names → AreAsWalked files is (flat_map own_use names)
-  walked v here names named placed = uses_as_walked files places g.order g.differ g.uses es prefix wprefix g.foreign declared_interfaces middle done.0 rs done.2 is refl done.1 indexed (flat_map own_use names) (placed_uses fore names placed) (λ k u found. used_among v here (source_view u.from) u.attributes.now u.name.now (borrowed_uses names (scope_names v) named k u found))
+  walked v here names named placed = uses_as_walked files places g.order g.differ g.uses es prefix wprefix g.foreign declared_interfaces middle done.0 rs done.2 is refl done.1 indexed (flat_map own_use names) (uses_placed fore names placed) (λ k u found. used_among v here (source_view u.from) u.attributes.now u.name.now (borrowed_uses names (scope_names v) named k u found))
 
   -- its own
   walked_uses : AreAsWalked files is (flat_map own_use i.names.items)
@@ -103,8 +103,8 @@ module _ (ws : Worlds) (places : List ℕ) (es : List TypeDef) (prefix : List In
   -- its includes
   visits : (n : Include) (m : ℕ) → slice_get (parts w) m ≡ Some (IncludePart n) → (q : PackageName) (id : Id) → leads w.top n.from ≡ Foreign q id → (v : ForeignVisit) × (foreign_at files (ForeignNamed q id.name.now) ≡ Some v)
   visits n m part q id lead =
-      let own : HasPart files i.place (IncludePart n) = record { declared = declared_view i.declared; item = filed_item files i lent.filed; among = contains_at (parts w) m (IncludePart n) part } in
-      part_visited files i.place (IncludePart n) n.attributes.items true n.from own refl q id (ap (λ (top : List TopName). leads top n.from) (ap names_at_top lent.filed.file) ∙ lead)
+      let own : HasPart files i.place (IncludePart n) = record { declared = declared_view i.declared; item = filed_item files i lent; among = contains_at (parts w) m (IncludePart n) part } in
+      part_visited files i.place (IncludePart n) n.attributes.items true n.from own refl q id (ap (λ (top : List TopName). leads top n.from) (ap names_at_top lent.file) ∙ lead)
 
   included : includes_fault ws w ≡ first_in (include_fault files w.top) (includes w)
   included =

@@ -1,16 +1,14 @@
 -- The first fault of an interface by tables, and that of a world before its members, is that of the walk of files, where the tables say what the files do.
 use Rattle.std.proofs.Common.{◌≡◌, ℕ, zero, suc, Bool, true, false, List, [], ◌∷◌, ◌++◌, map, Option, Some, None, refl, sym, ap, ◌∙◌, subst, length, ◌==◌}
-use Rattle.wit_contents.proofs.Names.{Called, Declared, Defined, Exported, Fault, ForeignName, Id, Imported, Include, InterfaceItem, Interfaces, Item as BorrowedItem, ItemScope, Name, Outcome, PackageFile, ResourceFunc, ScopeName, SideFunction, SideItem, SourceFunction, Span, TheInline, TheInterface, TheWorld, TypeBody, Used, UsedName, WorldSide, Worlds, about, address, after-append, after_kept, any-map, bytes_eq, called_fault, clash, clash-made, clash-map, codes, crossed, cyclic_at, defined, definition_fault, definition_functions, definitions_fault, earliest, fault_in, first_after, first_in, flat_map, flat_map_at, folded_fault, folded_key, free_function, function_fault, functions, functions_imported, handle_fault, if◌then◌else◌, in_order, in_turn, include_fault, includes, includes_fault, interface_fault, interface_part, is_on_side, is_world, item_function, item_stability, item_view, items_on, kept_all, kept_none, local_id, local_name, local_names_fault, map-append, map_at, member_fault, missing_type_at, name_called, name_fault, name_twice, names_of, names_on, names_view, on_side, option_or, or_assoc, or_none, or_none_both, order_fault, order_of, ordered_fault, own_fault, own_use, part_functions, repeat-map, repeat_of, resource_function, role_side, same_side, scope_faults, scope_item, scope_names, setters_fault, side_called, side_items, side_items_functions, side_setters_fault, side_sorted, signed_fault, slice_get, stability_fault, turn_fault, type_word, use_fault, use_view, used, uses_viewed, word_fault, world_head}
+use Rattle.wit_contents.proofs.Names.{Called, Declared, Defined, Exported, Fault, ForeignName, Id, Imported, Include, InterfaceItem, Interfaces, Item as BorrowedItem, ItemScope, Name, Outcome, PackageFile, ResourceFunc, ScopeName, SideFunction, SideItem, SourceFunction, Span, TheInline, TheInterface, TheWorld, TypeBody, Used, UsedName, WorldSide, Worlds, about, address, after-append, after_kept, any-map, bytes_eq, called_fault, clash, clash-made, clash-map, codes, crossed, cyclic_at, defined, definition_fault, definition_functions, earliest, fault_in, first_after, first_in, flat_map, flat_map_at, folded_fault, folded_key, free_function, function_fault, functions, functions_imported, handle_fault, if◌then◌else◌, in_order, in_turn, include_fault, includes, includes_fault, interface_fault, interface_part, is_on_side, is_world, item_function, item_stability, item_view, items_on, kept_all, kept_none, local_id, local_name, local_names_fault, map-append, map_at, member_fault, missing_type_at, name_called, name_fault, name_twice, names_of, names_on, name_view, on_side, option_or, or_assoc, or_none, or_none_both, order_fault, order_of, ordered_fault, own_fault, own_use, part_functions, repeat-map, repeat_of, resource_function, role_side, same_side, scope_faults, scope_item, scope_names, setters_fault, side_called, side_items, side_items_functions, side_setters_fault, side_sorted, signed_fault, slice_get, stability_fault, turn_fault, type_word, use_fault, use_view, used, uses_viewed, word_fault, world_head}
 use Rattle.wit_arena.proofs.Common.{Item}
 use Rattle.wit_type_tree.specs.declared.types.TypeBody.TheVariants as body
 use Rattle.wit_type_tree.specs.declared.types.ResourceFunc.TheVariants as resource
 use Rattle.wit_tree.specs.declared.tree.InterfaceItem.TheVariants as interface_item
-use Rattle.wit_signatures.specs.ForeignName.{name_key, name_of_function, name_of_id}
-use Rattle.wit_externs.specs.AloneFaults.{again, again_fault, alone_fault, alone_faults, defined_fault, lone_setters}
-use Rattle.wit_externs.specs.Clash.{names_of_items}
-use Rattle.wit_item_entries.specs.UseFaults.{local_fault, local_faults, used_fault}
+use Rattle.wit_signatures.specs.FunctionsOfScope.{name_key, name_of_function, name_of_id}
+use Rattle.wit_externs.specs.Clash.{again, again_fault, alone_fault, alone_faults, defined_fault, lone_setters, names_of_items}
+use Rattle.wit_item_entries.specs.ReachedFaults.{local_fault, used_fault, functions_fault}
 use Rattle.wit_item_entries.proofs.NameOrder.{all_used, called}
-use Rattle.wit_item_entries.specs.ScopeFunctionFaults.{functions_fault}
 use Rattle.wit_syntax.proofs.Setters.{declared_includes}
 use Rattle.wit_items.proofs.Common.{resource_items}
 
@@ -51,12 +49,12 @@ either_first : (a b c : Option Fault) → (a ≡ None → b ≡ None) → option
 either_first None b c only = ap (λ (o : Option Fault). option_or o c) (only refl)
 either_first (Some f) b c only = refl
 
-pub names_walked : (files : List PackageFile) (is : Interfaces) (us : List UsedName) (xs : List ScopeName) → map use_view us ≡ used xs → AreAsWalked files is us → option_or (local_faults is us) (local_names_fault (map local_id (used xs ++ defined xs))) ≡ first_after (name_fault files) [] (used xs ++ defined xs)
+pub names_walked : (files : List PackageFile) (is : Interfaces) (us : List UsedName) (xs : List ScopeName) → map use_view us ≡ used xs → AreAsWalked files is us → option_or (first_after (local_fault is) [] us) (local_names_fault (map local_id (used xs ++ defined xs))) ≡ first_after (name_fault files) [] (used xs ++ defined xs)
 names_walked files is us xs view say =
     let a = first_after (name_fault files) [] (used xs) in
     let b = first_after spelled [] (used xs) in
     let c = first_after spelled (used xs) (defined xs) in
-    let own : local_faults is us ≡ a = uses_walked files is [] us say ∙ ap (first_after (name_fault files) []) view in
+    let own : first_after (local_fault is) [] us ≡ a = uses_walked files is [] us say ∙ ap (first_after (name_fault files) []) view in
     let twice : local_names_fault (map local_id (used xs ++ defined xs)) ≡ option_or b c = repeat-map (λ (id : Id). id.name.now) (λ (id : Id). name_twice id) local_id (used xs ++ defined xs) ∙ after-append spelled [] (used xs) (defined xs) in
     ap (λ (o : Option Fault). option_or o (local_names_fault (map local_id (used xs ++ defined xs)))) own
     ∙ ap (option_or a) twice
@@ -169,15 +167,15 @@ interface_walked files steps inside is s outcome sort named say =
     let us = flat_map own_use s.names.now in
     let handle = handle_fault files steps (address i) in
     let stable = item_stability i in
-    let uses = local_faults is us in
+    let uses = first_after (local_fault is) [] us in
     let twice = local_names_fault (map local_id (used xs ++ defined xs)) in
     let round = order_fault missing_type_at (cyclic_at 16 type_word) outcome in
-    let definitions = definitions_fault handle (defined (in_order xs order)) in
+    let definitions = first_in (definition_fault handle) (defined (in_order xs order)) in
     let folded = defined_fault [] (map name_of_id (map local_id (in_turn xs order))) in
     let own = alone_faults (word_fault xs) handle xs (λ side. names_on side (map name_of_id (map local_id (in_turn xs order)))) fns in
     let setters = lone_setters fns in
     let by_tables : interface_fault is s outcome handle ≡ option_or (option_or stable (option_or uses (option_or twice (option_or round definitions)))) (option_or (option_or folded own) setters) =
-    ap (λ (ys : List ScopeName). option_or (option_or stable (option_or uses (ordered_fault ys outcome handle))) (option_or (functions_fault handle ys (map local_id (in_turn ys order)) fns) setters)) named in
+    ap (λ (ys : List ScopeName). option_or (option_or stable (option_or uses (ordered_fault ys outcome handle))) (option_or (functions_fault ys (map local_id (in_turn ys order)) fns handle) setters)) named in
     let names = first_after (name_fault files) [] (used xs ++ defined xs) in
     let called_names = first_after folded_fault [] (map name_called (in_turn xs order)) in
     let members = first_after (member_fault files steps inside i order) [] (side_items i) in
@@ -203,7 +201,7 @@ world_split files steps inside i outcome =
     let order = order_of outcome in
     regroup_world (stability_fault (about i.declared).attributes) (first_after (name_fault files) [] (used listed ++ defined listed)) (order_fault missing_type_at (cyclic_at 16 type_word) outcome) (first_in (definition_fault (handle_fault files steps (address i))) (defined (in_order listed order))) (first_in (include_fault files i.top) (includes i)) (first_after folded_fault [] (map name_called (in_turn listed order))) (first_after (member_fault files steps inside i order) [] (side_items i)) (setters_fault i)
 
-module _ (files : List PackageFile) (steps : ℕ) (ws : Worlds) (i : BorrowedItem) (outcome : Outcome) (named : names_view i ≡ scope_names (item_view i)) where
+module _ (files : List PackageFile) (steps : ℕ) (ws : Worlds) (i : BorrowedItem) (outcome : Outcome) (named : map name_view i.names.items ≡ scope_names (item_view i)) where
   abbrev w : Item
   w = item_view i
 
@@ -217,7 +215,7 @@ module _ (files : List PackageFile) (steps : ℕ) (ws : Worlds) (i : BorrowedIte
   stable = item_stability w
 
   abbrev uses : Option Fault
-  uses = local_faults ws.interfaces.now (flat_map own_use i.names.items)
+  uses = first_after (local_fault ws.interfaces.now) [] (flat_map own_use i.names.items)
 
   abbrev twice : Option Fault
   twice = local_names_fault (map local_id (used listed ++ defined listed))
@@ -229,14 +227,14 @@ module _ (files : List PackageFile) (steps : ℕ) (ws : Worlds) (i : BorrowedIte
   after = option_or (includes_fault ws w) (turn_fault (map local_id (in_turn listed (order_of outcome))))
 
   -- by tables, over the names of the scope
-  by_tables : (h : Id → Option Fault) → world_head ws i outcome h ≡ option_or stable (option_or (option_or uses (option_or twice (option_or round (definitions_fault h (defined (in_order listed (order_of outcome))))))) after)
+  by_tables : (h : Id → Option Fault) → world_head ws i outcome h ≡ option_or stable (option_or (option_or uses (option_or twice (option_or round (first_in (definition_fault h) (defined (in_order listed (order_of outcome))))))) after)
   by_tables h = ap (λ (ys : List ScopeName). option_or stable (option_or (option_or uses (ordered_fault ys outcome h)) after)) named
 
   module _ (say : AreAsWalked files ws.interfaces.now (flat_map own_use i.names.items)) (included : includes_fault ws w ≡ first_in (include_fault files w.top) (includes w)) where
     pub head_walked : world_head ws i outcome test ≡ walked_head files steps w outcome
     head_walked =
         let order = order_of outcome in
-        let definitions = definitions_fault test (defined (in_order listed order)) in
+        let definitions = first_in (definition_fault test) (defined (in_order listed order)) in
         let names = first_after (name_fault files) [] (used listed ++ defined listed) in
         let names_are : option_or uses twice ≡ names = names_walked files ws.interfaces.now (flat_map own_use i.names.items) listed (uses_viewed i.names.items ∙ ap used named) say in
         let last : option_or stable (option_or (option_or (option_or uses twice) (option_or round definitions)) after) ≡ walked_head files steps w outcome = rw (names_are, included, turn_walked (in_turn listed order)) refl in

@@ -1,9 +1,8 @@
 -- What an interface adds to the arenas.
-use Rattle.std.specs.Prelude.{◌≡◌, ◌++◌, ℕ, List, Option, None, Vec, map}
-use Rattle.wit_contents.specs.Names.{AddsBody, AddsInterface, AddsInterfaces, Appends, Function, Global, HasTurn, Interface, InterfaceNamed, Interfaces, IsExtended, IsNameIndex, Item as BorrowedItem, Required, ResolvedNames, ResolvedScope, Span, TypeDef, TypeOwner, in_order, interfaces_at, interfaces_of, item_view, prefix_of, resolved_scopes_of}
+use Rattle.std.specs.Prelude.{◌≡◌, ℕ, List, Vec, map}
+use Rattle.wit_contents.specs.Names.{AddsBody, AddsInterface, AddsInterfaces, Appends, Function, Global, HasTurn, Interface, InterfaceNamed, Interfaces, IsExtended, IsNameIndex, Item as BorrowedItem, Required, ResolvedNames, ResolvedScope, TypeDef, TypeOwner, in_order, interfaces_at, interfaces_of, item_view, prefix_of, resolved_scopes_of}
 use Rattle.wit_arena.specs.Common.{Item}
 use Rattle.wit_arena.specs.SourceFunctions.{placed_functions}
-use Rattle.wit_item_entries.specs.declared.body.Head.{Head}
 
 -- the interfaces among items, in the order of their places
 abbrev pub interfaces_in : List BorrowedItem → List ℕ → List Item
@@ -14,13 +13,6 @@ pub record AddsTable (n n' : ResolvedNames) (now new : List TypeDef) (i : Item) 
   pub types : n'.types ≡ n.types
   pub functions : (old : List TypeDef) (cs : List ResolvedScope) (o : TypeOwner) → HasTurn n now i old cs o → (fs : List Function) × AddsBody old new cs o i n.types n.turn.items fs n'.required.items × (table ≡ placed_functions fs)
 
--- an interface has this name, what is stated of it, its names and these functions, and it requires what its names do
-pub record IsInterfaceWith (name : Option (List ℕ)) (head : Head) (table : List (List ℕ × Function)) (span : Span) (before after : List Required) (i : Interface) : Type 0 where
-  pub says : (i.name ≡ name) × (i.span ≡ span) × (i.docs ≡ head.metadata.docs) × (i.stability ≡ head.metadata.stability) × (i.package ≡ None) × (i.clone_of ≡ None)
-  pub types : i.types ≡ head.names.types
-  pub functions : i.functions ≡ table
-  pub required : after ≡ before ++ head.names.required.items
-
 -- an interface, at a place
 pub record AddsAt (is : Interfaces) (place : ℕ) (old new : List TypeDef) (before after : List Required) (i : Item) (added : Interface) : Type 0 where
   pub appends : Appends before after (λ rs. AddsInterface (resolved_scopes_of is) place old new added rs i)
@@ -30,8 +22,6 @@ pub record AddsAt (is : Interfaces) (place : ℕ) (old new : List TypeDef) (befo
 abbrev pub IsIndexed : Interfaces → Type 0
 IsIndexed is = IsNameIndex InterfaceNamed (interfaces_at (prefix_of is.files) is.arena) is.by_name
 
--- interfaces of the same files come after others, which are found, too: these items were added
-pub record AppendsAll (is now : Interfaces) (old new : List TypeDef) (before after : Vec Required Global) (items : List Item) : Type 0 where
-  pub files : now.files ≡ is.files
-  pub added : Appends before.items after.items (λ rs. AddsInterfaces (prefix_of is.files) old new is.arena now.arena rs items)
-  pub index : IsIndexed now
+-- interfaces come after others: these items were added
+abbrev pub AppendsAll : Interfaces → Interfaces → List TypeDef → List TypeDef → Vec Required Global → Vec Required Global → List Item → Type 0
+AppendsAll is now old new before after items = Appends before.items after.items (λ rs. AddsInterfaces (prefix_of is.files) old new is.arena now.arena rs items)

@@ -5,9 +5,8 @@ use Rattle.wit_arena.specs.Common.{Item}
 use Rattle.wit_types.specs.declared.types.TypeOwner.TheVariants as owner
 use Rattle.wit_first.specs.First.{Finds, first_in}
 use Rattle.wit_walk.specs.Orders.{Outcome, IsOutcome, order_of}
-use Rattle.wit_scopes.specs.BorrowedNames.{name_view}
-use Rattle.wit_scopes.specs.PlacedNames.{AreNamesPlaced}
-use Rattle.wit_item_entries.specs.ScopeFunctionFaults.{functions_fault}
+use Rattle.wit_scopes.specs.BorrowedNames.{name_view, AreNamesPlaced}
+use Rattle.wit_item_entries.specs.ReachedFaults.{functions_fault}
 use Rattle.wit_contents.specs.AddedInterfaces.{IsIndexed, interfaces_in}
 
 -- the names of an item that is borrowed
@@ -16,14 +15,11 @@ names_of i = map name_view i.names.now
 
 -- of what comes after its names, which are these in turn: its functions, and then a setter without its getter
 abbrev pub rest_fault : ItemScope → List Id → (Id → Option Fault) → Option Fault
-rest_fault i ids handle = option_or (functions_fault handle (names_of i) ids (functions (scope_item i))) (lone_setters (functions (scope_item i)))
+rest_fault i ids handle = option_or (functions_fault (names_of i) ids (functions (scope_item i)) handle) (lone_setters (functions (scope_item i)))
 
--- of what comes up to them
-abbrev pub head_fault : Interfaces → ItemScope → Outcome → (Id → Option Fault) → Option Fault
-head_fault is i outcome handle = option_or (item_stability (scope_item i)) (names_fault is i.names.now outcome handle)
-
+-- of it: of what comes up to them, and then of that
 abbrev pub interface_fault : Interfaces → ItemScope → Outcome → (Id → Option Fault) → Option Fault
-interface_fault is i outcome handle = option_or (head_fault is i outcome handle) (rest_fault i (map local_id (in_turn (names_of i) (order_of outcome))) handle)
+interface_fault is i outcome handle = option_or (option_or (item_stability (scope_item i)) (names_fault is i.names.now outcome handle)) (rest_fault i (map local_id (in_turn (names_of i) (order_of outcome))) handle)
 
 -- a call finds it, by each test of names in handles that is right of the arena
 abbrev pub FindsInterface : {T : Type 0} → Interfaces → ℕ → List TypeDef → ItemScope → Result T ParseError → Type 0

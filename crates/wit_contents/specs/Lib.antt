@@ -1,9 +1,7 @@
-pub mod AddedFiles
 pub mod AddedInterfaces
-pub mod FileFaults
+pub mod Files
 pub mod InterfaceFaults
 pub mod MemberFaults
-pub mod Ready
 pub mod Walk
 pub mod Worlds
 pub mod Names

@@ -1,22 +1,17 @@
 -- What the imports and exports of a world add, one after another after its names.
-use Rattle.std.specs.Prelude.{◌≡◌, ◌+◌, ◌++◌, ◌∷◌, [], ℕ, Bool, Contains, List, Option, length, map, nat_eq, slice_get, Some}
-use Rattle.wit_contents.specs.Names.{Address, AddsSides, Appends, AreSideItems, Function, Id, Interface, Interfaces, IsExtended, Item as BorrowedItem, Link, Required, ScopeName, SideFunction, SideItem, SideLink, TypeDef, UsePath, WorldSide, address, entries_of, flat_map, functions as the_functions, includes, inline_after, interfaces_at, item_name, item_view, items_on, local_id, name_of_id, names_on, none_of, part_items, path_place, prefix_of, resolved_scopes_of, resource_function, scope_names, side_items, type_imports, world_part}
+use Rattle.std.specs.Prelude.{◌≡◌, ◌+◌, ◌++◌, ◌∷◌, [], ℕ, Bool, Contains, List, Option, length, map, nat_eq, slice_get, Some, true}
+use Rattle.wit_contents.specs.Names.{IsItemOf, is_world, Address, AddsSides, Appends, AreSideItems, Function, Id, Interface, Interfaces, IsExtended, Item as BorrowedItem, Link, Required, ScopeName, SideFunction, SideItem, SideLink, TypeDef, UsePath, WorldSide, address, entries_of, flat_map, functions as the_functions, includes, inline_after, interfaces_at, item_view, items_on, local_id, name_of_id, names_on, none_of, part_items, path_place, prefix_of, resolved_scopes_of, resource_function, scope_names, side_items, type_imports, world_part}
 use Rattle.wit_arena.specs.Common.{Item}
 use Rattle.wit_type_tree.specs.declared.types.ResourceFunc.{ResourceFunc}
 use Rattle.wit_tree.specs.declared.tree.WorldItem.{WorldItem}
 use Rattle.wit_walk.specs.Members.{item_sorted}
 use Rattle.wit_sides.specs.SideNames.{defined_on}
-use Rattle.wit_rules.specs.BorrowedFunctions.{function_view}
-use Rattle.wit_rules.specs.Signatures.{AreResults}
-use Rattle.wit_externs.specs.Clash.{names_of_items}
-use Rattle.wit_externs.specs.Links.{bare_places}
-use Rattle.wit_externs.specs.Next.{linked_on}
-use Rattle.wit_items.specs.declared.items.InlineInterface.{InlineInterface}
+use Rattle.wit_rules.specs.Signatures.{function_view, AreResults}
+use Rattle.wit_externs.specs.Clash.{names_of_items, bare_places, linked_on}
 use Rattle.wit_world_sides.specs.Members.{AreKeyed, Entry, sorted_on}
-use Rattle.wit_links.specs.SideCounts.{IsSeen, inline_side, seen_on}
-use Rattle.wit_item_entries.specs.NameOrder.{IsTurn}
+use Rattle.wit_links.specs.Links.{IsSeen}
+use Rattle.wit_item_entries.specs.AddedNames.{IsTurn}
 use Rattle.wit_contents.specs.AddedInterfaces.{AddsAt}
-use Rattle.wit_contents.specs.Ready.{IsWorldOf}
 use Rattle.wit_contents.specs.declared.walk.Growing.{Growing}
 use Rattle.wit_contents.specs.declared.walk.Walk.{Walk}
 use Rattle.wit_contents.specs.declared.walk.Walked.{Walked}
@@ -35,25 +30,26 @@ pub record ItemWalk : Type 0 where
 abbrev pub walk_of : BorrowedItem → Walk → ItemWalk
 walk_of i w = record { item = i; scope = w.scope.now; interfaces = w.interfaces.now }
 
--- the item whose imports and exports are resolved
-abbrev pub walk_item : ItemWalk → Item
-walk_item w = item_view w.item
-
 -- the place of the interface that a path of it leads to
 abbrev pub lead : ItemWalk → UsePath → Option ℕ
-lead w = path_place w.interfaces.files w.interfaces.by_name (walk_item w).top
+lead w = path_place w.interfaces.files w.interfaces.by_name (item_view w.item).top
 
 -- the first place of an inline interface after so many
 abbrev pub next_place : Interfaces → List Interface → ℕ
 next_place is inside = length is.arena + length inside
 
--- it is a world of the files whose interfaces are resolved, with its names in turn, its functions, and its definitions that are written as results
+-- it is a world of the files whose interfaces are resolved
+pub record IsWorldOf (is : Interfaces) (i : BorrowedItem) : Type 0 where
+  pub sort : is_world (item_view i) ≡ true
+  pub item : IsItemOf is.files i
+
+-- this walk is that of one, with its names in turn, its functions, and its definitions that are written as results
 pub record IsWalk (w : ItemWalk) : Type 0 where
   pub world : IsWorldOf w.interfaces w.item
-  pub functions : map function_view w.scope.functions.items ≡ the_functions (walk_item w)
-  pub results : AreResults w.scope.results (scope_names (walk_item w))
-  pub turn : IsTurn (scope_names (walk_item w)) w.scope.names.turn.items
-  pub closed : w.scope.closed ≡ none_of (includes (walk_item w))
+  pub functions : map function_view w.scope.functions.items ≡ the_functions (item_view w.item)
+  pub results : AreResults w.scope.results (scope_names (item_view w.item))
+  pub turn : IsTurn (scope_names (item_view w.item)) w.scope.names.turn.items
+  pub closed : w.scope.closed ≡ none_of (includes (item_view w.item))
 
 -- what grows, and what is on the sides so far
 pub record Stage : Type 0 where
@@ -68,7 +64,7 @@ pub record IsNext (w : ItemWalk) (xs : List SideItem) (m : Walked) : Type 0 wher
   pub walk : IsWalk w
   pub prefix : List SideItem
   pub rest : List SideItem
-  pub sides : side_items (walk_item w) ≡ prefix ++ (xs ++ rest)
+  pub sides : side_items (item_view w.item) ≡ prefix ++ (xs ++ rest)
   pub seen : IsSeen prefix m.seen
   pub keyed : AreKeyed m.members
 
@@ -77,28 +73,22 @@ pub record HavePlaces (w : ItemWalk) (inside : List Interface) (us : List Item) 
   pub interfaces : (p : ℕ) (s : Address) → slice_get (interfaces_at (prefix_of w.interfaces.files) w.interfaces.arena) p ≡ Some s → slice_get all p ≡ Some s
   pub inline : (k : ℕ) (s : Address) → slice_get (map address us) k ≡ Some s → slice_get all (next_place w.interfaces inside + k) ≡ Some s
 
--- after what was on a side these do, where these functions were made
-pub record HasMore (all : List Address) (w : ItemWalk) (s : WorldSide) (xs : List SideItem) (fs : List Function) (us : List Item) (before after : List Entry) : Type 0 where
-  pub more : List Entry
-  pub put : after ≡ before ++ more
-  pub are : AreSideItems all (walk_item w).top s xs fs (map address us) more
-
 -- after a prefix, these were resolved, and put on their sides
 pub record AddsMembers (w : ItemWalk) (prefix xs : List SideItem) (a b : Stage) : Type 0 where
   pub functions : List Function
-  pub adds : Appends a.walked.required.items b.walked.required.items (λ rs. (s : Address) → AddsSides (resolved_scopes_of w.interfaces) (length w.interfaces.arena) s w.scope.names.types a.growing.types b.growing.types a.growing.inside b.growing.inside functions rs xs (inline_after (walk_item w) prefix xs))
+  pub adds : Appends a.walked.required.items b.walked.required.items (λ rs. (s : Address) → AddsSides (resolved_scopes_of w.interfaces) (length w.interfaces.arena) s w.scope.names.types a.growing.types b.growing.types a.growing.inside b.growing.inside functions rs xs (inline_after (item_view w.item) prefix xs))
   pub extended : IsExtended a.growing.types b.growing.types
   pub seen : (ys : List SideItem) → IsSeen ys a.walked.seen → IsSeen (ys ++ xs) b.walked.seen
   pub in_use : (s : WorldSide) → defined_on s b.walked.members.in_use ≡ defined_on s a.walked.members.in_use ++ names_of_items (items_on s xs)
   pub linked : (s : WorldSide) → linked_on s b.walked.members.links ≡ linked_on s a.walked.members.links ++ bare_places (lead w) (items_on s xs)
   pub sorted : (s : WorldSide) → sorted_on s b.walked.members.sides ≡ sorted_on s a.walked.members.sides ++ flat_map item_sorted (items_on s xs)
   pub keyed : AreKeyed b.walked.members
-  pub are_present : (all : List Address) → HavePlaces w a.growing.inside (inline_after (walk_item w) prefix xs) all → (s : WorldSide) → HasMore all w s xs functions (inline_after (walk_item w) prefix xs) (entries_of s a.walked.members.sides) (entries_of s b.walked.members.sides)
+  pub are_present : (all : List Address) → HavePlaces w a.growing.inside (inline_after (item_view w.item) prefix xs) all → (s : WorldSide) → (more : List Entry) × (entries_of s b.walked.members.sides ≡ entries_of s a.walked.members.sides ++ more) × AreSideItems all (item_view w.item).top s xs functions (map address (inline_after (item_view w.item) prefix xs)) more
   pub leads : (link : Link) → Contains xs (SideLink link) → (id : ℕ) × (lead w link.path ≡ Some id)
 
 -- the next of what is on the sides are added
-abbrev pub AddsItems : ItemWalk → List SideItem → Growing → Walked → Growing → Walked → Type 0
-AddsItems w xs old a new b = (n : IsNext w xs a) → AddsMembers w n.prefix xs (stage old a) (stage new b)
+abbrev pub AddsItems : BorrowedItem → Walk → List SideItem → Growing → Walked → Growing → Walked → Type 0
+AddsItems i w xs old a new b = (n : IsNext (walk_of i w) xs a) → AddsMembers (walk_of i w) n.prefix xs (stage old a) (stage new b)
 
 -- at first the names of the scope are imported, and nothing is exported
 pub record IsStart (w : ItemWalk) (m : Walked) : Type 0 where
@@ -111,18 +101,12 @@ pub record IsStart (w : ItemWalk) (m : Walked) : Type 0 where
   pub exports : m.members.sides.exports ≡ []
 
 -- all of what is on its sides was added, after its names
-abbrev pub AddsSidesOf : ItemWalk → Growing → Growing → Walked → Type 0
-AddsSidesOf w old new m = (start : Walked) × IsStart w start × AddsMembers w [] (side_items (walk_item w)) (stage old start) (stage new m)
+abbrev pub AddsSidesOf : BorrowedItem → WorldScope → Interfaces → Growing → Growing → Walked → Type 0
+AddsSidesOf i s is old new m = (start : Walked) × IsStart (record { item = i; scope = s; interfaces = is }) start × AddsMembers (record { item = i; scope = s; interfaces = is }) [] (side_items (item_view i)) (stage old start) (stage new m)
 
 -- an inline interface was added after those before it, which come after all declared ones
 abbrev pub AddsInside : Interfaces → List TypeDef → List TypeDef → List Interface → List Interface → List Required → List Required → Item → Type 0
 AddsInside is old new inside now before after item = (added : Interface) × (now ≡ inside ++ added ∷ []) × AddsAt is (next_place is inside) old new before after item added
-
--- an inline interface comes next
-pub record IsNextInline (w : ItemWalk) (x : InlineInterface) (m : Walked) : Type 0 where
-  pub next : IsNext w (inline_side x ∷ []) m
-  pub world : x.world.now ≡ item_name (walk_item w)
-  pub place : x.place ≡ (seen_on x.written.now.side m.seen).interfaces
 
 abbrev pub resource_items : Id → List ResourceFunc → List SideItem
 resource_items r fs = map SideFunction (map (resource_function r) fs)

@@ -1,22 +1,21 @@
 -- What a world adds to the arenas, the walk of what it imports and exports, and its first fault.
 use Rattle.std.specs.Prelude.{◌≡◌, ℕ, List, ◌∷◌, [], ◌++◌, length, map, true, Option, Result, Some, slice_get, take}
-use Rattle.wit_contents.specs.Names.{Address, AddsScope, AddsWorld, AddsWorlds, Appends, AreSettled, EndsInTurn, Fault, Id, Interface, Interfaces, IsItemOf, IsNameIndex, IsWorld, Item as BorrowedItem, Metadata, ParseError, Required, ResolvedNames, ScopeName, TypeDef, World, WorldArenas, WorldInclude, WorldNamed, about, address, declared_metadata, defined_fault, in_order, in_turn, includes, inline_items, is_world, item_stability, item_view, local_id, name_of_id, names_fault, option_or, others_of, prefix_of, prefix_worlds, resolved_scopes_of, rows_of, scope_names, side_items, type_imports, worlds_at, worlds_of}
+use Rattle.wit_contents.specs.Names.{Address, AddsScope, AddsWorld, AddsWorlds, Appends, EndsInTurn, Fault, Id, Interface, Interfaces, IsItemOf, IsNameIndex, IsWorld, Item as BorrowedItem, Metadata, ParseError, Required, ResolvedNames, TypeDef, World, WorldArenas, WorldNamed, about, address, declared_metadata, defined_fault, in_order, in_turn, includes, inline_items, is_world, item_stability, item_view, local_id, name_of_id, names_fault, option_or, others_of, prefix_of, prefix_worlds, resolved_scopes_of, rows_of, scope_names, side_items, worlds_at, worlds_of}
 use Rattle.wit_arena.specs.Common.{Item}
 use Rattle.wit_types.specs.declared.types.TypeOwner.TheVariants as owner
 use Rattle.wit_links.specs.declared.worlds.Worlds.{Worlds}
 use Rattle.wit_item_entries.specs.AddedNames.{AddsTurn}
-use Rattle.wit_world_sides.specs.declared.sides.WorldSides.{WorldSides}
 use Rattle.wit_first.specs.First.{Finds, first_after, first_in}
 use Rattle.wit_walk.specs.Orders.{IsOutcome, Outcome, order_of}
 use Rattle.wit_walk.specs.Setters.{setters_fault}
-use Rattle.wit_links.specs.Includes.{includes_fault}
+use Rattle.wit_links.specs.Links.{includes_fault}
 use Rattle.wit_contents.specs.declared.world.ResolvedWorlds.{ResolvedWorlds}
 use Rattle.wit_contents.specs.declared.world.Resolving.{Resolving}
 use Rattle.wit_contents.specs.declared.world.WorldContent.{WorldContent}
 use Rattle.wit_contents.specs.declared.walk.Growing.{Growing}
 use Rattle.wit_contents.specs.declared.walk.Walked.{Walked}
 use Rattle.wit_contents.specs.declared.walk.WorldScope.{WorldScope}
-use Rattle.wit_contents.specs.Walk.{IsStart, IsWalk, ItemWalk, stage, walk_item}
+use Rattle.wit_contents.specs.Walk.{IsStart, IsWalk, ItemWalk, stage}
 use Rattle.wit_contents.specs.MemberFaults.{AreRightMembers, MemberTest}
 
 -- the worlds among items, in the order of their places
@@ -50,32 +49,9 @@ pub record HasContent (id : Id) (stated : Metadata) (c : WorldContent) (w : Worl
 abbrev pub AddsContent : Worlds → BorrowedItem → Resolving → Resolving → WorldContent → Type 0
 AddsContent ws i old new c = (w : World) → HasContent (about (item_view i).declared).id (declared_metadata (item_view i).declared) c w → AddsTo ws (ws.arena ++ w ∷ []) i old new
 
--- an item was added, as this world, which has its name
-pub record AddsWorldOf (ws : Worlds) (i : BorrowedItem) (old new : Resolving) (w : World) : Type 0 where
-  pub named : w.name ≡ (about (item_view i).declared).id.name.now
-  pub world : AddsTo ws (ws.arena ++ w ∷ []) i old new
-
 -- each world is found by its name
 abbrev pub AreIndexed : Worlds → Type 0
 AreIndexed ws = IsNameIndex WorldNamed (worlds_at (others_of ws.interfaces.now.files) ws.arena) ws.by_name
-
--- the next item was added, as a world, over the same interfaces
-pub record AddsNextWorld (ws now : Worlds) (i : BorrowedItem) (old new : Resolving) : Type 0 where
-  pub interfaces : now.interfaces ≡ ws.interfaces
-  pub world : AddsTo ws now.arena i old new
-  pub index : AreIndexed now
-
--- where nothing comes after names, these are the sides of a world, and it requires what they do
-pub record AddsNamesAlone (n : ResolvedNames) (before after : List Required) (sides : WorldSides) : Type 0 where
-  pub imports : (xs : List ScopeName) → n.turn.items ≡ map local_id xs → sides.imports ≡ type_imports xs n.types
-  pub exports : sides.exports ≡ []
-  pub required : after ≡ before ++ n.required.items
-
--- a world that was walked over has this content: its sides are settled, and it requires what its names do, and then what its handles do
-pub record IsSettled (s : WorldScope) (m : Walked) (is : List WorldInclude) (before after : List Required) (c : WorldContent) : Type 0 where
-  pub sides : AreSettled s.closed m.members.sides c.sides
-  pub included : c.includes ≡ is
-  pub required : after ≡ before ++ (s.names.required.items ++ m.required.items)
 
 -- of these names in turn, which are imported: one has the key of an earlier one
 abbrev pub turn_fault : List Id → Option Fault
@@ -87,11 +63,11 @@ sides_fault i ids member = option_or (turn_fault ids) (option_or (first_after me
 
 -- a test is right of the members of a world after its names
 abbrev pub AreRightSides : MemberTest → ItemWalk → Growing → Type 0
-AreRightSides member w old = (start : Walked) → IsStart w start → AreRightMembers member w [] (side_items (walk_item w)) (stage old start)
+AreRightSides member w old = (start : Walked) → IsStart w start → AreRightMembers member w [] (side_items (item_view w.item)) (stage old start)
 
 -- a call finds what each such test says
 abbrev pub FindsSides : {T : Type 0} → ItemWalk → Growing → Result T ParseError → Type 0
-FindsSides w old r = (member : MemberTest) → AreRightSides member w old → Finds (sides_fault (walk_item w) w.scope.names.turn.items member) r
+FindsSides w old r = (member : MemberTest) → AreRightSides member w old → Finds (sides_fault (item_view w.item) w.scope.names.turn.items member) r
 
 -- of a world before its members: its own attributes, its names, its includes, and E17 of the names
 abbrev pub world_head : Worlds → BorrowedItem → Outcome → (Id → Option Fault) → Option Fault

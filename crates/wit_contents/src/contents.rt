@@ -1,10 +1,8 @@
 //! What the files of a package make: its arenas, and what it names of other packages.
-ghost use Rattle.std.specs.Prelude.{◌≡◌, [], IfOk, IfErr};
+ghost use Rattle.std.specs.Prelude.{◌≡◌, ◌++◌, [], IfOk, IfErr, Ok};
 ghost use Rattle.wit_type_tree.specs.RefusalText.{IsAllocationFailure};
 ghost use Rattle.wit_syntax.specs.Broken.{IsBrokenNames};
-ghost use Rattle.wit_syntax.specs.Fault.{Fault};
-ghost use Rattle.wit_contents.specs.AddedFiles.{MakeContents, IsMadeOf};
-ghost use Rattle.wit_contents.specs.FileFaults.{FindsAfter};
+ghost use Rattle.wit_contents.specs.Files.{FindsAfter, MakeContents};
 
 use crate::declared::resolve_interfaces;
 use crate::world::{ResolvedWorlds, resolve_worlds};
@@ -43,7 +41,11 @@ fn made_of(
     required: Vec<Required>,
     named: Result<(Packages, Row<Span>), AllocError>,
 ) -> ParseResult<Made>
-    ensures made { IfOk result (IsMadeOf interfaces made unknown_type_spans.items required.items named) }
+    ensures interfaces { IfOk result (λ r. r.interfaces ≡ interfaces ++ made.inside) }
+    ensures worlds { IfOk result (λ r. r.worlds ≡ made.worlds) }
+    ensures deps { IfOk result (λ r. named ≡ Ok (r.foreign.deps, r.foreign.dep_spans)) }
+    ensures unknown { IfOk result (λ r. r.foreign.unknown_type_spans ≡ unknown_type_spans.items) }
+    ensures required { IfOk result (λ r. r.foreign.required_resource_types ≡ required.items ++ made.required.items) }
     ensures refused { IfErr result IsAllocationFailure }
 {
     let (deps, dep_spans) = named?;
@@ -72,7 +74,9 @@ fn resolve_named<'f, 'a>(
     files: &'f [PackageFile<'a>],
     types: &mut Entries,
 ) -> ParseResult<Made>
-    requires { (types.old ≡ []) × (names.now ≡ files.now) × ((f : Fault) → IsBrokenNames names.now f → ⊥) }
+    requires empty { types.old ≡ [] }
+    requires gathered { names.now ≡ files.now }
+    requires unbroken { (f : _) → IsBrokenNames names.now f → ⊥ }
     ensures made { IfOk result (λ made. MakeContents names.now types.new made.interfaces made.worlds made.foreign) }
     ensures first { FindsAfter 6 names.now result }
 {
@@ -99,7 +103,8 @@ fn resolve_named<'f, 'a>(
     resolve_interfaces(lent, types, &mut required, &mut interfaces, order)?;
     let made = resolve_worlds(lent, types, &interfaces, worlds, order)?;
     let named = foreign_deps(alloc, names.foreign_visits());
-    made_of(interfaces.arena, made, spans, required, named)
+    let all = made_of(interfaces.arena, made, spans, required, named)?;
+    Ok(all)
 }
 
 /// Adds to no types what files make.

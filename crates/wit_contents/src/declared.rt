@@ -1,12 +1,10 @@
 //! Declared interfaces, one after another.
-ghost use Rattle.std.specs.Prelude.{◌≡◌, ◌++◌, ◌∷◌, [], IfErr, OnOk, Some, false};
+ghost use Rattle.std.specs.Prelude.{◌≡◌, ◌<◌, ◌++◌, ◌∷◌, [], All, IfErr, OnOk, Some, false, length};
 ghost use Rattle.wit_type_tree.specs.RefusalText.{IsAllocationFailure};
 ghost use Rattle.wit_syntax.specs.Source.{is_world};
-ghost use Rattle.wit_items.specs.BorrowedItems.{item_view};
-ghost use Rattle.wit_items.specs.Gathered.{IsItemOf};
+ghost use Rattle.wit_items.specs.BorrowedItems.{item_view, AreItemsOf, IsItemOf};
 ghost use Rattle.wit_contents.specs.AddedInterfaces.{AppendsAll, IsIndexed, interfaces_in};
 ghost use Rattle.wit_contents.specs.InterfaceFaults.{FindsAmong, FindsOne};
-ghost use Rattle.wit_contents.specs.Ready.{AreReady};
 
 use crate::interface::interface_of;
 use wit_entries::entries::Entries;
@@ -23,8 +21,11 @@ fn add_interface(
     name: &str,
     interface: Interface,
 ) -> ParseResult<()>
-    requires { IsIndexed interfaces.old × (interface.name ≡ Some name.now) }
-    ensures adds { OnOk result ((interfaces.new.files ≡ interfaces.old.files) × (interfaces.new.arena ≡ interfaces.old.arena ++ interface ∷ []) × IsIndexed interfaces.new) }
+    requires index { IsIndexed interfaces.old }
+    requires named { interface.name ≡ Some name.now }
+    ensures files { OnOk result (interfaces.new.files ≡ interfaces.old.files) }
+    ensures added { OnOk result (interfaces.new.arena ≡ interfaces.old.arena ++ interface ∷ []) }
+    ensures index { OnOk result (IsIndexed interfaces.new) }
     ensures refused { IfErr result IsAllocationFailure }
 {
     let alloc = *interfaces.by_name.allocator();
@@ -40,10 +41,14 @@ fn resolve_interface<'f, 'a>(
     item: &Item<'f, 'a>,
     types: &mut Entries,
     required: &mut Vec<Required>,
-    interfaces: &mut Interfaces<'_, '_, 'f, 'a>,
+    interfaces: &mut Interfaces<'f, 'a, '_, '_>,
 ) -> ParseResult<()>
-    requires { (is_world (item_view item.now) ≡ false) × IsItemOf interfaces.old.files item.now × IsIndexed interfaces.old }
+    requires sort { is_world (item_view item.now) ≡ false }
+    requires item { IsItemOf interfaces.old.files item.now }
+    requires index { IsIndexed interfaces.old }
+    ensures files { OnOk result (interfaces.new.files ≡ interfaces.old.files) }
     ensures adds { OnOk result (AppendsAll interfaces.old interfaces.new types.old types.new required.old required.new (item_view item.now ∷ [])) }
+    ensures index { OnOk result (IsIndexed interfaces.new) }
     ensures first { FindsOne interfaces.old types.old (item_view item.now) result }
 {
     let place = interfaces.arena.next_id();
@@ -58,11 +63,15 @@ pub fn resolve_interfaces<'f, 'a>(
     items: &[Item<'f, 'a>],
     types: &mut Entries,
     required: &mut Vec<Required>,
-    interfaces: &mut Interfaces<'_, '_, 'f, 'a>,
+    interfaces: &mut Interfaces<'f, 'a, '_, '_>,
     places: &[usize],
 ) -> ParseResult<()>
-    requires { AreReady interfaces.old.files items.now places.now × IsIndexed interfaces.old }
-    ensures added { OnOk result (AppendsAll interfaces.old interfaces.new types.old types.new required.old required.new (interfaces_in items.now places.now)) }
+    requires within { All (λ place. place < length items.now) places.now }
+    requires items { AreItemsOf interfaces.old.files items.now }
+    requires index { IsIndexed interfaces.old }
+    ensures files { OnOk result (interfaces.new.files ≡ interfaces.old.files) }
+    ensures adds { OnOk result (AppendsAll interfaces.old interfaces.new types.old types.new required.old required.new (interfaces_in items.now places.now)) }
+    ensures index { OnOk result (IsIndexed interfaces.new) }
     ensures first { FindsAmong interfaces.old types.old items.now places.now result }
 {
     for place in places {

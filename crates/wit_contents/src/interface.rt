@@ -1,17 +1,17 @@
 //! An interface, whether it is declared or written in a world.
-ghost use Rattle.std.specs.Prelude.{◌≡◌, ◌<◌, ◌++◌, false, length, IfErr, IfOk, map};
+ghost use Rattle.std.specs.Prelude.{◌≡◌, ◌<◌, ◌++◌, List, false, length, IfErr, IfOk, None, OnOk, map};
 ghost use Rattle.wit_type_tree.specs.RefusalText.{IsAllocationFailure};
-ghost use Rattle.wit_syntax.specs.Source.{about, is_world};
-ghost use Rattle.wit_entries.specs.Requiring.{IsExtended};
-ghost use Rattle.wit_rules.specs.BorrowedFunctions.{function_view};
-ghost use Rattle.wit_signatures.specs.ForeignName.{name_of_function, name_of_id};
+ghost use Rattle.wit_syntax.specs.Source.{about, is_world, scope_names};
+ghost use Rattle.wit_entries.specs.EntryFaults.{IsExtended};
+ghost use Rattle.wit_rules.specs.Signatures.{function_view};
+ghost use Rattle.wit_signatures.specs.FunctionsOfScope.{name_of_function, name_of_id};
 ghost use Rattle.wit_items.specs.BorrowedItems.{declared_view, scope_item};
 ghost use Rattle.wit_first.specs.First.{Finds};
 ghost use Rattle.wit_arena.specs.Resolving.{env_of};
-ghost use Rattle.wit_externs.specs.AloneFaults.{FindsIn, lone_setters};
-ghost use Rattle.wit_contents.specs.InterfaceFaults.{rest_fault, FindsInterface, IsLent};
-ghost use Rattle.wit_contents.specs.AddedInterfaces.{AddsAt, AddsTable, IsInterfaceWith};
-ghost use Rattle.wit_contents.specs.Ready.{IsNamedScope};
+ghost use Rattle.wit_externs.specs.Clash.{FindsIn, lone_setters};
+ghost use Rattle.wit_contents.specs.InterfaceFaults.{rest_fault, FindsInterface, IsLent, names_of};
+ghost use Rattle.wit_contents.specs.AddedInterfaces.{AddsAt, AddsTable};
+ghost use Rattle.wit_item_entries.specs.Body.{HasTurn};
 
 use std::alloc::{AllocError, Global};
 use wit_entries::entries::Entries;
@@ -56,7 +56,9 @@ fn functions_of<'a>(
     types: &mut Entries,
     names: &mut ResolvedNames<'a>,
 ) -> ParseResult<TextTable<Function>>
-    requires { IsNamedScope item.now names.old types.old }
+    requires sort { is_world (scope_item item.now) ≡ false }
+    requires named { names_of item.now ≡ scope_names (scope_item item.now) }
+    requires added { (old : _) × (cs : _) × (o : _) × HasTurn names.old types.old (scope_item item.now) old cs o }
     ensures adds { IfOk result (AddsTable names.old names.new types.old types.new (scope_item item.now)) }
     ensures extended { IsExtended types.old types.new }
     ensures first { FindsIn (env_of names.old.types) types.new (rest_fault item.now names.old.turn.items) result }
@@ -91,7 +93,15 @@ fn interface_with(
     span: Span,
     required: &mut Vec<Required>,
 ) -> ParseResult<Interface>
-    ensures has { IfOk result (IsInterfaceWith name head.entry functions span required.old.items required.new.items) }
+    ensures called { IfOk result (λ i. i.name ≡ name) }
+    ensures there { IfOk result (λ i. i.span ≡ span) }
+    ensures docs { IfOk result (λ i. i.docs ≡ head.entry.metadata.docs) }
+    ensures stability { IfOk result (λ i. i.stability ≡ head.entry.metadata.stability) }
+    ensures own { IfOk result (λ i. i.package ≡ None) }
+    ensures original { IfOk result (λ i. i.clone_of ≡ None) }
+    ensures types { IfOk result (λ i. i.types ≡ head.entry.names.types) }
+    ensures has { IfOk result (λ i. i.functions ≡ functions) }
+    ensures required { OnOk result (required.new.items ≡ required.old.items ++ head.entry.names.required.items) }
     ensures refused { IfErr result IsAllocationFailure }
 {
     let names = head.names;
@@ -114,10 +124,11 @@ pub fn interface_of<'f, 'a>(
     item: &ItemScope<'f, 'a, '_>,
     types: &mut Entries,
     required: &mut Vec<Required>,
-    interfaces: &Interfaces<'_, '_, 'f, 'a>,
+    interfaces: &Interfaces<'f, 'a, '_, '_>,
     place: InterfaceId,
 ) -> ParseResult<Interface>
-    requires { (is_world (scope_item item.now) ≡ false) × IsLent item.now interfaces.now.files (scope_item item.now) }
+    requires sort { is_world (scope_item item.now) ≡ false }
+    requires lent { IsLent item.now interfaces.now.files (scope_item item.now) }
     ensures adds { IfOk result (AddsAt interfaces.now place types.old types.new required.old.items required.new.items (scope_item item.now)) }
     ensures first { FindsInterface interfaces.now place types.old item.now result }
 {
@@ -127,5 +138,6 @@ pub fn interface_of<'f, 'a>(
     let owner = TypeOwner::Interface(place);
     let mut head = resolve_head(alloc, item, types, interfaces, owner)?;
     let functions = functions_of(alloc, item, types, &mut head.names)?;
-    interface_with(name, head, functions, id.span, required)
+    let interface = interface_with(name, head, functions, id.span, required)?;
+    Ok(interface)
 }

@@ -80,11 +80,11 @@ pub(crate) fn put_nothing(parts: &[WorldItem<'_>]) -> bool
 pub fn walk_sides<'f, 'a>(
     item: &Item<'f, 'a>,
     scope: &WorldScope<'f, 'a>,
-    interfaces: &Interfaces<'_, '_, 'f, 'a>,
+    interfaces: &Interfaces<'f, 'a, '_, '_>,
     growing: &mut Growing,
 ) -> ParseResult<Walked>
     requires { IsWalk (record { item = item.now; scope = scope.now; interfaces = interfaces.now }) }
-    ensures adds { IfOk result (AddsSidesOf (record { item = item.now; scope = scope.now; interfaces = interfaces.now }) growing.old growing.new) }
+    ensures adds { IfOk result (AddsSidesOf item.now scope.now interfaces.now growing.old growing.new) }
     ensures first { FindsSides (record { item = item.now; scope = scope.now; interfaces = interfaces.now }) growing.old result }
 {
     let walk = Walk { scope, interfaces };

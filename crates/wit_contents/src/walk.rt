@@ -2,15 +2,14 @@
 ghost use Rattle.std.specs.Prelude.{◌≡◌, ◌+◌, ◌∷◌, [], IfOk, OnOk, false, length};
 ghost use Rattle.wit_syntax.specs.Function.{side_function};
 ghost use Rattle.wit_syntax.specs.Sides.{extern_items, side_items, SideFunction, SideLink, part_items};
-ghost use Rattle.wit_syntax.specs.Source.{DefinitionPart, is_world};
-ghost use Rattle.wit_rules.specs.BorrowedFunctions.{function_view};
+ghost use Rattle.wit_syntax.specs.Source.{DefinitionPart, is_world, item_name};
+ghost use Rattle.wit_rules.specs.Signatures.{function_view};
 ghost use Rattle.wit_items.specs.BorrowedItems.{item_view, scope_item};
 ghost use Rattle.wit_world_sides.specs.Members.{path_link};
-ghost use Rattle.wit_links.specs.SideCounts.{inline_side};
+ghost use Rattle.wit_links.specs.Links.{inline_side, seen_on};
 ghost use Rattle.wit_contents.specs.InterfaceFaults.{FindsInterface, IsLent};
-ghost use Rattle.wit_contents.specs.declared.walk.Growing.{Growing};
 ghost use Rattle.wit_contents.specs.MemberFaults.{FindsMembers};
-ghost use Rattle.wit_contents.specs.Walk.{AddsItems, IsNext, next_place, resource_items, stage, walk_of, IsNextInline, AddsInside};
+ghost use Rattle.wit_contents.specs.Walk.{AddsItems, IsNext, next_place, resource_items, stage, walk_of, AddsInside};
 
 use crate::interface::interface_of;
 use std::alloc::AllocError;
@@ -50,7 +49,7 @@ pub struct WorldScope<'f, 'a> {
 #[derive(Clone, Copy)]
 pub struct Walk<'f, 'a, 'w, 'n, 'e> {
     pub scope: &'w WorldScope<'f, 'a>,
-    pub interfaces: &'w Interfaces<'n, 'e, 'f, 'a>,
+    pub interfaces: &'w Interfaces<'f, 'a, 'n, 'e>,
 }
 
 /// What grows while worlds are resolved, for all of them.
@@ -89,10 +88,11 @@ fn resolve_inline<'f, 'a>(
     scope: &ItemScope<'f, 'a, '_>,
     types: &mut Entries,
     required: &mut Vec<Required>,
-    interfaces: &Interfaces<'_, '_, 'f, 'a>,
+    interfaces: &Interfaces<'f, 'a, '_, '_>,
     inside: &mut Arena<Interface, InterfacePlace>,
 ) -> ParseResult<InterfaceId>
-    requires { (is_world (scope_item scope.now) ≡ false) × IsLent scope.now interfaces.now.files (scope_item scope.now) }
+    requires sort { is_world (scope_item scope.now) ≡ false }
+    requires lent { IsLent scope.now interfaces.now.files (scope_item scope.now) }
     ensures id { IfOk result (λ id. id ≡ next_place interfaces.now inside.old) }
     ensures adds { OnOk result (AddsInside interfaces.now types.old types.new inside.old inside.new required.old.items required.new.items (scope_item scope.now)) }
     ensures first { FindsInterface interfaces.now (next_place interfaces.now inside.old) types.old scope.now result }
@@ -114,7 +114,7 @@ fn walk_function<'f, 'a>(
     walked: &mut Walked,
 ) -> ParseResult<()>
     requires { IsNext (walk_of item.now walk.now) (SideFunction (function_view borrowed) ∷ []) walked.old }
-    ensures adds { OnOk result (AddsItems (walk_of item.now walk.now) (SideFunction (function_view borrowed.entry) ∷ []) growing.old walked.old growing.new walked.new) }
+    ensures adds { OnOk result (AddsItems item.now walk.now (SideFunction (function_view borrowed.entry) ∷ []) growing.old walked.old growing.new walked.new) }
     ensures first { FindsMembers (walk_of item.now walk.now) (SideFunction (function_view borrowed.entry) ∷ []) (stage growing.old walked.old) result }
 {
     let alloc = *walk.interfaces.by_name.allocator();
@@ -147,8 +147,8 @@ fn walk_link<'f, 'a>(
     walked: &mut Walked,
 ) -> ParseResult<()>
     requires { IsNext (walk_of item.now walk.now) (SideLink (path_link link) ∷ []) walked.old }
-    ensures adds { OnOk result ((g : Growing) → AddsItems (walk_of item.now walk.now) (SideLink (path_link link.entry) ∷ []) g walked.old g walked.new) }
-    ensures first { (g : Growing) → FindsMembers (walk_of item.now walk.now) (SideLink (path_link link.entry) ∷ []) (stage g walked.old) result }
+    ensures adds { OnOk result ((g : _) → AddsItems item.now walk.now (SideLink (path_link link.entry) ∷ []) g walked.old g walked.new) }
+    ensures first { (g : _) → FindsMembers (walk_of item.now walk.now) (SideLink (path_link link.entry) ∷ []) (stage g walked.old) result }
 {
     let alloc = *walk.interfaces.by_name.allocator();
     check_metadata(alloc, &link.written.attributes)?;
@@ -170,8 +170,10 @@ fn walk_inline<'f, 'a>(
     growing: &mut Growing,
     walked: &mut Walked,
 ) -> ParseResult<()>
-    requires { IsNextInline (walk_of item.now walk.now) inline walked.old }
-    ensures adds { OnOk result (AddsItems (walk_of item.now walk.now) (inline_side inline.entry ∷ []) growing.old walked.old growing.new walked.new) }
+    requires next { IsNext (walk_of item.now walk.now) (inline_side inline ∷ []) walked.old }
+    requires world { inline.world.now ≡ item_name (item_view item.now) }
+    requires place { inline.place ≡ (seen_on inline.written.now.side walked.old.seen).interfaces }
+    ensures adds { OnOk result (AddsItems item.now walk.now (inline_side inline.entry ∷ []) growing.old walked.old growing.new walked.new) }
     ensures first { FindsMembers (walk_of item.now walk.now) (inline_side inline.entry ∷ []) (stage growing.old walked.old) result }
 {
     let alloc = *walk.interfaces.by_name.allocator();
@@ -212,7 +214,7 @@ fn walk_extern<'f, 'a>(
     walked: &mut Walked,
 ) -> ParseResult<()>
     requires { IsNext (walk_of item.now walk.now) (extern_items written.now written.now.kind) walked.old }
-    ensures adds { OnOk result (AddsItems (walk_of item.now walk.now) (extern_items written.now written.now.kind) growing.old walked.old growing.new walked.new) }
+    ensures adds { OnOk result (AddsItems item.now walk.now (extern_items written.now written.now.kind) growing.old walked.old growing.new walked.new) }
     ensures first { FindsMembers (walk_of item.now walk.now) (extern_items written.now written.now.kind) (stage growing.old walked.old) result }
 {
     match &written.kind {
@@ -272,7 +274,7 @@ fn walk_definition<'f, 'a>(
     walked: &mut Walked,
 ) -> ParseResult<()>
     requires { IsNext (walk_of item.now walk.now) (part_items (DefinitionPart definition.now)) walked.old }
-    ensures adds { OnOk result (AddsItems (walk_of item.now walk.now) (part_items (DefinitionPart definition.now)) growing.old walked.old growing.new walked.new) }
+    ensures adds { OnOk result (AddsItems item.now walk.now (part_items (DefinitionPart definition.now)) growing.old walked.old growing.new walked.new) }
     ensures first { FindsMembers (walk_of item.now walk.now) (part_items (DefinitionPart definition.now)) (stage growing.old walked.old) result }
 {
     for function in resource_functions(definition) {
@@ -290,7 +292,7 @@ pub(crate) fn walk_parts<'f, 'a>(
     walked: &mut Walked,
 ) -> ParseResult<()>
     requires { IsNext (walk_of item.now walk.now) (side_items (item_view item.now)) walked.old }
-    ensures adds { OnOk result (AddsItems (walk_of item.now walk.now) (side_items (item_view item.now)) growing.old walked.old growing.new walked.new) }
+    ensures adds { OnOk result (AddsItems item.now walk.now (side_items (item_view item.now)) growing.old walked.old growing.new walked.new) }
     ensures first { FindsMembers (walk_of item.now walk.now) (side_items (item_view item.now)) (stage growing.old walked.old) result }
 {
     let world = declared_world(&item.declared);

@@ -1,22 +1,20 @@
 //! Declared worlds.
-ghost use Rattle.std.specs.Prelude.{◌≡◌, List, None, IfOk, IfErr, OnOk, map, ◌++◌, ◌∷◌, [], length};
+ghost use Rattle.std.specs.Prelude.{◌≡◌, ◌<◌, ◌≤◌, All, List, None, IfOk, IfErr, OnOk, map, ◌++◌, ◌∷◌, [], length};
 ghost use Rattle.std.specs.List.{flat_map};
 ghost use Rattle.wit_types.specs.declared.types.TypeOwner.TheVariants.{World as OfWorld};
 ghost use Rattle.wit_type_tree.specs.RefusalText.{IsAllocationFailure};
 ghost use Rattle.wit_syntax.specs.Function.{part_functions};
 ghost use Rattle.wit_syntax.specs.Repeats.{AllDiffer};
-ghost use Rattle.wit_syntax.specs.Source.{ScopeName as TheName, local_name, world_part};
-ghost use Rattle.wit_rules.specs.BorrowedFunctions.{function_view};
-ghost use Rattle.wit_rules.specs.Signatures.{AreResults};
+ghost use Rattle.wit_syntax.specs.Source.{about, local_id, local_name, world_part};
+ghost use Rattle.wit_arena.specs.Common.{IsNameIndex, WorldNamed, worlds_at, type_imports};
+ghost use Rattle.wit_rules.specs.Signatures.{function_view, AreResults};
 ghost use Rattle.wit_scopes.specs.BorrowedNames.{name_view};
-ghost use Rattle.wit_items.specs.BorrowedItems.{item_view};
-ghost use Rattle.wit_items.specs.SourceItems.{metadata_view};
-ghost use Rattle.wit_items.specs.Gathered.{IsItemOf};
-ghost use Rattle.wit_item_entries.specs.NameOrder.{IsTurn};
+ghost use Rattle.wit_items.specs.BorrowedItems.{item_view, metadata_view, AreItemsOf, IsItemOf, others_of};
+ghost use Rattle.wit_item_entries.specs.AddedNames.{IsTurn};
 ghost use Rattle.wit_item_entries.specs.ReachedFaults.{item_stability, FindsNames};
-ghost use Rattle.wit_world_sides.specs.Members.{AreKeyed};
-ghost use Rattle.wit_contents.specs.Worlds.{AddsContent, AddsNamesOf, AddsWorldsAmong, AddsNextWorld, AddsWorldOf, AreIndexed, HasContent, FindsWorld, FindsWorlds, AddsNamesAlone, IsSettled};
-ghost use Rattle.wit_contents.specs.Ready.{AreOthers, AreReady, IsWorldOf};
+ghost use Rattle.wit_world_sides.specs.Members.{AreKeyed, AreSettled};
+ghost use Rattle.wit_contents.specs.Worlds.{AddsContent, AddsNamesOf, AddsTo, AddsWorldsAmong, AreIndexed, HasContent, FindsWorld, FindsWorlds};
+ghost use Rattle.wit_contents.specs.Walk.{IsWorldOf};
 
 use crate::sides::{put_nothing, walk_sides};
 use crate::walk::{Growing, Walked, WorldScope};
@@ -70,8 +68,11 @@ pub struct Resolving {
 
 /// Adds a declared world, under its name.
 fn add_world(worlds: &mut Worlds<'_, '_, '_, '_, '_>, name: &str, world: World) -> ParseResult<()>
-    requires { AreIndexed worlds.old × (world.name ≡ name.now) }
-    ensures adds { OnOk result ((worlds.new.interfaces ≡ worlds.old.interfaces) × (worlds.new.arena ≡ worlds.old.arena ++ world ∷ []) × AreIndexed worlds.new) }
+    requires index { AreIndexed worlds.old }
+    requires named { world.name ≡ name.now }
+    ensures interfaces { OnOk result (worlds.new.interfaces ≡ worlds.old.interfaces) }
+    ensures added { OnOk result (worlds.new.arena ≡ worlds.old.arena ++ world ∷ []) }
+    ensures index { OnOk result (AreIndexed worlds.new) }
     ensures refused { IfErr result IsAllocationFailure }
 {
     let alloc = *worlds.by_name.allocator();
@@ -85,7 +86,7 @@ fn add_world(worlds: &mut Worlds<'_, '_, '_, '_, '_>, name: &str, world: World) 
 fn world_names<'f, 'a>(
     item: &Item<'f, 'a>,
     types: &mut Entries,
-    worlds: &Worlds<'_, '_, '_, 'f, 'a>,
+    worlds: &Worlds<'f, 'a, '_, '_, '_>,
 ) -> ParseResult<ResolvedNames<'a>>
     requires { IsItemOf worlds.now.interfaces.now.files item.now }
     ensures adds { IfOk result (AddsNamesOf worlds.now item.now types.old types.new) }
@@ -103,8 +104,10 @@ fn sides_of_names(
     names: &ResolvedNames<'_>,
     required: &mut Vec<Required>,
 ) -> Result<WorldSides, AllocError>
-    requires turn { (xs : List TheName) × IsTurn xs names.now.turn.items }
-    ensures { IfOk result (AddsNamesAlone names.now required.old.items required.new.items) }
+    requires turn { (xs : _) × IsTurn xs names.now.turn.items }
+    ensures imports { IfOk result (λ s. (xs : _) → names.now.turn.items ≡ map local_id xs → s.imports ≡ type_imports xs names.now.types) }
+    ensures exports { IfOk result (λ s. s.exports ≡ []) }
+    ensures required { OnOk result (required.new.items ≡ required.old.items ++ names.now.required.items) }
 {
     let sides = named_sides(alloc, &names.turn, &names.types, 0, 0)?;
     add_required(required, &names.required)?;
@@ -146,7 +149,9 @@ fn settled_content(
     required: &mut Vec<Required>,
 ) -> ParseResult<WorldContent>
     requires { AreKeyed walked.members }
-    ensures settled { IfOk result (IsSettled scope.now walked includes required.old.items required.new.items) }
+    ensures sides { IfOk result (λ c. AreSettled scope.now.closed walked.members.sides c.sides) }
+    ensures includes { IfOk result (λ c. c.includes ≡ includes) }
+    ensures required { OnOk result (required.new.items ≡ required.old.items ++ (scope.now.names.required.items ++ walked.required.items)) }
     ensures refused { IfErr result IsAllocationFailure }
 {
     add_required(required, &scope.names.required)?;
@@ -159,7 +164,7 @@ fn settled_content(
 fn world_content<'f, 'a>(
     item: &Item<'f, 'a>,
     resolving: &mut Resolving,
-    worlds: &Worlds<'_, '_, '_, 'f, 'a>,
+    worlds: &Worlds<'f, 'a, '_, '_, '_>,
 ) -> ParseResult<WorldContent>
     requires { IsWorldOf worlds.now.interfaces.now item.now }
     ensures adds { IfOk result (AddsContent worlds.now item.now resolving.old resolving.new) }
@@ -184,7 +189,8 @@ fn world_content<'f, 'a>(
         closed,
     };
     let walked = walk_sides(item, &scope, worlds.interfaces, &mut resolving.growing)?;
-    settled_content(alloc, &scope, walked, includes, &mut resolving.required)
+    let content = settled_content(alloc, &scope, walked, includes, &mut resolving.required)?;
+    Ok(content)
 }
 
 /// A world of this name, with what is stated of it and what it has.
@@ -216,10 +222,11 @@ fn world_with(
 fn world_of<'f, 'a>(
     item: &Item<'f, 'a>,
     resolving: &mut Resolving,
-    worlds: &Worlds<'_, '_, '_, 'f, 'a>,
+    worlds: &Worlds<'f, 'a, '_, '_, '_>,
 ) -> ParseResult<World>
     requires { IsWorldOf worlds.now.interfaces.now item.now }
-    ensures adds { IfOk result (AddsWorldOf worlds.now item.now resolving.old resolving.new) }
+    ensures named { IfOk result (λ w. w.name ≡ (about (item_view item.now).declared).id.name.now) }
+    ensures adds { IfOk result (λ w. AddsTo worlds.now (worlds.now.arena ++ w ∷ []) item.now resolving.old resolving.new) }
     ensures first { FindsWorld worlds.now resolving.old.growing item.now result }
 {
     let alloc = *worlds.by_name.allocator();
@@ -235,10 +242,13 @@ fn world_of<'f, 'a>(
 fn resolve_world<'f, 'a>(
     item: &Item<'f, 'a>,
     resolving: &mut Resolving,
-    worlds: &mut Worlds<'_, '_, '_, 'f, 'a>,
+    worlds: &mut Worlds<'f, 'a, '_, '_, '_>,
 ) -> ParseResult<()>
-    requires { IsWorldOf worlds.old.interfaces.now item.now × AreIndexed worlds.old }
-    ensures adds { OnOk result (AddsNextWorld worlds.old worlds.new item.now resolving.old resolving.new) }
+    requires item { IsWorldOf worlds.old.interfaces.now item.now }
+    requires index { AreIndexed worlds.old }
+    ensures interfaces { OnOk result (worlds.new.interfaces ≡ worlds.old.interfaces) }
+    ensures adds { OnOk result (AddsTo worlds.old worlds.new.arena item.now resolving.old resolving.new) }
+    ensures index { OnOk result (AreIndexed worlds.new) }
     ensures first { FindsWorld worlds.old resolving.old.growing item.now result }
 {
     let world = world_of(item, resolving, worlds)?;
@@ -287,11 +297,14 @@ fn make_room(
 pub fn resolve_worlds<'f, 'a>(
     items: &[Item<'f, 'a>],
     types: &mut Entries,
-    interfaces: &Interfaces<'_, '_, 'f, 'a>,
+    interfaces: &Interfaces<'f, 'a, '_, '_>,
     prefix: Arena<World, WorldPlace>,
     places: &[usize],
 ) -> ParseResult<ResolvedWorlds>
-    requires { AreReady interfaces.now.files items.now places.now × AreOthers interfaces.now.files prefix }
+    requires within { All (λ place. place < length items.now) places.now }
+    requires items { AreItemsOf interfaces.now.files items.now }
+    requires enough { length (others_of interfaces.now.files) ≤ length prefix }
+    requires index { IsNameIndex WorldNamed (worlds_at (others_of interfaces.now.files) prefix) [] }
     ensures added { IfOk result (AddsWorldsAmong interfaces.now prefix types.old types.new items.now places.now) }
     ensures first { FindsWorlds interfaces.now prefix types.old items.now places.now result }
 {

@@ -2,7 +2,7 @@
 use Rattle.std.proofs.Common.{◌≡◌, ℕ, zero, suc, Bool, true, false, cond, List, [], ◌∷◌, ◌++◌, map, Some, None, inl, inr, refl, ap, ◌∙◌, subst}
 use Rattle.wit_items.proofs.Common.{Address, Def, Exported, Extern, Function, Id, Imported, Include, Key, Link, ScopeName, SideFunction, SideInline, SideItem, SideLink, SourceFunction, TopName, WorldItem, WorldKey, WorldSide, address, at_split, cons_option, entries_on, flat_map, function_in, functions, functions_items, includes, inline_entry, inline_items, item_function, item_link, link_item, local_id, local_name, map_at, name_imports, pairs, path_scope, placed, role_side, same_side, scope_place, settled, settled_at, side_entries, side_items, slice_get, world_entries}
 use Rattle.wit_arena.proofs.Common.{Item}
-use Rattle.wit_arena.proofs.Placed.{placed_at}
+use Rattle.wit_arena.proofs.Settled.{placed_at}
 use Rattle.wit_model.specs.declared.world.WorldItem.TheVariants as item
 use Rattle.wit_model.specs.declared.world.WorldKey.TheVariants as key
 

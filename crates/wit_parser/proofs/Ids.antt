@@ -1,20 +1,100 @@
 -- The ids of a package that legal files make are places of entries of its arenas.
-use Rattle.std.proofs.Common.{◌≡◌, ◌<◌, ◌≤◌, ℕ, ◌+◌, List, ◌++◌, length, map, take, Option, Some, None, refl, sym, ap, ◌∙◌, subst, arith, inl, inr, length-append}
-use Rattle.wit_items.proofs.Common.{Address, AstItem, Def, Extern, ForeignVisit, GivesPlaces, Id, IsEntry, IsKeyed, IsLegal, IsSeen, Key, Link, Makes, Occurrence, PackageFile, PackageName, SourceFunction, Stability, TypeDef, UnresolvedPackage, Whole, WorldInclude, WorldNamed, address, all_at_untaken, declarations, dep, dep_item, entry_of_interface, entry_of_world, filter, flat_map, foreign_entry, foreign_interface, foreign_interfaces, foreign_items, foreign_packages, foreign_turned, foreign_world, foreign_worlds, function_in, functions, include_in, includes, inline_entry, inline_items, interface_scopes, interface_turn, item_link, item_sort, item_turns, kept_at, keys, kind_of, leads, length-map, link_item, link_key, local_name, map_at, name_exprs, names_in_turn, option_map, option_or, own_interface, own_interfaces, own_world, package_of, path_scope, place_at, position-Some, same_address, same_package, scope_place, side_items, slice_get, slice_get_within, target_scope, turn_handles, unwrap_or, visited, world_scopes, worlds_of}
+use Rattle.std.proofs.Common.{◌≡◌, ◌<◌, ◌≤◌, ℕ, ◌+◌, List, ◌++◌, length, map, take, Option, Some, None, refl, sym, ap, ◌∙◌, subst, arith, inl, inr, length-append, zero, suc, [], ◌∷◌}
+use Rattle.wit_items.proofs.Common.{Address, AstItem, Def, Extern, ForeignVisit, GivesPlaces, Id, IsEntry, IsKeyed, IsLegal, IsSeen, Key, Link, Makes, Occurrence, PackageFile, PackageName, SourceFunction, Stability, TypeDef, UnresolvedPackage, Whole, WorldInclude, WorldNamed, address, all_at_untaken, declarations, dep, dep_item, entry_of_interface, entry_of_world, filter, flat_map, foreign_entry, foreign_interface, foreign_interfaces, foreign_items, foreign_packages, foreign_turned, foreign_world, foreign_worlds, function_in, functions, include_in, includes, inline_entry, inline_items, interface_scopes, interface_turn, item_link, item_sort, item_turns, kept_at, keys, kind_of, leads, length-map, link_item, link_key, local_name, map_at, name_exprs, names_in_turn, option_map, option_or, own_interface, own_interfaces, own_world, package_of, path_scope, place_at, position-Some, same_address, same_package, scope_place, side_items, slice_get, slice_get_within, target_scope, turn_handles, unwrap_or, visited, world_scopes, worlds_of, AllZip, AreAt, AreRequired, Constructor, End, Expr, Exprs, Freestanding, FuncForm, Function, FunctionKind, HandleRequires, HasTypes, IsAt, IsBelow, IsFunction, IsKind, Method, More, Of, OnSide, Prim, Role, Span, Static, Turned, Use, at_within, expr_of, filter_map, freestanding_kind, function_types, method_kind, same_some, signature, static_kind}
 use Rattle.wit_arena.proofs.Common.{Item}
-use Rattle.wit_types.specs.declared.types.TypeOwner.TheVariants as owner
-use Rattle.wit_model.specs.declared.world.WorldItem.TheVariants as item
-use Rattle.wit_model.specs.declared.world.WorldKey.TheVariants as key
 use Rattle.wit_arena.proofs.Shape.{key_of}
 use Rattle.wit_parser.proofs.EachMade.{Entry, exports_each, imports_each, members_each}
 use Rattle.wit_parser.proofs.Images.{images_at}
 use Rattle.wit_parser.proofs.PartsSeen.{entries_made, made_places}
-use Rattle.wit_parser.proofs.PartsKeys.{ItemPresent, interface_seen, world_seen, foreign_seen}
-use Rattle.wit_parser.proofs.PartsPlaces.{function_in-is, name_places-are, seen_at}
-use Rattle.wit_parser.proofs.PartsScopes.{has_places}
-use Rattle.wit_parser.proofs.PartsSides.{HasPlaces}
-use Rattle.wit_parser.proofs.TypeIds.{key_within, parts_within, names_within, function_within, required_within}
-use Rattle.wit_parser.specs.Ids.{IsFunctionWithin, IsKeyWithin, IsItemWithin, IsOwnerWithin, IsTypeWithin, IsInterfaceWithin, IsWorldWithin, IsForeignWithin, AreIdsWithin}
+use Rattle.wit_parser.proofs.PartsOrders.{ItemPresent, interface_seen, world_seen, foreign_seen}
+use Rattle.wit_parser.proofs.PartsTurns.{function_in-is, name_places-are, seen_at}
+use Rattle.wit_parser.proofs.PartsScopes.{has_places, HasPlaces}
+use Rattle.wit_parser.specs.Ids.{IsFunctionWithin, IsKeyWithin, IsItemWithin, IsOwnerWithin, IsTypeWithin, IsInterfaceWithin, IsWorldWithin, IsForeignWithin, AreIdsWithin, AreTypesWithin, AreNamesWithin}
+use Rattle.wit_types.specs.declared.types.«Type».{«Type» as Ty}
+use Rattle.wit_functions.specs.FunctionKinds.{resource_of}
+use Rattle.wit_arena.proofs.OneKind.{primitive_below}
+use Rattle.wit_arena.proofs.Resolving.{function_typed}
+use Rattle.wit_types.specs.declared.types.TypeOwner.TheVariants as owner
+use Rattle.wit_model.specs.declared.world.WorldItem.TheVariants as item
+use Rattle.wit_model.specs.declared.world.WorldKey.TheVariants as key
+use Rattle.wit_type_tree.specs.declared.types.FuncForm.TheVariants as form
+
+-- Types, functions and names over the keys that occurred: their ids are places of types.
+-- the resource of a kind, by its form
+free_resource : (f : FuncForm) (id : ℕ) → resource_of (freestanding_kind f) ≡ Some id → ⊥
+free_resource form.Plain id h = let f : ⊥ = cc in f
+free_resource _ id h = let f : ⊥ = cc in f
+
+method_resource : (f : FuncForm) (r : ℕ) → resource_of (method_kind f r) ≡ Some r
+method_resource form.Plain r = refl
+method_resource _ r = refl
+
+static_resource : (f : FuncForm) (r : ℕ) → resource_of (static_kind f r) ≡ Some r
+static_resource form.Plain r = refl
+static_resource _ r = refl
+
+-- what is kept of options is among them
+kept_from : {X : Type 0} (each : List (Option X)) (k : ℕ) (x : X) → slice_get (filter_map (λ r. r) each) k ≡ Some x → (i : ℕ) × (slice_get each i ≡ Some (Some x))
+kept_from [] k x at = absurd (let f : ⊥ = cc in f)
+kept_from (None ∷ each) k x at = (let it = kept_from each k x at in (suc it.0, it.1))
+kept_from (Some y ∷ each) zero x at = (0, ap Some at)
+kept_from (Some y ∷ each) (suc k) x at = (let it = kept_from each k x at in (suc it.0, it.1))
+
+-- each key that occurred is that of a type
+module _ (p : UnresolvedPackage) (ks : List Key) (count : length p.types ≡ length ks) where
+  pub key_within : (id : ℕ) (k : Key) → slice_get ks id ≡ Some k → id < length p.types
+  key_within id k at = let within = slice_get_within ks id k at in omega (arith, count, within)
+
+  pub type_within : (x : Expr) (ty : Ty) → IsAt ks x ty → IsBelow (length p.types) ty
+  type_within (Prim q) ty h = subst (IsBelow (length p.types)) (sym h) (primitive_below (length p.types) q)
+  type_within (Use s name) ty h = rw h.1 (key_within h.0 (Def s name) h.2)
+  type_within (Of form parts) ty h = rw h.1 (key_within h.0 (Whole form parts) h.2)
+
+  pub parts_within : (xs : Exprs) (tys : List Ty) → AreAt ks xs tys → AreTypesWithin p tys
+  parts_within End [] are k ty at = absurd (let f : ⊥ = cc in f)
+  parts_within (More x xs) (t ∷ tys) are zero ty at = subst (IsBelow (length p.types)) (let same : t ≡ ty = cc in same) (type_within x t are.0)
+  parts_within (More x xs) (t ∷ tys) are (suc k) ty at = parts_within xs tys are.1 k ty at
+  parts_within _ tys are k ty at = absurd are
+
+  -- the names of a scope mean places of types
+  pub names_within : (t : Turned) (names : List (List ℕ × ℕ)) → HasTypes ks t names → AreNamesWithin p names
+  names_within t names has k name id at = key_within id (Def t.address name) (has.places k name id at)
+
+  -- the resource of a function
+  one_resource : (s : Address) (of : Id) (r id : ℕ) (k : FunctionKind) → resource_of k ≡ Some r → slice_get ks r ≡ Some (Def s of.name.now) → resource_of k ≡ Some id → id < length p.types
+  one_resource s of r id k is at has = subst (λ (n : ℕ). n < length p.types) (same_some (sym is ∙ has)) (key_within r (Def s of.name.now) at)
+
+  resource_within : (s : Address) (role : Role) (k : FunctionKind) → IsKind (λ name r. slice_get ks r ≡ Some (Def s name)) role k → (id : ℕ) → resource_of k ≡ Some id → id < length p.types
+  resource_within s (Freestanding of f) k is id has = absurd (free_resource f id (sym (ap resource_of is) ∙ has))
+  resource_within s (Method of f) k is id has = one_resource s of is.0 id k (ap resource_of is.1 ∙ method_resource f is.0) is.2 has
+  resource_within s (Static of f) k is id has = one_resource s of is.0 id k (ap resource_of is.1 ∙ static_resource f is.0) is.2 has
+  resource_within s (Constructor of) k is id has = one_resource s of is.0 id k (ap resource_of is.1) is.2 has
+  resource_within s (OnSide side of f) k is id has = absurd (free_resource f id (sym (ap resource_of is) ∙ has))
+
+  pub function_within : (s : Address) (fn : SourceFunction) (f : Function) → IsFunction ks s fn f → IsFunctionWithin p f
+  function_within s fn f is = record {
+    resource = resource_within s fn.role f.kind is.kind;
+    types = λ k ty at. (
+        let typed = function_typed ks s fn f is in
+        let within = slice_get_within (function_types f) k ty at in
+        let as_many = typed.count in
+        let x = at_within (signature fn) k (omega arith) in
+        type_within (expr_of s x.0) ty (typed.each k x.0 ty x.1 at));
+  }
+
+  -- what handles require
+  pub required_within : (files : List PackageFile) (hs : List (Address × Id)) (rs : List (ℕ × Span)) → AreRequired files ks hs rs → (k : ℕ) (r : ℕ × Span) → slice_get rs k ≡ Some r → r.0 < length p.types
+  required_within files hs rs h k r at =
+      let it = kept_from h.0 k r (ap (λ (l : List (ℕ × Span)). slice_get l k) (sym h.2) ∙ at) in
+      each hs h.0 h.1 it.0 it.1
+    where
+      each : (hs : List (Address × Id)) (qs : List (Option (ℕ × Span))) → AllZip (HandleRequires files ks) hs qs → (i : ℕ) → slice_get qs i ≡ Some (Some r) → r.0 < length p.types
+      each [] [] zipped i there = cc
+      each (x ∷ hs) (q ∷ qs) zipped zero there =
+          let far = subst (HandleRequires files ks x) (same_some there) zipped.0 in
+          key_within r.0 (Def far.0 far.1) far.3
+      each (x ∷ hs) (q ∷ qs) zipped (suc i) there = each hs qs zipped.1 i there
+      each hs qs zipped i there = absurd zipped
 
 -- what is found among addresses is among them
 place_within : (ss : List Address) (s : Address) (k : ℕ) → place_at ss s ≡ Some k → k < length ss

@@ -2,12 +2,11 @@
 use Rattle.std.proofs.Common.{◌≡◌, ℕ, List, Some, refl, sym, ap, ◌+◌, true, false, [], ◌∷◌, length, Option, None, ◌∙◌}
 use Rattle.wit_items.proofs.Common.{Address, AllDiffer, AreFunctions, DoneScope, ForeignVisit, HasTypes, Interface, IsDoneScope, IsForeignInterface, IsLegal, IsResolvedInterface, Key, Makes, PackageFile, TypeOwner, UnresolvedPackage, World, WorldNamed, address, by_name, differ_none, foreign_interface, foreign_interface_owner, foreign_interfaces, foreign_turned, foreign_world, foreign_world_owner, foreign_worlds, function_in, function_key, functions, functions_apart, functions_are, functions_imported, functions_of, inline_owner, interface_functions, interface_owner_at, interface_scope, interface_scopes, is_label, is_world, keys, laid_scope, map, map_map, named_interface, named_world, names_of, no_functions, option_and_then, option_map_or, option_or, own_interface, own_interfaces, own_world, owner_at, owner_of, placed, prefix_interface_done, prefix_world_done, slice_get, turn_is, turn_of, turned, uses_lead, visited, world_functions, world_owner_at, world_scope, world_scopes, world_types, worlds_of}
 use Rattle.wit_arena.proofs.Common.{Item}
-use Rattle.wit_parser.proofs.PartsKeys.{foreign_seen, interface_seen}
-use Rattle.wit_parser.proofs.PartsOrders.{ord, interface_item, interface_listed, no_two}
-use Rattle.wit_parser.proofs.PartsPlaces.{functions_in-are, name_places-are}
+use Rattle.wit_parser.proofs.PartsOrders.{foreign_seen, interface_seen, ord, interface_item, interface_listed, no_two}
+use Rattle.wit_parser.proofs.PartsTurns.{functions_in-are, name_places-are}
 use Rattle.wit_parser.proofs.PartsSeen.{made_places}
 use Rattle.wit_types.specs.declared.types.TypeOwner.TheVariants as owner
-use Rattle.wit_arena.proofs.Stating.{stated_placed}
+use Rattle.wit_arena.proofs.Settled.{stated_placed}
 use Rattle.wit_parser.proofs.Images.{first_at, second_at}
 
 module _ (files : List PackageFile) (p : UnresolvedPackage) (legal : IsLegal files) (m : Makes files p) where

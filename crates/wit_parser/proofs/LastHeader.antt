@@ -2,7 +2,7 @@
 use Rattle.std.proofs.Common.{◌≡◌, ℕ, true, false, List, [], ◌∷◌, ◌++◌, length, Option, Some, None, inl, inr, refl, sym, ap, ◌∙◌}
 use Rattle.wit_items.proofs.Common.{PackageFile, at_either, at_prefix, at_seam, is_some, last_header, last_header-append, option_and_then, option_cases, option_or, slice_get}
 use Rattle.wit_tree.specs.declared.tree.PackageName.{PackageName as Header}
-use Rattle.wit_items.specs.FileHeaders.{header_at}
+use Rattle.wit_items.specs.ItemPaths.{header_at}
 
 abbrev of_file : Option PackageFile → Option Header
 of_file o = option_and_then (λ (f : PackageFile). f.package_id) o

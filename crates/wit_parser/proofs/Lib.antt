@@ -1,22 +1,13 @@
 mod LastHeader
 mod Images
 mod EachMade
-mod WrittenMarks
 mod FunctionMarks
-mod TypeIds
-mod PartsPlaces
-pub mod PartsSides
-pub mod PartsScopes
-mod PartsReady
 mod PartsTurns
-mod PartsItems
-mod PartsOrders
+pub mod PartsScopes
 mod PartsSeen
-mod PartsWorlds
-mod PartsKeys
+mod PartsOrders
 mod KnownScopes
 mod KnownOwners
-mod KnownTurns
 mod KnownMembers
 mod PartsMade
 mod Ids

@@ -4,11 +4,10 @@ use Rattle.wit_items.proofs.Common.{Address, AllDiffer, DoneScope, HasArena, Int
 use Rattle.wit_types.specs.declared.types.TypeOwner.TheVariants as owner
 use Rattle.wit_arena.proofs.Faithful.{IsOwnerOf, AreOwners, name_at, type_at, faithful}
 use Rattle.wit_arena.proofs.Unknowns.{foreign_uses_prefix}
-use Rattle.wit_parser.proofs.Ids.{as_many_interfaces, as_many_types, as_many_worlds}
+use Rattle.wit_parser.proofs.Ids.{as_many_interfaces, as_many_types, as_many_worlds, type_within}
 use Rattle.wit_parser.proofs.KnownMembers.{decls, present, wholes, written}
-use Rattle.wit_parser.proofs.KnownTurns.{scopes, known_at, interface_resolved_scope, world_resolved_scope}
+use Rattle.wit_parser.proofs.KnownOwners.{scopes, known_at, interface_resolved_scope, world_resolved_scope}
 use Rattle.wit_parser.proofs.PartsSeen.{collects, made_places}
-use Rattle.wit_parser.proofs.TypeIds.{type_within}
 
 module _ (files : List PackageFile) (p : UnresolvedPackage) (legal : IsLegal files) (m : Makes files p) where
   abbrev cs : List DoneScope

@@ -4,10 +4,9 @@ use Rattle.wit_items.proofs.Common.{Address, AllDiffer, AreAt, Collects, Contain
 use Rattle.wit_arena.proofs.Common.{Item}
 use Rattle.wit_types.specs.declared.types.«Type».{«Type» as Ty}
 use Rattle.wit_arena.specs.Occurrences.{settled}
-use Rattle.wit_arena.proofs.FirstsOf.{firsts-collects, firsts-differ}
-use Rattle.wit_parser.proofs.PartsItems.{all_ready, no_parts}
-use Rattle.wit_parser.proofs.PartsPlaces.{AllPresent, types_of-at}
-use Rattle.wit_parser.proofs.PartsReady.{PartsPresent, Ready, collects_prefix, seen_ready, ready_wider}
+use Rattle.wit_arena.proofs.Occurrence.{firsts-collects, firsts-differ}
+use Rattle.wit_parser.proofs.PartsScopes.{all_ready, no_parts}
+use Rattle.wit_parser.proofs.PartsTurns.{AllPresent, types_of-at, PartsPresent, Ready, collects_prefix, seen_ready, ready_wider}
 
 -- what occurs is in the end
 pub collects_has : (ls ms all : List Occurrence) → Collects ms ls all → (k : Key) → Has (keys ls) k → IsSeen (keys all) k

@@ -6,7 +6,7 @@ ghost use Rattle.wit_syntax.specs.Broken.{IsBroken, IsLegal, Refused, headers, l
 ghost use Rattle.wit_first.specs.First.{Finds, FindsBy};
 ghost use Rattle.wit_first.specs.HeaderFaults.{have_docs as the_docs, nesting_fault, other_fault, push_fault};
 ghost use Rattle.wit_walk.specs.Walk.{ComesTo};
-ghost use Rattle.wit_items.specs.FileHeaders.{header_at};
+ghost use Rattle.wit_items.specs.ItemPaths.{header_at};
 ghost use Rattle.wit_type_tree.specs.RefusalText.{IsAllocationFailure};
 ghost use Rattle.wit_arena.specs.Made.{Makes};
 ghost use Rattle.wit_arena.specs.Whole.{first_docs};

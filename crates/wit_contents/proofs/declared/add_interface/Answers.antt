@@ -1,4 +1,4 @@
-use Rattle.std.proofs.Common.{[], ◌∷◌, refl, length}
+use Rattle.std.proofs.Common.{[], ◌∷◌, length}
 use Rattle.wit_contents.proofs.Names.{found_put, found_wider, index_interface, interface_name, prefix_of, prefix_wider}
 use Rattle.wit_contents.proofs.declared.add_interface.Goals as goal
 
@@ -21,10 +21,13 @@ invariant_of-interfaces-2 c =
     let put = rw (c.in_ok-name.ensures.ok, c.in_ok-place.ensures.id) at c.put.ensures.ok in
     rw c.in_ok-place.ensures.ok (record {
       prefix = prefix_wider (length (prefix_of is.files)) is.arena (c.args.interface ∷ []) is.prefix;
-      found = found_put interface_name c.put.result (length (prefix_of is.files)) is.arena is.by_name _ c.args.interface c.args.name.now is.prefix is.found c.requires.1 put c.put.ensures.err;
+      found = found_put interface_name c.put.result (length (prefix_of is.files)) is.arena is.by_name _ c.args.interface c.args.name.now is.prefix is.found c.requires.named put c.put.ensures.err;
     })
 
-pub returns-clause-adds : goal.returns-clause-adds
-returns-clause-adds c =
+pub returns-clause-added : goal.returns-clause-added
+returns-clause-added c = c.in_ok-place.ensures.ok
+
+pub returns-clause-index : goal.returns-clause-index
+returns-clause-index c =
     let is = c.args.interfaces.now in
-    (refl, c.in_ok-place.ensures.ok, rw (c.in_ok-place.ensures.ok, c.in_ok-put.ensures.ok, c.in_ok-name.ensures.ok, c.in_ok-place.ensures.id) (index_interface (prefix_of is.files) is.arena is.by_name c.args.interface c.args.name.now is.prefix c.requires.0 c.requires.1))
+    rw (c.in_ok-place.ensures.ok, c.in_ok-put.ensures.ok, c.in_ok-name.ensures.ok, c.in_ok-place.ensures.id) (index_interface (prefix_of is.files) is.arena is.by_name c.args.interface c.args.name.now is.prefix c.requires.index c.requires.named)

@@ -1,6 +1,6 @@
 use Rattle.std.proofs.Common.{ap, arith}
-use Rattle.wit_externs.specs.AloneFaults.{lone_setters}
-use Rattle.wit_item_entries.proofs.NoFunctions.{no_functions}
+use Rattle.wit_externs.specs.Clash.{lone_setters}
+use Rattle.wit_item_entries.proofs.NameOrder.{no_functions}
 use Rattle.wit_contents.proofs.interface.check_pairs.Goals as goal
 
 pub check_setters-requires : goal.check_setters-requires

@@ -1,22 +1,25 @@
 use Rattle.std.proofs.Common.{◌≡◌, List, ◌++◌, Option, map, refl, sym, ap, ◌∙◌, subst}
 use Rattle.wit_contents.proofs.Names.{Fault, Imported, IsTurn, ScopeName, SideFunction, SourceFunction, env_of, err_from_is_err_and, functions, none_both, option_or, scope_item, side_items_functions}
-use Rattle.wit_rules.specs.BorrowedFunctions.{function_view}
-use Rattle.wit_signatures.specs.ForeignName.{name_of_id, name_of_function}
-use Rattle.wit_externs.specs.AloneFaults.{lone_setters}
+use Rattle.wit_rules.specs.Signatures.{function_view}
+use Rattle.wit_signatures.specs.FunctionsOfScope.{name_of_id, name_of_function}
+use Rattle.wit_externs.specs.Clash.{lone_setters, all_on}
 use Rattle.wit_externs.proofs.AloneFaults.{safe_of}
-use Rattle.wit_externs.specs.Clash.{all_on}
-use Rattle.wit_item_entries.proofs.InterfaceSides.{all_imported, names_imported}
+use Rattle.wit_item_entries.proofs.NameOrder.{all_imported, names_imported}
 use Rattle.wit_item_entries.proofs.ScopeFunctions.{turn_added, made_differ}
 use Rattle.wit_contents.proofs.FileFaults.{or_found}
 use Rattle.wit_contents.proofs.interface.functions_of.Goals as goal
 
-pub resolve_item_functions-requires : goal.resolve_item_functions-requires
-resolve_item_functions-requires c = rw c.deref.ensures.value (record {
-  sort = c.requires.sort;
-  named = c.requires.named;
-  turn = subst (λ (xs : List ScopeName). IsTurn xs c.args.names.now.turn.items) (sym c.requires.named) (turn_added _ _ _ _ _ _ _ _ c.requires.added.3);
-  listed = c.args.names.now.listed;
-})
+pub resolve_item_functions-requires-clause-sort : goal.resolve_item_functions-requires-clause-sort
+resolve_item_functions-requires-clause-sort c = c.requires.sort
+
+pub resolve_item_functions-requires-clause-named : goal.resolve_item_functions-requires-clause-named
+resolve_item_functions-requires-clause-named c = c.requires.named
+
+pub resolve_item_functions-requires-clause-turn : goal.resolve_item_functions-requires-clause-turn
+resolve_item_functions-requires-clause-turn c = rw c.deref.ensures.value (subst (λ (xs : List ScopeName). IsTurn xs c.args.names.now.turn.items) (sym c.requires.named) (turn_added _ _ _ _ _ _ _ _ c.requires.added.3))
+
+pub resolve_item_functions-requires-clause-listed : goal.resolve_item_functions-requires-clause-listed
+resolve_item_functions-requires-clause-listed c = rw c.deref.ensures.value c.args.names.now.listed
 
 pub check_pairs-requires : goal.check_pairs-requires
 check_pairs-requires c = λ some.

@@ -1,9 +1,8 @@
 use Rattle.std.proofs.Common.{◌++◌, [], List, sym, ap, ◌∙◌}
-use Rattle.wit_contents.proofs.Names.{IsStart, ItemWalk, Name, err_from_is_err_and, first_after, functions_items, item_view, items_on, none_both, option_or, reports_back, reports_prefix, reports_same, setters_fault, side_items, walk_item}
+use Rattle.wit_contents.proofs.Names.{IsStart, ItemWalk, Name, err_from_is_err_and, first_after, functions_items, item_view, items_on, none_both, option_or, reports_back, reports_prefix, reports_same, setters_fault, side_items}
 use Rattle.wit_contents.specs.declared.walk.Walked.{Walked}
 use Rattle.wit_externs.specs.Clash.{names_of_items}
-use Rattle.wit_contents.proofs.WorldParts.{texts_differ}
-use Rattle.wit_contents.proofs.WorldFaults.{next_all, setters_closed}
+use Rattle.wit_contents.proofs.WorldFaults.{texts_differ, next_all, setters_closed}
 use Rattle.wit_contents.proofs.sides.walk_sides.Goals as goal
 
 pub declared_world-world-requires : goal.declared_world-world-requires
@@ -25,8 +24,8 @@ check_closed-requires c =
     let w : ItemWalk = record { item = c.args.item.now; scope = c.args.scope.now; interfaces = c.args.interfaces.now } in
     let e = rw c.deref-turn.ensures.value at c.in_ok-members.ensures in
     let start : Walked = record { members = c.in_ok-members.members; required = c.new.result; seen = c.none.result } in
-    let all = side_items (walk_item w) in
-    rw (c.deref-turn.ensures.value, c.deref-functions.ensures.value) (all, sym (functions_items (walk_item w)) ∙ sym c.requires.functions, λ s. (c.in_ok-walk_parts.ensures.adds (next_all w start c.requires c.none.ensures e.keyed)).in_use s ∙ ap (λ (l : List Name). l ++ names_of_items (items_on s all)) (e.in_use s))
+    let all = side_items (item_view w.item) in
+    rw (c.deref-turn.ensures.value, c.deref-functions.ensures.value) (all, sym (functions_items (item_view w.item)) ∙ sym c.requires.functions, λ s. (c.in_ok-walk_parts.ensures.adds (next_all w start c.requires c.none.ensures e.keyed)).in_use s ∙ ap (λ (l : List Name). l ++ names_of_items (items_on s all)) (e.in_use s))
 
 pub returns-clause-adds : goal.returns-clause-adds
 returns-clause-adds c =
@@ -52,7 +51,7 @@ returns-in_err-walk_parts-clause-first c =
     let start : Walked = record { members = c.in_ok-members.members; required = c.new.result; seen = c.none.result } in
     let begun : IsStart w start = record { required = c.new.ensures.items; seen = c.none.ensures; keyed = e.keyed; in_use = e.in_use; linked = e.linked; imports = e.imports; exports = e.exports } in
     let next = next_all w start c.requires c.none.ensures e.keyed in
-    rw (p.1, p.2) (λ member right. reports_back e.first (reports_prefix (setters_fault (walk_item w)) (c.in_err-walk_parts.ensures.first next member (right start begun))))
+    rw (p.1, p.2) (λ member right. reports_back e.first (reports_prefix (setters_fault (item_view w.item)) (c.in_err-walk_parts.ensures.first next member (right start begun))))
 
 pub returns-in_err-check_closed-clause-first : goal.returns-in_err-check_closed-clause-first
 returns-in_err-check_closed-clause-first c =
@@ -63,7 +62,7 @@ returns-in_err-check_closed-clause-first c =
     let begun : IsStart w start = record { required = c.new.ensures.items; seen = c.none.ensures; keyed = e.keyed; in_use = e.in_use; linked = e.linked; imports = e.imports; exports = e.exports } in
     let next = next_all w start c.requires c.none.ensures e.keyed in
     let closed = rw c.deref-functions.ensures.value at c.in_err-check_closed.ensures.first in
-    rw (p.1, p.2) (λ member right. reports_back e.first (reports_back (c.in_ok-walk_parts.ensures.first next member (right start begun)) (reports_same (setters_closed (walk_item w) _ c.requires.functions c.args.scope.now.closed c.requires.closed) closed)))
+    rw (p.1, p.2) (λ member right. reports_back e.first (reports_back (c.in_ok-walk_parts.ensures.first next member (right start begun)) (reports_same (setters_closed (item_view w.item) _ c.requires.functions c.args.scope.now.closed c.requires.closed) closed)))
 
 pub returns-clause-first : goal.returns-clause-first
 returns-clause-first c = λ member right.
@@ -73,4 +72,4 @@ returns-clause-first c = λ member right.
     let begun : IsStart w start = record { required = c.new.ensures.items; seen = c.none.ensures; keyed = e.keyed; in_use = e.in_use; linked = e.linked; imports = e.imports; exports = e.exports } in
     let next = next_all w start c.requires c.none.ensures e.keyed in
     let closed = rw c.deref-functions.ensures.value at c.in_ok-check_closed.ensures.first in
-    none_both e.first (none_both (c.in_ok-walk_parts.ensures.first next member (right start begun)) (sym (setters_closed (walk_item w) _ c.requires.functions c.args.scope.now.closed c.requires.closed) ∙ closed))
+    none_both e.first (none_both (c.in_ok-walk_parts.ensures.first next member (right start begun)) (sym (setters_closed (item_view w.item) _ c.requires.functions c.args.scope.now.closed c.requires.closed) ∙ closed))

@@ -6,12 +6,14 @@ use Rattle.wit_contents.proofs.walk.walk_extern.Goals as goal
 pub declared_world-world-requires : goal.declared_world-world-requires
 declared_world-world-requires c = c.requires.walk.world.sort
 
-pub walk_inline-requires : goal.walk_inline-requires
-walk_inline-requires c = record {
-  next = rw (c.in-Interface.is, ← c.deref.ensures.value) at c.requires;
-  world = ap (λ (d : Declared). (about d).id.name.now) (sym c.declared_world-world.ensures);
-  place = ap (λ (k : Counts). k.interfaces) c.on-counts.ensures;
-}
+pub walk_inline-requires-clause-next : goal.walk_inline-requires-clause-next
+walk_inline-requires-clause-next c = rw (c.in-Interface.is, ← c.deref.ensures.value) at c.requires
+
+pub walk_inline-requires-clause-world : goal.walk_inline-requires-clause-world
+walk_inline-requires-clause-world c = ap (λ (d : Declared). (about d).id.name.now) (sym c.declared_world-world.ensures)
+
+pub walk_inline-requires-clause-place : goal.walk_inline-requires-clause-place
+walk_inline-requires-clause-place c = ap (λ (k : Counts). k.interfaces) c.on-counts.ensures
 
 pub walk_function-requires : goal.walk_function-requires
 walk_function-requires c = rw (c.in-Func.is, ← c.extern_part_function-borrowed.ensures) at c.requires

@@ -1,7 +1,7 @@
 use Rattle.std.proofs.Common.{sym, ◌∙◌}
-use Rattle.wit_contents.proofs.Names.{env_of, err_from_is_err_and, none_both, reports_back, reports_prefix, reports_same, scope_names, stage, walk_item, walk_of}
+use Rattle.wit_contents.proofs.Names.{env_of, err_from_is_err_and, none_both, reports_back, reports_prefix, reports_same, scope_names, stage, walk_of, item_view}
 use Rattle.wit_item_entries.proofs.ReachedFaults.{done, failed}
-use Rattle.wit_rules.specs.BorrowedFunctions.{function_view}
+use Rattle.wit_rules.specs.Signatures.{function_view}
 use Rattle.wit_externs.proofs.DoneFunctions.{same_name}
 use Rattle.wit_contents.proofs.FileFaults.{memory_found}
 use Rattle.wit_contents.proofs.MemberFaults.{function_ends, function_found, function_is, function_next, function_owners, function_scoped, function_within}
@@ -34,7 +34,7 @@ returns-in_err-function-clause-first c =
     let w = walk_of c.args.item.now c.args.walk.now in
     let e = rw c.deref.ensures.value at c.in_err-function.ensures in
     rw (p.1, p.2) (λ n. function_found (failed _) w (function_view c.args.borrowed) (stage c.args.growing.now c.args.walked.now) n (λ handle from.
-    reports_prefix _ (reports_same (function_is n c.resolve_function.new.types handle (function_ends (env_of w.scope.names.types) c.args.growing.now.types c.resolve_function.new.types handle from e.finds.extended)) (e.finds.first (scope_names (walk_item w)) (record { names = function_scoped n; results = n.walk.results }) _ (function_next n)))))
+    reports_prefix _ (reports_same (function_is n c.resolve_function.new.types handle (function_ends (env_of w.scope.names.types) c.args.growing.now.types c.resolve_function.new.types handle from e.finds.extended)) (e.finds.first (scope_names (item_view w.item)) (record { names = function_scoped n; results = n.walk.results }) _ (function_next n)))))
 
 pub returns-in_err-put_function-clause-first : goal.returns-in_err-put_function-clause-first
 returns-in_err-put_function-clause-first c =
@@ -43,7 +43,7 @@ returns-in_err-put_function-clause-first c =
     let e = rw c.deref.ensures.value at c.in_ok-function.ensures in
     rw (p.1, p.2) (λ n. function_found (failed _) w (function_view c.args.borrowed) (stage c.args.growing.now c.args.walked.now) n (λ handle from. (
     let is = function_is n c.resolve_function.new.types handle (function_ends (env_of w.scope.names.types) c.args.growing.now.types c.resolve_function.new.types handle from e.finds.extended) in
-    reports_back (sym is ∙ e.finds.first (scope_names (walk_item w)) (record { names = function_scoped n; results = n.walk.results }) _ (function_next n)) c.in_err-put_function.ensures.first)))
+    reports_back (sym is ∙ e.finds.first (scope_names (item_view w.item)) (record { names = function_scoped n; results = n.walk.results }) _ (function_next n)) c.in_err-put_function.ensures.first)))
 
 pub returns-in_err-seen-clause-first : goal.returns-in_err-seen-clause-first
 returns-in_err-seen-clause-first c = λ n test right. memory_found _ c.from_residual-in_err-seen.result c.from_residual-in_err-seen.ensures.1
@@ -54,4 +54,4 @@ returns-clause-first c = λ n.
     let e = rw c.deref.ensures.value at c.in_ok-function.ensures in
     function_found (done c.in_ok-function.function) w (function_view c.args.borrowed) (stage c.args.growing.now c.args.walked.now) n (λ handle from. (
     let is = function_is n c.resolve_function.new.types handle (function_ends (env_of w.scope.names.types) c.args.growing.now.types c.resolve_function.new.types handle from e.finds.extended) in
-    none_both (sym is ∙ e.finds.first (scope_names (walk_item w)) (record { names = function_scoped n; results = n.walk.results }) _ (function_next n)) c.in_ok-put_function.ensures.first))
+    none_both (sym is ∙ e.finds.first (scope_names (item_view w.item)) (record { names = function_scoped n; results = n.walk.results }) _ (function_next n)) c.in_ok-put_function.ensures.first))

@@ -1,5 +1,5 @@
 use Rattle.std.proofs.Common.{◌≡◌, ◌∷◌, [], None, length, refl, ap, ◌∙◌, subst}
-use Rattle.wit_contents.proofs.Names.{AddsInside, err_from_is_err_and, flat_map, inline_after, inline_of, inline_side, inside_view, is_world, item_inline, items_on, metadata_fault, none_both, reports_back, reports_prefix, stage, walk_item, walk_of}
+use Rattle.wit_contents.proofs.Names.{AddsInside, err_from_is_err_and, flat_map, inline_after, inline_of, inline_side, inside_view, is_world, item_inline, items_on, metadata_fault, none_both, reports_back, reports_prefix, stage, walk_of, item_view}
 use Rattle.wit_links.specs.declared.inside.Counts.{Counts}
 use Rattle.wit_links.proofs.Inlined.{names_within}
 use Rattle.wit_item_entries.proofs.ReachedFaults.{done, failed}
@@ -14,27 +14,27 @@ inside_scope-scope-requires c =
     let x = c.args.inline in
     let side = x.written.now.side in
     let count : c.on-counts.result.inline ≡ length (flat_map item_inline (items_on side n.prefix)) = ap (λ (k : Counts). k.inline) c.on-counts.ensures ∙ n.seen.inline side in
-    record { within = names_within (inside_view side c.args.item.now) (walk_item (walk_of c.args.item.now c.args.walk.now)) n.prefix n.rest x.written.now x.name x.items.now c.on-counts.result.inline (n.walk.world.item.written side) n.sides count }
+    record { within = names_within (inside_view side c.args.item.now) (item_view c.args.item.now) n.prefix n.rest x.written.now x.name x.items.now c.on-counts.result.inline (n.walk.world.item.written side) n.sides count }
 
 pub resolve_inline-requires : goal.resolve_inline-requires
-resolve_inline-requires c = (
-  ap is_world c.inside_scope-scope.ensures.item,
-  record {
+resolve_inline-requires c = record {
+  sort = ap is_world c.inside_scope-scope.ensures.item;
+  lent = record {
     item = refl;
     named = names_inside c.args.inline c.requires.next c.requires.world c.requires.place c.inside_scope-scope.result c.on-counts.result.inline (ap (λ (k : Counts). k.inline) c.on-counts.ensures) c.inside_scope-scope.ensures.item c.inside_scope-scope.ensures.names;
     placed = names_placed c.args.inline c.requires.next c.requires.world c.requires.place c.inside_scope-scope.result c.on-counts.result.inline (ap (λ (k : Counts). k.inline) c.on-counts.ensures) c.inside_scope-scope.ensures.item c.inside_scope-scope.ensures.names;
-  },
-)
+  };
+}
 
 pub returns-clause-adds : goal.returns-clause-adds
 returns-clause-adds c = λ n.
     let w = walk_of c.args.item.now c.args.walk.now in
     let x = c.args.inline in
-    let u = inline_of (walk_item w) x in
+    let u = inline_of (item_view w.item) x in
     let says = c.in_ok-id.ensures in
     let types = c.resolve_inline.new.types in
     let inside = c.resolve_inline.new.inside in
-    let here : inline_after (walk_item w) n.prefix (inline_side x ∷ []) ≡ u ∷ [] = inline_here (walk_item w) n.prefix x c.requires.world (c.requires.place ∙ n.seen.interfaces x.written.now.side) in
+    let here : inline_after (item_view w.item) n.prefix (inline_side x ∷ []) ≡ u ∷ [] = inline_here (item_view w.item) n.prefix x c.requires.world (c.requires.place ∙ n.seen.interfaces x.written.now.side) in
     let step = subst (AddsInside w.interfaces c.args.growing.now.types types c.args.growing.now.inside inside c.args.walked.now.required.items c.resolve_inline.new.required.items) c.inside_scope-scope.ensures.item says.adds in
     let put = rw says.id at (c.in_ok-put_inline.ensures.puts x.items.now n.keyed) in
     member_inline w n.prefix (stage c.args.growing.now c.args.walked.now) x u types inside _ here step put (λ ys seen. c.in_ok-seen.ensures ys (inline_side x) (refl, refl, refl) seen)

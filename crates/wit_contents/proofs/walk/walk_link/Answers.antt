@@ -1,5 +1,5 @@
 use Rattle.std.proofs.Common.{◌≡◌, List, None, Some, length, refl, ap, ◌∙◌}
-use Rattle.wit_contents.proofs.Names.{SideItem, SideLink, declared_view, err_from_is_err_and, filed_item, metadata_fault, path_link, path_scope, prefix_of, side_items, slice_get, stage, walk_item, walk_of}
+use Rattle.wit_contents.proofs.Names.{SideItem, SideLink, declared_view, err_from_is_err_and, filed_item, metadata_fault, path_link, path_scope, prefix_of, side_items, slice_get, stage, walk_of, item_view}
 use Rattle.wit_externs.proofs.Steps.{at_middle}
 use Rattle.wit_item_entries.proofs.ReachedFaults.{done, failed}
 use Rattle.wit_links.proofs.Leading.{called_at}
@@ -14,8 +14,8 @@ linked_id-requires c =
     let w = walk_of c.args.item.now c.args.walk.now in
     let n = c.requires in
     let link = path_link c.args.link in
-    let at : slice_get (side_items (walk_item w)) (length n.prefix) ≡ Some (SideLink link) = ap (λ (l : List SideItem). slice_get l (length n.prefix)) n.sides ∙ at_middle n.prefix (SideLink link) n.rest in
-    record { path = record { declared = declared_view w.item.declared; item = filed_item w.interfaces.files w.item n.walk.world.item.filed; among = path_among (walk_item w) (length n.prefix) link at } }
+    let at : slice_get (side_items (item_view w.item)) (length n.prefix) ≡ Some (SideLink link) = ap (λ (l : List SideItem). slice_get l (length n.prefix)) n.sides ∙ at_middle n.prefix (SideLink link) n.rest in
+    record { path = record { declared = declared_view w.item.declared; item = filed_item w.interfaces.files w.item n.walk.world.item; among = path_among (item_view w.item) (length n.prefix) link at } }
 
 pub returns-clause-adds : goal.returns-clause-adds
 returns-clause-adds c = λ g n.
@@ -24,7 +24,7 @@ returns-clause-adds c = λ g n.
     let link = path_link c.args.link in
     let id = c.in_ok-id.id in
     let leads = link_leads n id c.in_ok-id.ensures.leads in
-    let present = called_at (prefix_of is.files) is.arena is.by_name (path_scope (walk_item w).top link.path) id is.prefix is.found leads.1 in
+    let present = called_at (prefix_of is.files) is.arena is.by_name (path_scope (item_view w.item).top link.path) id is.prefix is.found leads.1 in
     member_link w n.prefix (stage g c.args.walked.now) link id _ leads.1 present refl (c.in_ok-put_link.ensures.puts n.keyed) (λ ys seen. c.in_ok-seen.ensures ys (SideLink link) (refl, refl, refl) seen)
 
 pub returns-in_err-check_metadata-clause-first : goal.returns-in_err-check_metadata-clause-first

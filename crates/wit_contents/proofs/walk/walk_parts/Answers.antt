@@ -1,5 +1,5 @@
 use Rattle.std.proofs.Common.{refl, sym, ap, ◌∙◌, subst, List}
-use Rattle.wit_contents.proofs.Names.{SideItem, err_from_is_err_and, side_items, stage, take_all, walk_item, walk_of}
+use Rattle.wit_contents.proofs.Names.{SideItem, err_from_is_err_and, side_items, stage, take_all, walk_of, item_view}
 use Rattle.wit_contents.proofs.MemberFaults.{AreDone, all_sides, nothing_done, part_done, part_first, part_kept, part_next, world_sides}
 use Rattle.wit_contents.proofs.walk.walk_parts.Goals.{in-TypeDef+in_ok-walk_definition-in-TypeDef, in-Use, in-Include, in-Extern+in_ok-walk_extern-in-Extern}
 use Rattle.wit_contents.proofs.walk.walk_parts.Goals as goal
@@ -36,14 +36,14 @@ returns-clause-adds c =
     let w = walk_of c.args.item.now c.args.walk.now in
     let xs = c.world_items-part-items.result.now in
     let whole = ap world_sides (take_all c.loop-part.part-index xs c.loop-part-test.false) ∙ sym (all_sides w _ xs c.declared_world-world.ensures c.world_items-part-items.ensures) in
-    (subst (λ (l : List SideItem). AreDone w (side_items (walk_item w)) l (stage c.args.growing.now c.args.walked.now) (stage c.loop-part.growing c.loop-part.walked)) whole c.loop-part.invariant).adds
+    (subst (λ (l : List SideItem). AreDone w (side_items (item_view w.item)) l (stage c.args.growing.now c.args.walked.now) (stage c.loop-part.growing c.loop-part.walked)) whole c.loop-part.invariant).adds
 
 pub returns-clause-first : goal.returns-clause-first
 returns-clause-first c =
     let w = walk_of c.args.item.now c.args.walk.now in
     let xs = c.world_items-part-items.result.now in
     let whole = ap world_sides (take_all c.loop-part.part-index xs c.loop-part-test.false) ∙ sym (all_sides w _ xs c.declared_world-world.ensures c.world_items-part-items.ensures) in
-    (subst (λ (l : List SideItem). AreDone w (side_items (walk_item w)) l (stage c.args.growing.now c.args.walked.now) (stage c.loop-part.growing c.loop-part.walked)) whole c.loop-part.invariant).none
+    (subst (λ (l : List SideItem). AreDone w (side_items (item_view w.item)) l (stage c.args.growing.now c.args.walked.now) (stage c.loop-part.growing c.loop-part.walked)) whole c.loop-part.invariant).none
 
 pub returns-in_err-walk_definition-in-TypeDef-clause-first : goal.returns-in_err-walk_definition-in-TypeDef-clause-first
 returns-in_err-walk_definition-in-TypeDef-clause-first c =

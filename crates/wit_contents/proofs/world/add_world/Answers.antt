@@ -1,4 +1,4 @@
-use Rattle.std.proofs.Common.{[], ◌∷◌, refl, length, Some, ap}
+use Rattle.std.proofs.Common.{[], ◌∷◌, length, Some, ap}
 use Rattle.wit_contents.proofs.Names.{found_put, found_wider, index_world, others_of, prefix_wider, world_name}
 use Rattle.wit_contents.proofs.world.add_world.Goals as goal
 
@@ -21,10 +21,13 @@ invariant_of-worlds-2 c =
     let put = rw (c.in_ok-name.ensures.ok, c.in_ok-place.ensures.id) at c.put.ensures.ok in
     rw c.in_ok-place.ensures.ok (record {
       prefix = prefix_wider (length (others_of ws.interfaces.now.files)) ws.arena (c.args.world ∷ []) ws.prefix;
-      found = found_put world_name c.put.result (length (others_of ws.interfaces.now.files)) ws.arena ws.by_name _ c.args.world c.args.name.now ws.prefix ws.found (ap Some c.requires.1) put c.put.ensures.err;
+      found = found_put world_name c.put.result (length (others_of ws.interfaces.now.files)) ws.arena ws.by_name _ c.args.world c.args.name.now ws.prefix ws.found (ap Some c.requires.named) put c.put.ensures.err;
     })
 
-pub returns-clause-adds : goal.returns-clause-adds
-returns-clause-adds c =
+pub returns-clause-added : goal.returns-clause-added
+returns-clause-added c = c.in_ok-place.ensures.ok
+
+pub returns-clause-index : goal.returns-clause-index
+returns-clause-index c =
     let ws = c.args.worlds.now in
-    (refl, c.in_ok-place.ensures.ok, rw (c.in_ok-place.ensures.ok, c.in_ok-put.ensures.ok, c.in_ok-name.ensures.ok, c.in_ok-place.ensures.id) (index_world (others_of ws.interfaces.now.files) ws.arena ws.by_name c.args.world c.args.name.now ws.prefix c.requires.0 c.requires.1))
+    rw (c.in_ok-place.ensures.ok, c.in_ok-put.ensures.ok, c.in_ok-name.ensures.ok, c.in_ok-place.ensures.id) (index_world (others_of ws.interfaces.now.files) ws.arena ws.by_name c.args.world c.args.name.now ws.prefix c.requires.index c.requires.named)

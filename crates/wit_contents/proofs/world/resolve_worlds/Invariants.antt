@@ -1,7 +1,7 @@
 use Rattle.std.proofs.Common.{◌≡◌, [], None, Option, map, take}
 use Rattle.wit_contents.proofs.Names.{AreRightOfWorlds, Fault, IsNameIndex, WorldNamed, first_in, in_order, item_view, others_of, prefix_of, worlds_at, worlds_of}
 use Rattle.wit_arena.proofs.Common.{Item}
-use Rattle.wit_contents.proofs.WorldsMore.{AreWorldsTo}
+use Rattle.wit_contents.proofs.Members.{AreWorldsTo}
 use Rattle.wit_contents.proofs.world.resolve_worlds.Given as goal
 
 abbrev pub invariant-loop-place : goal.invariant-loop-place

@@ -1,13 +1,12 @@
-use Rattle.std.proofs.Common.{◌++◌, Bool, List, length, map, sym, ap, ◌∙◌, subst}
-use Rattle.wit_contents.proofs.Names.{AddsContent, AllDiffer, AreIncludes, Exported, HasItem, Id, IfOk-weaker, Imported, IsSettled, IsTurn, addresses_of, err_from_is_err_and, filed_item, finds_memory, in_turn, includes as written_includes, includes_fault, is_ascii_uppercase, item_view, list_any, local_name, name_view, others_of, reports_same, scope_names}
+use Rattle.std.proofs.Common.{◌++◌, Bool, List, length, map, sym, ap, ◌∙◌, subst, inl}
+use Rattle.wit_contents.proofs.Names.{AllDiffer, AreIncludes, Exported, HasItem, Id, Imported, IsTurn, addresses_of, err_from_is_err_and, filed_item, in_turn, includes as written_includes, includes_fault, is_ascii_uppercase, item_view, list_any, local_name, name_view, others_of, reports_same, scope_names}
 use Rattle.wit_contents.specs.declared.walk.Growing.{Growing}
 use Rattle.wit_contents.specs.declared.walk.WorldScope.{WorldScope}
 use Rattle.wit_arena.proofs.Common.{Item}
 use Rattle.wit_item_entries.proofs.ScopeFunctions.{turn_added}
 use Rattle.wit_item_entries.proofs.ReachedFaults.{done, failed}
 use Rattle.wit_contents.proofs.FileFaults.{memory_found}
-use Rattle.wit_contents.proofs.WorldParts.{alone_adds, alone_none, content_adds, none_there, walk_there}
-use Rattle.wit_contents.proofs.WorldFaults.{includes_first, item_here, names_first, world_alone, world_found}
+use Rattle.wit_contents.proofs.WorldFaults.{alone_adds, alone_none, content_adds, none_there, walk_there, includes_first, item_here, names_first, world_alone, world_found}
 use Rattle.wit_contents.proofs.world.world_content.Goals as goal
 
 -- whether a name has a letter in upper case
@@ -20,7 +19,7 @@ world_names-requires c = c.requires.item
 pub resolve_includes-requires : goal.resolve_includes-requires
 resolve_includes-requires c =
     let files = c.args.worlds.now.interfaces.now.files in
-    record { item = subst (HasItem files c.args.item.now.place) c.declared_world-world.ensures (filed_item files c.args.item.now c.requires.item.filed) }
+    record { item = subst (HasItem files c.args.item.now.place) c.declared_world-world.ensures (filed_item files c.args.item.now c.requires.item) }
 
 -- nothing comes after its names
 pub sides_of_names-requires : goal.sides_of_names-requires
@@ -81,15 +80,14 @@ returns-clause-adds c =
     let scope : WorldScope = record { names = c.in_ok-names.names; results = c.in_ok-written.written.results; functions = c.in_ok-written.written.functions; closed = c.is_closed-closed.result } in
     let closed = c.is_closed-closed.ensures (written_includes (item_view c.args.item.now)) (ap length c.as_slice.ensures ∙ are.count) in
     let walks = walk_there c.args.worlds.now.interfaces.now c.args.item.now scope _ _ c.requires c.declared_world-world.ensures (turn_added _ _ _ _ _ _ _ _ c.in_ok-names.ensures.adds) c.in_ok-written.ensures.functions c.deref-2.ensures.value c.in_ok-written.ensures.results closed in
-    let before = c.args.resolving.now.required.items in
-    let after = c.settled_content.new.required in
+    let made = c.in_ok-content.ensures in
     let middle : Growing = record { types = c.world_names.new.types; inside = c.args.resolving.now.growing.inside } in
     let new = c.walk_sides.new.growing in
-    IfOk-weaker c.settled_content.result (IsSettled scope m c.in_ok-includes.includes before after.items) (AddsContent ws c.args.item.now c.args.resolving.now (record { growing = new; required = after })) (λ content made world has ss known. record {
+    λ world has ss known. record {
       own = required ++ m.required.items;
       list = made.required;
-      holds = content_adds (record { item = c.args.item.now; scope = scope; interfaces = is }) (others_of is.files) ws.arena c.args.resolving.now.growing.types middle new required m walks c.in_ok-names.ensures.adds h.0 h.1 h.2 world ss known has.says (has.imports ∙ made.sides Imported (written_includes item) closed) (has.exports ∙ made.sides Exported (written_includes item) closed) (rw (has.includes ∙ made.included) are);
-    }) c.settled_content.ensures.settled
+      holds = content_adds (record { item = c.args.item.now; scope = scope; interfaces = is }) (others_of is.files) ws.arena c.args.resolving.now.growing.types middle new required m walks c.in_ok-names.ensures.adds h.0 h.1 h.2 world ss known has.says (has.imports ∙ made.sides Imported (written_includes item) closed) (has.exports ∙ made.sides Exported (written_includes item) closed) (rw (has.includes ∙ made.includes) are);
+    }
 
 -- the first fault: of its names, of its includes, or of what is on its sides
 pub returns-in_err-names-clause-first : goal.returns-in_err-names-clause-first
@@ -127,7 +125,7 @@ returns-clause-first c = λ stable wrong right.
     let scope : WorldScope = record { names = c.in_ok-names.names; results = c.in_ok-written.written.results; functions = c.in_ok-written.written.functions; closed = c.is_closed-closed.result } in
     let closed = c.is_closed-closed.ensures (written_includes (item_view c.args.item.now)) (ap length c.as_slice.ensures ∙ are.count) in
     let walks = walk_there c.args.worlds.now.interfaces.now c.args.item.now scope _ _ c.requires c.declared_world-world.ensures (turn_added _ _ _ _ _ _ _ _ c.in_ok-names.ensures.adds) c.in_ok-written.ensures.functions c.deref-2.ensures.value c.in_ok-written.ensures.results closed in
-    finds_memory (wrong (item_view c.args.item.now)) c.settled_content.result (world_found c.args.worlds.now c.args.item.now c.args.resolving.now.growing wrong right c.requires.item.named stable scope c.world_names.new.types e.adds e.first included (done c.in_ok-walked.walked) walks c.in_ok-walked.ensures.first) c.settled_content.ensures.refused
+    world_found c.args.worlds.now c.args.item.now c.args.resolving.now.growing wrong right c.requires.item.named stable scope c.world_names.new.types e.adds e.first included (done c.in_ok-walked.walked) walks c.in_ok-walked.ensures.first
 
 -- or memory failed
 pub returns-in_err-sides-clause-first : goal.returns-in_err-sides-clause-first
@@ -135,3 +133,8 @@ returns-in_err-sides-clause-first c = λ stable wrong right. memory_found _ c.fr
 
 pub returns-in_err-written-clause-first : goal.returns-in_err-written-clause-first
 returns-in_err-written-clause-first c = λ stable wrong right. memory_found _ c.from_residual-in_err-written.result c.from_residual-in_err-written.ensures.1
+
+pub returns-in_err-content-clause-first : goal.returns-in_err-content-clause-first
+returns-in_err-content-clause-first c =
+    let p = err_from_is_err_and c.from_residual-in_err-content.result c.from_residual-in_err-content.ensures.1 in
+    rw (p.1, p.2) (λ stable wrong right. inl c.in_err-content.ensures.refused)

@@ -1,9 +1,13 @@
-use Rattle.wit_contents.proofs.Names.{HasContent, IsWorld, about, declared_metadata, err_from_is_err_and, item_view}
-use Rattle.wit_item_entries.proofs.Telling.{world_stated}
-use Rattle.wit_items.specs.SourceItems.{metadata_view}
+use Rattle.wit_contents.proofs.Names.{HasContent, IsWorld, about, declared_metadata, err_from_is_err_and, item_view, Id}
+use Rattle.wit_items.specs.BorrowedItems.{metadata_view}
+use Rattle.wit_item_entries.proofs.ScopeFunctions.{world_stated}
+use Rattle.std.proofs.Common.{ap, ◌∙◌}
 use Rattle.wit_contents.proofs.WorldFaults.{unstable_first}
 use Rattle.wit_contents.proofs.FileFaults.{memory_found}
 use Rattle.wit_contents.proofs.world.world_of.Goals as goal
+
+pub returns-clause-named : goal.returns-clause-named
+returns-clause-named c = c.in_ok-world.ensures.says.0 ∙ ap (λ (id : Id). id.name.now) c.declared_name-id.ensures
 
 pub returns-clause-adds : goal.returns-clause-adds
 returns-clause-adds c =
@@ -18,7 +22,7 @@ returns-clause-adds c =
       exports = e.exports;
       includes = e.includes;
     } in
-    record { named = says.0; world = content world own }
+    content world own
 
 pub returns-in_err-as_stated-clause-first : goal.returns-in_err-as_stated-clause-first
 returns-in_err-as_stated-clause-first c =

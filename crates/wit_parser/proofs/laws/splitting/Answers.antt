@@ -2,8 +2,7 @@ use Rattle.std.proofs.Common.{◌∙◌, ap, sym}
 use Rattle.wit_items.proofs.Common.{append-nil, file_declarations, flat_map, flat_map-flat_map, one_made}
 use Rattle.wit_files.specs.Visits.{item_visits, visits}
 use Rattle.wit_syntax.proofs.Joined.{joined_split}
-use Rattle.wit_arena.proofs.JoinedOccurrences.{joined_occurrences}
-use Rattle.wit_arena.proofs.JoinedMade.{joined_packages}
+use Rattle.wit_arena.proofs.JoinedMade.{joined_occurrences, joined_packages}
 use Rattle.wit_parser.proofs.laws.splitting.Goals as goal
 
 pub returns-clause-visits : goal.returns-clause-visits

@@ -1,7 +1,7 @@
 use Rattle.std.proofs.Common.{inl, sym, ap₂, ◌∙◌, subst}
 use Rattle.wit_items.proofs.Common.{Docs, Makes, PackageName, err_from_is_err_and, legal}
 use Rattle.wit_model.specs.Packages.{package_of_parts}
-use Rattle.wit_contents.specs.AddedFiles.{MakeContents}
+use Rattle.wit_contents.specs.Files.{MakeContents}
 use Rattle.wit_parser.proofs.FirstFault.{faultless, reported}
 use Rattle.wit_parser.proofs.resolver.resolve_named.Goals as goal
 

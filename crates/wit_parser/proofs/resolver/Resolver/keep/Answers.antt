@@ -1,6 +1,6 @@
 use Rattle.std.proofs.Common.{◌≡◌, sym, subst, ◌∙◌}
 use Rattle.wit_items.proofs.Common.{headers, headers-append, last_header}
-use Rattle.wit_items.specs.FileHeaders.{header_at}
+use Rattle.wit_items.specs.ItemPaths.{header_at}
 use Rattle.wit_parser.proofs.LastHeader.{some_is, none_is, header_more, header_kept}
 use Rattle.wit_parser.proofs.resolver.Resolver.keep.Goals as goal
 

@@ -1,0 +1,31 @@
+-- What files make, and their first fault from a step of the walk on.
+use Rattle.std.specs.Prelude.{◌≡◌, List, Result, Some, ℕ, Option, drop}
+use Rattle.wit_contents.specs.Names.{Interface, IsLegal, Makes, PackageFile, TypeDef, UnresolvedPackage, World, first_docs, headers, last_header, package_of, Address, EndsAt, Fault, Id, ParseError, Row, Word, item_rows, shape_end}
+use Rattle.wit_tree.specs.declared.tree.PackageName.{PackageName as Header}
+use Rattle.wit_model.specs.Packages.{package_of_parts}
+use Rattle.wit_model.specs.declared.foreign.ForeignItems.{ForeignItems}
+use Rattle.wit_syntax.specs.NameEnds.{End}
+use Rattle.wit_first.specs.First.{Finds}
+use Rattle.wit_walk.specs.Orders.{IsOutcome}
+use Rattle.wit_walk.specs.Walk.{Known, earliest, walk_faults}
+
+-- the package of files whose last header is this one, with these types, interfaces and worlds, and what it names of other packages
+abbrev pub package_with : List PackageFile → Header → List TypeDef → List Interface → List World → ForeignItems → UnresolvedPackage
+package_with files header es is ws foreign = package_of_parts (package_of header) (record { types = es; interfaces = is; worlds = ws }) (first_docs (headers files)) header.span foreign
+
+-- it is what they make, where they are legal
+pub record MakeContents (files : List PackageFile) (es : List TypeDef) (is : List Interface) (ws : List World) (foreign : ForeignItems) : Type 0 where
+  pub made : (header : Header) → last_header files ≡ Some header → IsLegal files → Makes files (package_with files header es is ws foreign)
+
+-- what is looked up is right: each table has its outcome, and each name that ends ends in so many steps
+pub record IsRight (files : List PackageFile) (known : Known) : Type 0 where
+  pub outcomes : (rs : List Row) → IsOutcome rs (known.outcome rs)
+  pub enough : (s : Address) (id : Id) (end : End) → EndsAt files s id end → shape_end files known.steps s (Word id) ≡ Some end
+
+-- the first fault of files after so many steps of the walk: after one there is a header, and after six there are names
+abbrev pub fault_after : ℕ → List PackageFile → Known → Option Fault
+fault_after n files known = earliest (drop n (walk_faults files known (known.outcome (item_rows files))))
+
+-- a call finds it
+abbrev pub FindsAfter : {T : Type 0} → ℕ → List PackageFile → Result T ParseError → Type 0
+FindsAfter n files r = (known : Known) → IsRight files known → Finds (fault_after n files known) r
