@@ -63,13 +63,13 @@ pub use Rattle.wit_top_names.specs.Tops
 pub use Rattle.wit_files.specs.FileNames
 pub use Rattle.wit_files.specs.ForeignPaths as ForeignNames
 pub use Rattle.wit_files.specs.Visits
-pub use Rattle.wit_parser.specs.Ids
-pub use Rattle.wit_parser.specs.Marks
-pub use Rattle.wit_parser.specs.Stray
-pub use Rattle.wit_nested.specs.PackageNames as NestedNames
-pub use Rattle.wit_nested.specs.Nested
-pub use Rattle.wit_nested.specs.PushFaults
-pub use Rattle.wit_nested.specs.GroupFaults
+pub use Rattle.wit_groups.specs.Ids
+pub use Rattle.wit_groups.specs.Marks
+pub use Rattle.wit_groups.specs.Stray
+pub use Rattle.wit_groups.specs.NestedNames
+pub use Rattle.wit_groups.specs.Nested
+pub use Rattle.wit_groups.specs.PushFaults
+pub use Rattle.wit_groups.specs.GroupFaults
 pub use Rattle.wit_groups.specs.Groups
 pub use Rattle.wit_groups.specs.SourceFaults
 pub use Rattle.wit_resolved.specs.AliasEnds

@@ -27,11 +27,9 @@ pub mod resolve;
 pub mod source;
 pub mod syntax;
 
-pub use wit_groups::UnresolvedPackageGroup;
+pub use wit_groups::{GroupResolver, Resolver, UnresolvedPackageGroup};
 pub use wit_lex::SourceMap;
 pub use wit_model::UnresolvedPackage;
-pub use wit_nested::GroupResolver;
-pub use wit_parser::Resolver;
 pub use wit_resolved::{PackageRef, ResolvedGroup, ResolvedPackage};
 pub use wit_type_tree::{ParseError, ParseErrorKind, ParseResult};
 pub use wit_values::Span;

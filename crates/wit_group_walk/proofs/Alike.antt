@@ -14,9 +14,9 @@ use Rattle.wit_alike.proofs.Paths.{SameAst, SameHeader, ast_of, same_package_of}
 use Rattle.wit_alike.proofs.Items.{SameFile}
 use Rattle.wit_alike.proofs.Walk.{one_of_alike, same_last}
 use Rattle.wit_alike_packages.proofs.Others.{same_headers}
-use Rattle.wit_nested.specs.GroupFaults.{joined_faults, names_fault, nested_names, repeat_fault}
-use Rattle.wit_nested.specs.Nested.{file_of}
-use Rattle.wit_nested.specs.PushFaults.{IsWalk, file_fault, files_of, inner_fault, nested_fault, nested_of, source_fault}
+use Rattle.wit_groups.specs.GroupFaults.{joined_faults, names_fault, nested_names, repeat_fault}
+use Rattle.wit_groups.specs.Nested.{file_of}
+use Rattle.wit_groups.specs.PushFaults.{IsWalk, file_fault, files_of, inner_fault, nested_fault, nested_of, source_fault}
 use Rattle.wit_groups.specs.SourceFaults.{Read, Tree, Stop, IsRead, AreAlike, SequenceComesTo, stop_fault}
 use Rattle.wit_groups.proofs.Sequences.{or_two}
 use Rattle.wit_group_walk.proofs.ByPath.{Stated}

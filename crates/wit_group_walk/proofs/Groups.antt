@@ -3,14 +3,14 @@ use Rattle.std.proofs.Common.{◌≡◌, ◌⊎◌, List, [], ◌∷◌, ◌++�
 use Rattle.wit_items.proofs.Common.{AllZip, Fault, IsMadeOf, PackageFile, SourceFile, UnresolvedPackage, append-nil, earliest, first_after, last_header, map-append, or_none, or_none_both}
 use Rattle.wit_lex.specs.declared.source.Source.{Source}
 use Rattle.wit_bundle.specs.SourcePaths.{IsByPath}
-use Rattle.wit_nested.specs.Nested.{GrowByNested, IsMadeByNested}
+use Rattle.wit_groups.specs.Nested.{GrowByNested, IsMadeByNested}
 use Rattle.wit_groups.specs.Groups.{AreUsed, IsGroup, IsTree}
 use Rattle.wit_groups.specs.Groups.AreUsed.{None as NoneUsed, More}
-use Rattle.wit_nested.specs.GroupFaults.{names_fault, nested_names}
-use Rattle.wit_nested.specs.PushFaults.{IsWalk, files_of, nested_of}
+use Rattle.wit_groups.specs.GroupFaults.{names_fault, nested_names}
+use Rattle.wit_groups.specs.PushFaults.{IsWalk, files_of, nested_of}
 use Rattle.wit_groups.specs.SourceFaults.{Read, IsRead, trees_of, SourcesComeTo, IsFirstOfSources, AreFaultless, AreBroken}
-use Rattle.wit_nested.proofs.Names.{made_names}
-use Rattle.wit_nested.proofs.Pushes.{a_walk, source_agrees}
+use Rattle.wit_groups.proofs.Names.{made_names}
+use Rattle.wit_groups.proofs.Pushes.{a_walk, source_agrees}
 use Rattle.wit_groups.proofs.Used.{group_sequence}
 use Rattle.wit_groups.proofs.Sequences.{pushed, sequence_broken, sequence_comes, sequence_trees}
 

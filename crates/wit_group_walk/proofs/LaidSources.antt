@@ -6,7 +6,7 @@ use Rattle.wit_lex.specs.Sources.{as_stated, stated_of}
 use Rattle.wit_bundle.specs.Laid.{AreLaid}
 use Rattle.wit_bundle.specs.SourcePaths.{IsByPath}
 use Rattle.wit_alike.proofs.Lists.{zip_of}
-use Rattle.wit_nested.proofs.Pushes.{one_walk}
+use Rattle.wit_groups.proofs.Pushes.{one_walk}
 use Rattle.wit_groups.specs.Groups.{IsAlone}
 use Rattle.wit_groups.specs.SourceFaults.{HaveFirst, Read, SequenceComesTo, SourcesComeTo, TextHasFirst, size_fault}
 use Rattle.wit_groups.proofs.Sequences.{or_two}

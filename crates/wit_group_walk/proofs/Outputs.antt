@@ -8,10 +8,10 @@ use Rattle.wit_bundle.specs.Laid.{AreLaid}
 use Rattle.wit_grammar.specs.Laws.{IsSpelled}
 use Rattle.wit_grammar.specs.Seen.{see_file}
 use Rattle.wit_alike.proofs.Lists.{zip_flat}
-use Rattle.wit_nested.specs.GroupFaults.{joined_faults, names_fault, nested_names}
-use Rattle.wit_nested.specs.Nested.{file_of}
-use Rattle.wit_nested.specs.PushFaults.{IsWalk, file_fault, files_of, inner_fault, nested_fault, nested_of}
-use Rattle.wit_nested.proofs.Pushes.{walk_agrees}
+use Rattle.wit_groups.specs.GroupFaults.{joined_faults, names_fault, nested_names}
+use Rattle.wit_groups.specs.Nested.{file_of}
+use Rattle.wit_groups.specs.PushFaults.{IsWalk, file_fault, files_of, inner_fault, nested_fault, nested_of}
+use Rattle.wit_groups.proofs.Pushes.{walk_agrees}
 use Rattle.wit_groups.specs.Groups.{IsTree}
 use Rattle.wit_groups.specs.SourceFaults.{AreFaultless, Read, Tree, trees_of}
 use Rattle.wit_groups.proofs.Sequences.{pushed, sequence_trees}

@@ -8,7 +8,7 @@ use Rattle.wit_type_tree.specs.declared.types.TypeBody.TheVariants as body
 use Rattle.wit_tree.specs.declared.tree.AstItem.TheVariants as ast
 use Rattle.wit_tree.specs.declared.tree.InterfaceItem.TheVariants as interface_item
 use Rattle.wit_tree.specs.declared.tree.PackageName.{PackageName as Header}
-use Rattle.wit_nested.specs.GroupFaults.{group_fault}
+use Rattle.wit_groups.specs.GroupFaults.{group_fault}
 
 abbrev at : ℕ → ℕ → Span
 at from to = record { start = from; end = to }

@@ -6,9 +6,9 @@ use Rattle.wit_model.specs.declared.unresolved.UnresolvedPackage.{UnresolvedPack
 use Rattle.wit_syntax.specs.Broken.{last_header}
 use Rattle.wit_syntax.specs.Fault.{Fault}
 use Rattle.wit_arena.specs.Faithful.{IsMadeOf}
-use Rattle.wit_nested.specs.Nested.{IsMadeByNested}
-use Rattle.wit_nested.specs.PushFaults.{files_of, nested_of}
-use Rattle.wit_nested.specs.GroupFaults.{AgreeOnNames, GroupComesTo, IsFirstOfGroup, IsFaultlessGroup, IsBrokenGroup, IsLegalGroup, names_fault, nested_names}
+use Rattle.wit_groups.specs.Nested.{IsMadeByNested}
+use Rattle.wit_groups.specs.PushFaults.{files_of, nested_of}
+use Rattle.wit_groups.specs.GroupFaults.{AgreeOnNames, GroupComesTo, IsFirstOfGroup, IsFaultlessGroup, IsBrokenGroup, IsLegalGroup, names_fault, nested_names}
 
 abbrev pub OneFirstOfGroup : Type 0
 OneFirstOfGroup = (sources : List SourceFile) (first other : Option Fault) → GroupComesTo sources first → GroupComesTo sources other → first ≡ other

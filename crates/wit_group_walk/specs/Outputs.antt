@@ -9,7 +9,7 @@ use Rattle.wit_lex.specs.Sources.{as_stated}
 use Rattle.wit_model.specs.declared.unresolved.UnresolvedPackage.{UnresolvedPackage}
 use Rattle.wit_syntax.specs.Broken.{IsLegal}
 use Rattle.wit_arena.specs.Made.{Makes}
-use Rattle.wit_nested.specs.PushFaults.{files_of}
+use Rattle.wit_groups.specs.PushFaults.{files_of}
 use Rattle.wit_outcome.specs.declared.outcome.Outcome.{Outcome}
 use Rattle.wit_outcome.specs.declared.outcome.Outcome.TheVariants as outcome
 use Rattle.wit_outcome.specs.Outcome.{IsOutcome, outcome_json}

@@ -7,9 +7,9 @@ use Rattle.wit_bundle.specs.SourcePaths.{IsByPath}
 use Rattle.wit_model.specs.declared.unresolved.UnresolvedPackage.{UnresolvedPackage}
 use Rattle.wit_syntax.specs.Fault.{Fault}
 use Rattle.wit_arena.specs.Faithful.{IsMadeOf}
-use Rattle.wit_nested.specs.Nested.{IsMadeByNested}
+use Rattle.wit_groups.specs.Nested.{IsMadeByNested}
 use Rattle.wit_groups.specs.Groups.{IsGroup}
-use Rattle.wit_nested.specs.PushFaults.{files_of, nested_of}
+use Rattle.wit_groups.specs.PushFaults.{files_of, nested_of}
 use Rattle.wit_groups.specs.SourceFaults.{Read, IsRead, AreAlike, HaveFirst, TextHasFirst, trees_of, IsFirstOfSources, AreFaultless, AreBroken}
 
 -- paths give sources one order, and what is read of each is one, but for addresses

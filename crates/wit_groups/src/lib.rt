@@ -5,4 +5,4 @@ pub mod group;
 pub mod laws;
 
 pub use group::UnresolvedPackageGroup;
-pub use wit_nested::GroupResolver;
+pub use wit_nested::{GroupResolver, Resolver, package_laws};

@@ -3,7 +3,7 @@ use Rattle.std.proofs.Common.{◌≡◌, ℕ, zero, suc, List, [], ◌∷◌, So
 use Rattle.wit_arena.proofs.Common.{All, AllZip, IsMadeOf, NestedPackage, PackageFile, SourceFile, UnresolvedPackage, at_split, slice_get, string_bytes}
 use Rattle.wit_lex.specs.declared.source.Source.{Source}
 use Rattle.wit_grammar.specs.Seen.{see_file, see_nested}
-use Rattle.wit_nested.specs.Nested.{GrowByNested, IsMadeByNested, file_of}
+use Rattle.wit_groups.specs.Nested.{GrowByNested, IsMadeByNested, file_of}
 use Rattle.wit_groups.specs.Groups.{AreUsed, IsGroup, IsTree}
 use Rattle.wit_groups.specs.Groups.AreUsed.{None, More}
 use Rattle.wit_json.specs.Laws.{IsPlain}

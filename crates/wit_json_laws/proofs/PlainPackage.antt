@@ -2,7 +2,7 @@
 use Rattle.std.proofs.Common.{◌≡◌, ℕ, ◌≤◌, ◌^◌, Bool, true, false, cond, List, [], ◌∷◌, ◌++◌, length, map, Option, Some, None, Contains, refl, sym, subst, arith}
 use Rattle.wit_arena.proofs.Common.{Address, All, AstItem, Def, DefinitionPart, Exported, ExternPart, ForeignVisit, Function, FunctionPart, Id, IfSome, Imported, Include, IncludePart, Interface, IsLegal, Item, Key, Makes, PackageFile, PackageName, Part, ScopeName, SideFunction, SideInline, SideItem, SideLink, SourceFunction, Stability, TopName, UnresolvedPackage, UsePart, World, WorldInclude, WorldItem, WorldKey, WorldSide, about, address, cons_option, dep, entries_on, filter, firsts_at, foreign_entry, foreign_interface, foreign_interfaces, foreign_items, foreign_packages, foreign_visits, foreign_world, foreign_worlds, function_in, function_of, functions, include_in, includes, inline_entry, inline_items, interface_scopes, kept_at, last_header, link_item, link_key, local_id, local_name, name_imports, names_in_turn, option_map, own_interface, own_interfaces, own_world, package_of, pairs, part_includes, parts, path_scope, placed, role_side, same_address, same_package, same_side, scope_place, scopes_declared, settled, side_entries, side_items, slice_get, stability_of, visited, world_entries, world_scopes, worlds_of, ⊤}
 use Rattle.wit_tree.specs.declared.tree.PackageName.{PackageName as Header}
-use Rattle.wit_arena.proofs.Placed.{placed_at}
+use Rattle.wit_arena.proofs.Settled.{placed_at}
 use Rattle.wit_model.specs.declared.world.WorldItem.TheVariants as item
 use Rattle.wit_model.specs.declared.world.WorldKey.TheVariants as key
 use Rattle.wit_grammar.specs.Seen.{see_include, see_package_id}

@@ -3,8 +3,7 @@ use Rattle.std.proofs.Common.{◌≡◌, ℕ, false, List, [], ◌∷◌, ◌++�
 use Rattle.wit_arena.proofs.Common.{Address, All, AllDiffer, Called, Exported, ForeignVisit, Imported, Include, IsLegal, IsOrder, Item, Key, Link, LinkedTwice, PackageFile, ScopeName, SideItem, SideLink, WorldItem, WorldKey, WorldSide, address, all_items, all_scopes, called_key, contains_at, differ_at, differ_by, entries_on, flat_map, flat_map-append, folded_key, foreign_world, foreign_worlds, function_of, in_order, includes, inline_items, interface_scopes, is_world_at, item_called, item_inline, item_rows, item_side, items_on, kept_at, leads, length-inline_after, linked_twice, map-append, name_called, name_imports, names_in_turn, own_world, path_id, path_scope, placed, rows_of, same_side, scope_names, scope_place, scopes_declared, settled, side_called, side_items, slice_get, slice_get-take, world_entries, worlds_of}
 use Rattle.wit_model.specs.declared.world.WorldKey.TheVariants as key
 use Rattle.wit_json.specs.DistinctKeys.{HasOwnKeys, HasOwnSides}
-use Rattle.wit_parser.proofs.PartsScopes.{link_leads}
-use Rattle.wit_parser.proofs.PartsSides.{HasPlace}
+use Rattle.wit_parser.proofs.PartsScopes.{link_leads, HasPlace}
 use Rattle.wit_json_laws.proofs.Lists.{all_both, all_map, no_keys, own_keys}
 use Rattle.wit_json_laws.proofs.Members.{side_keys, worlds_declared}
 use Rattle.wit_json_laws.proofs.Placed.{placed_differ}

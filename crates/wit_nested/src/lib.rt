@@ -7,3 +7,4 @@ mod package_names;
 pub mod resolver;
 
 pub use resolver::GroupResolver;
+pub use wit_parser::{Resolver, laws as package_laws};

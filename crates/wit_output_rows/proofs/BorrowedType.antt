@@ -14,7 +14,7 @@ use Rattle.wit_functions.specs.declared.function.FunctionKind.TheVariants.{Frees
 use Rattle.wit_model.specs.declared.ast_item.AstItem.TheVariants as entry
 use Rattle.wit_listing.specs.Listing.{listing_text}
 use Rattle.wit_groups.specs.SourceFaults.{AreFaultless, Tree}
-use Rattle.wit_nested.proofs.Pushes.{a_walk}
+use Rattle.wit_groups.proofs.Pushes.{a_walk}
 use Rattle.wit_tool.specs.Output.{IsOutput, OfSources, Listing}
 use Rattle.wit_meaning_examples.proofs.Examples.{at, vec}
 use Rattle.wit_meaning_examples.proofs.HandleExamples.{borrow_seen, file_of, in_c, in_i, item_of, name_seen, used_r, user, user_files, user_required, user_types}

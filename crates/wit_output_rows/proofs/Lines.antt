@@ -13,8 +13,8 @@ use Rattle.wit_tool.specs.FaultLine.{fault_text}
 use Rattle.wit_tool.specs.Output.{IsSourcesOutput, Line}
 use Rattle.wit_groups.specs.Groups.{IsTree}
 use Rattle.wit_groups.specs.SourceFaults.{IsFirstOfSources, Stop, Tree, stop_fault}
-use Rattle.wit_nested.proofs.Pushes.{a_walk}
-use Rattle.wit_nested.specs.PushFaults.{source_fault}
+use Rattle.wit_groups.proofs.Pushes.{a_walk}
+use Rattle.wit_groups.specs.PushFaults.{source_fault}
 use Rattle.wit_output_rows.proofs.Values.{is_plain, plain_ascii}
 use Rattle.wit_output_rows.proofs.Outcomes.{outcome}
 use Rattle.wit_output_rows.proofs.Walks.{one_by_path, joined_fault, no_earlier, walks_to}

@@ -15,7 +15,7 @@ use Rattle.wit_grammar.specs.Seen.{see_file}
 use Rattle.wit_grammar.proofs.Opened.{all_rules, reading}
 use Rattle.wit_grammar.proofs.Whole.{read_is_spelled}
 use Rattle.wit_groups.specs.SourceFaults.{IsFirstOfSources, Stop, Tree, stop_fault}
-use Rattle.wit_nested.proofs.Pushes.{a_walk}
+use Rattle.wit_groups.proofs.Pushes.{a_walk}
 use Rattle.wit_tool.specs.FaultLine.{IsFaultLine}
 use Rattle.wit_tool.specs.Output.{IsOutput, OfSources, Line}
 use Rattle.wit_meaning_examples.proofs.Examples.{at, id, vec, no_comments, unstated, header}

@@ -12,7 +12,7 @@ use Rattle.wit_types.specs.declared.types.«Type».TheVariants as type
 use Rattle.wit_types.specs.declared.types.TypeDefKind.TheVariants as kind
 use Rattle.wit_listing.specs.Listing.{listing_text}
 use Rattle.wit_groups.specs.SourceFaults.{AreFaultless, Tree}
-use Rattle.wit_nested.proofs.Pushes.{a_walk}
+use Rattle.wit_groups.proofs.Pushes.{a_walk}
 use Rattle.wit_tool.specs.Output.{IsOutput, OfSources, Listing}
 use Rattle.wit_meaning_examples.proofs.Examples.{at, vec, file, files, item, p, list_seen, p_seen, list_entry, p_entry, i_entry, package_with}
 use Rattle.wit_output_rows.proofs.Making.{items_sorted, items_in_order, names_sorted, names_by_address, names_in, place_among, AtPlace, by_places}

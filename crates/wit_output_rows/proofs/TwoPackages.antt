@@ -12,9 +12,9 @@ use Rattle.wit_grammar.specs.Seen.{see_file}
 use Rattle.wit_grammar.proofs.Opened.{all_rules, reading}
 use Rattle.wit_grammar.proofs.Whole.{read_is_spelled}
 use Rattle.wit_listing.specs.Listing.{listing_text}
-use Rattle.wit_nested.specs.Nested.{file_of}
-use Rattle.wit_nested.specs.PushFaults.{source_fault}
-use Rattle.wit_nested.proofs.Pushes.{a_walk}
+use Rattle.wit_groups.specs.Nested.{file_of}
+use Rattle.wit_groups.specs.PushFaults.{source_fault}
+use Rattle.wit_groups.proofs.Pushes.{a_walk}
 use Rattle.wit_groups.specs.SourceFaults.{AreFaultless, SequenceComesTo, Tree}
 use Rattle.wit_tool.specs.Output.{IsOutput, OfSources, Listing}
 use Rattle.wit_meaning_examples.proofs.Examples.{at, id, vec, no_comments, unstated}

@@ -8,7 +8,7 @@ use Rattle.wit_grammar.proofs.Examples.{this_tree}
 use Rattle.wit_types.specs.declared.types.«Type».TheVariants as type
 use Rattle.wit_types.specs.declared.types.TypeDefKind.TheVariants as kind
 use Rattle.wit_listing.specs.Listing.{listing_text}
-use Rattle.wit_nested.proofs.Pushes.{a_walk}
+use Rattle.wit_groups.proofs.Pushes.{a_walk}
 use Rattle.wit_groups.specs.SourceFaults.{AreFaultless, Tree}
 use Rattle.wit_tool.specs.Output.{IsOutput, OfSources, Listing}
 use Rattle.wit_meaning_examples.proofs.Examples.{vec}

@@ -4,8 +4,8 @@ use Rattle.wit_arena.proofs.Common.{Fault, IsPermutation-refl, PackageFile, Sour
 use Rattle.wit_lex.specs.declared.source.Source.{Source}
 use Rattle.wit_bundle.specs.SourcePaths.{IsByPath}
 use Rattle.wit_walk.proofs.Common.{ComesTo, IsOr, earliest, first_fault, one_first}
-use Rattle.wit_nested.specs.GroupFaults.{joined_faults, names_fault, nested_names}
-use Rattle.wit_nested.specs.PushFaults.{IsWalk, files_of}
+use Rattle.wit_groups.specs.GroupFaults.{joined_faults, names_fault, nested_names}
+use Rattle.wit_groups.specs.PushFaults.{IsWalk, files_of}
 use Rattle.wit_output_rows.proofs.Outcomes.{outcome, outcomes}
 
 -- files come to what is computed with those outcomes, in any number of steps

@@ -2,7 +2,7 @@
 use Rattle.std.proofs.Common.{◌≡◌, ℕ, List, [], ◌∷◌, Some, slice_get, refl, ap, ◌∙◌, subst, sym, inl, inr, zero, suc}
 use Rattle.wit_arena.proofs.Common.{AllZip, IsMadeOf, NestedPackage, PackageFile, UnresolvedPackage, at_split}
 use Rattle.wit_lex.specs.declared.source.Source.{Source}
-use Rattle.wit_nested.specs.Nested.{GrowByNested, IsMadeByNested, file_of}
+use Rattle.wit_groups.specs.Nested.{GrowByNested, IsMadeByNested, file_of}
 use Rattle.wit_groups.specs.Groups.{AreUsed, IsGroup}
 use Rattle.wit_groups.specs.Groups.AreUsed.{None, More}
 use Rattle.wit_resolved.specs.Valid.{AreMade, IsMade}

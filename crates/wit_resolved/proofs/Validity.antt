@@ -5,7 +5,7 @@ use Rattle.std.proofs.Props.{props}
 use Rattle.wit_types.specs.declared.types.TypeOwner.TheVariants as owner
 use Rattle.wit_model.specs.declared.world.WorldItem.TheVariants as item
 use Rattle.wit_model.specs.declared.world.WorldKey.TheVariants as key
-use Rattle.wit_parser.specs.Ids.{AreNamesWithin, IsItemWithin}
+use Rattle.wit_groups.specs.Ids.{AreNamesWithin, IsItemWithin}
 use Rattle.wit_resolved.specs.Valid.{AreFunctionsValid, AreItemsValid, IsFunctionValid, IsItemValid, IsValid, named_function}
 
 pub backward_of : (p : UnresolvedPackage) → ∥ IsValid p ∥₁ → IsBackward p.types

@@ -11,8 +11,8 @@ use Rattle.wit_model.specs.declared.world.WorldKey.TheVariants as key
 use Rattle.wit_model.specs.declared.unresolved.UnresolvedPackage.{UnresolvedPackage}
 use Rattle.wit_tree.specs.declared.tree.PackageFile.{PackageFile}
 use Rattle.wit_arena.specs.Faithful.{IsMadeOf}
-use Rattle.wit_parser.specs.Ids.{AreIdsWithin, IsFunctionWithin, IsItemWithin}
-use Rattle.wit_parser.specs.Marks.{HaveMarks}
+use Rattle.wit_groups.specs.Ids.{AreIdsWithin, IsFunctionWithin, IsItemWithin}
+use Rattle.wit_groups.specs.Marks.{HaveMarks}
 
 pub record IsValid (p : UnresolvedPackage) : Type 0 where
   pub within : AreIdsWithin p

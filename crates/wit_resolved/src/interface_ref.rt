@@ -2,7 +2,7 @@
 ghost use Rattle.std.specs.Prelude.{◌≡◌, ◌<◌, IfOk, Some, drop, length, slice_get, string_bytes};
 ghost use Rattle.std.specs.Map.Iter.{deref_pair};
 ghost use Rattle.std.specs.Option.{option_copied, option_map};
-ghost use Rattle.wit_parser.specs.Ids.{AreNamesWithin};
+ghost use Rattle.wit_groups.specs.Ids.{AreNamesWithin};
 ghost use Rattle.wit_resolved.specs.Left.{entries_from, interface_places};
 ghost use Rattle.wit_resolved.specs.Lookups.{interface_functions, interface_id, interface_types, own_name, path_of};
 ghost use Rattle.wit_resolved.specs.Valid.{IsValid};

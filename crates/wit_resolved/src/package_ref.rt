@@ -8,8 +8,8 @@ ghost use Rattle.wit_resolved.specs.Valid.{AreMade, IsMade, IsValid};
 use crate::interface_ref::{InterfaceRef, InterfaceRefs};
 use crate::type_ref::{TypeRef, TypeRefs};
 use crate::world_ref::{WorldRef, WorldRefs};
+use wit_groups::package_laws::{functions_have_marks, ids_are_within, ids_point_backward};
 use wit_model::{Interface, UnresolvedPackage, World};
-use wit_parser::laws::{functions_have_marks, ids_are_within, ids_point_backward};
 use wit_types::type_slots::place_of_slot;
 use wit_types::{Arena, InterfacePlace, Type, WorldPlace};
 

@@ -10,10 +10,9 @@ ghost use Rattle.wit_resolved.specs.Valid.{AreMade, IsMade};
 
 use crate::package_ref::{PackageRef, PackageRefs};
 use std::alloc::Global;
-use wit_groups::UnresolvedPackageGroup;
+use wit_groups::{Resolver, UnresolvedPackageGroup};
 use wit_lex::SourceMap;
 use wit_model::UnresolvedPackage;
-use wit_parser::Resolver;
 use wit_type_tree::{ParseError, ParseResult};
 
 /// The package that files make.

@@ -5,9 +5,8 @@
 use crate::listing::shown;
 use anyhow::Result;
 use std::alloc::{AllocError, Global};
-use wit_nested::GroupResolver;
+use wit_groups::{GroupResolver, Resolver};
 use wit_package_views::read_marked;
-use wit_parser::Resolver;
 use wit_text::SourceMap;
 use wit_type_tree::ParseResult;
 use wit_views::{Found, rest_after, without_nested};

@@ -2,7 +2,7 @@
 //! source its place, its path and its text, with `|` after it.
 
 use std::alloc::{AllocError, Global};
-use wit_nested::GroupResolver;
+use wit_groups::GroupResolver;
 use wit_package_views::read_marked;
 use wit_text::SourceMap;
 use wit_tool::bundle;

@@ -5,9 +5,9 @@ use Rattle.wit_lex.specs.declared.source.Source.{Source}
 use Rattle.wit_lex.specs.Sources.{IsTooLarge}
 use Rattle.wit_bundle.specs.Bundle.{sources_of}
 use Rattle.wit_bundle.specs.Laid.{AreLaid, room}
-use Rattle.wit_nested.specs.Nested.{IsMadeByNested, file_of}
-use Rattle.wit_nested.specs.PushFaults.{nested_of}
-use Rattle.wit_nested.proofs.Pushes.{a_walk}
+use Rattle.wit_groups.specs.Nested.{IsMadeByNested, file_of}
+use Rattle.wit_groups.specs.PushFaults.{nested_of}
+use Rattle.wit_groups.proofs.Pushes.{a_walk}
 use Rattle.wit_groups.specs.declared.group.UnresolvedPackageGroup.{UnresolvedPackageGroup}
 use Rattle.wit_groups.specs.Groups.{IsGroup}
 use Rattle.wit_groups.specs.SourceFaults.{AreFaultless, HaveFirst, Read, StatesFirst, Tree, trees_of}

@@ -10,8 +10,8 @@ use Rattle.wit_bundle.specs.Laid.{AreLaid, room}
 use Rattle.wit_model.specs.declared.unresolved.UnresolvedPackage.{UnresolvedPackage}
 use Rattle.wit_syntax.specs.Fault.{Fault}
 use Rattle.wit_arena.specs.Made.{Makes}
-use Rattle.wit_nested.specs.Nested.{file_of}
-use Rattle.wit_nested.specs.PushFaults.{files_of, nested_of}
+use Rattle.wit_groups.specs.Nested.{file_of}
+use Rattle.wit_groups.specs.PushFaults.{files_of, nested_of}
 use Rattle.wit_groups.specs.declared.group.UnresolvedPackageGroup.{UnresolvedPackageGroup}
 use Rattle.wit_groups.specs.SourceFaults.{AreFaultless, IsFirstOfSources, Read, trees_of}
 use Rattle.wit_listing.specs.declared.fault.RunFault.{RunFault}
