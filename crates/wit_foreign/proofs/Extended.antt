@@ -1,6 +1,8 @@
 -- The table of the items of visits, with a visit more.
 use Rattle.std.proofs.Common.{◌≡◌, ℕ, Bool, true, false, cond, not, ◌&&◌, List, [], ◌∷◌, ◌++◌, Option, Some, None, length, map, nat_eq, if◌then◌else◌, refl, sym, ap, ◌∙◌}
-use Rattle.wit_arena.proofs.Common.{AstItem, ForeignVisit, PackageName, Stability, and_parts, append-nil, bytes_eq, filter, filter-append, foreign_place, is_some, list_any, lookup, map-append, name_equal, name_itself, package_of, pointwise, same_address, same_item, same_package, same_package-equal, same_package-itself, unwrap_or, visited}
+use Rattle.wit_syntax.proofs.Common.{ForeignVisit, PackageName, Stability, and_parts, append-nil, bytes_eq, filter, filter-append, is_some, list_any, lookup, map-append, name_equal, name_itself, package_of, pointwise, same_address, same_item, same_package, same_package-equal, same_package-itself, unwrap_or, visited}
+use Rattle.wit_model.specs.declared.ast_item.AstItem.{AstItem}
+use Rattle.wit_arena.specs.Whole.{foreign_place}
 use Rattle.wit_model.specs.declared.ast_item.AstItem.TheVariants as entry
 use Rattle.wit_foreign.specs.Kept.{Visited, Items, item_more, row_more, table_more, items_of, interfaces_in, worlds_in, packages_of, entry_in, visit_stability, item_in, row_in, table_in}
 use Rattle.wit_foreign.proofs.Same.{same_package-flip, name-flip}

@@ -1,6 +1,6 @@
 -- The first of each in a list that grows at its end.
 use Rattle.std.proofs.Common.{◌≡◌, ◌+◌, Bool, true, false, cond, not, ◌||◌, ◌&&◌, List, [], ◌∷◌, ◌++◌, length, map, refl, sym, ap, ◌∙◌, arith}
-use Rattle.wit_arena.proofs.Common.{filter, filter-append, firsts, list_any, prefix_len}
+use Rattle.wit_syntax.proofs.Common.{filter, filter-append, firsts, list_any, prefix_len}
 use Rattle.std.proofs.lemmas.Map.Views.{any-filter_same}
 
 -- one item stays by a test that says it

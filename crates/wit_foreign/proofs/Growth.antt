@@ -1,6 +1,7 @@
 -- The items of the visits so far, with a visit more.
 use Rattle.std.proofs.Common.{◌≡◌, ℕ, ◌+◌, Bool, true, false, cond, not, nat_lt, nat_eq, List, [], ◌∷◌, ◌++◌, length, map, if◌then◌else◌, refl, sym, ap, ◌∙◌, arith, lt-ltb, le-ltb, length-append}
-use Rattle.wit_arena.proofs.Common.{AstItem, ForeignVisit, Span, filter, is_some, length-map, lookup, map-append, package_of, pointwise, same_package, unwrap_or}
+use Rattle.wit_syntax.proofs.Common.{ForeignVisit, Span, filter, is_some, length-map, lookup, map-append, package_of, pointwise, same_package, unwrap_or}
+use Rattle.wit_model.specs.declared.ast_item.AstItem.{AstItem}
 use Rattle.wit_model.specs.declared.ast_item.AstItem.TheVariants as entry
 use Rattle.wit_foreign.specs.declared.package_table.Deps.{Deps}
 use Rattle.wit_foreign.specs.Kept.{table_more, interfaces_in, worlds_in, packages_of, table_in, visit_stability, row_in}

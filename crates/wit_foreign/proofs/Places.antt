@@ -1,6 +1,6 @@
 -- Values at keys that are found by their places.
 use Rattle.std.proofs.Common.{◌≡◌, ℕ, Bool, List, Some, None, slice_get, sym, ◌∙◌}
-use Rattle.wit_arena.proofs.Common.{insert_entry, keys_of, lookup, option_map, position, set_value_at, slice_get-map}
+use Rattle.wit_syntax.proofs.Common.{insert_entry, keys_of, lookup, option_map, position, set_value_at, slice_get-map}
 use Rattle.indexmap.proofs.MapLemmas.{Found-position, Missing-position, insert_entry-first}
 
 -- the value at the place of a key is what the key finds

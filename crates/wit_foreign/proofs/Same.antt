@@ -1,6 +1,6 @@
 -- Packages, and names, from either end.
 use Rattle.std.proofs.Common.{◌≡◌, ℕ, Bool, true, false, List, refl, sym, ap, ◌∙◌}
-use Rattle.wit_arena.proofs.Common.{PackageName, bytes_eq, name_equal, name_itself, same_package, same_package-equal, same_package-itself}
+use Rattle.wit_syntax.proofs.Common.{PackageName, bytes_eq, name_equal, name_itself, same_package, same_package-equal, same_package-itself}
 
 -- a test that holds exactly of equal ones can be read from its other end
 flip : {X : Type 0} (eq : X → X → Bool) → ((x : X) → eq x x ≡ true) → ((x y : X) → eq x y ≡ true → x ≡ y) → (x y : X) → eq x y ≡ eq y x

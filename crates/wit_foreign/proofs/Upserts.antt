@@ -1,6 +1,6 @@
 -- Tables over the first of each.
 use Rattle.std.proofs.Common.{◌≡◌, Bool, true, false, cond, ◌||◌, List, [], ◌∷◌, ◌++◌, Option, Some, None, map, refl, sym, ap, ◌∙◌}
-use Rattle.wit_arena.proofs.Common.{append-nil, insert_entry, is_some, list_any, lookup}
+use Rattle.wit_syntax.proofs.Common.{append-nil, insert_entry, is_some, list_any, lookup}
 use Rattle.wit_foreign.proofs.Firsts.{Apart, each_map, map_each}
 
 -- a table with a value at each key, where the value at one key grows

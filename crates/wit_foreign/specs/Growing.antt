@@ -1,6 +1,10 @@
 -- The items of the visits so far.
 use Rattle.std.specs.Prelude.{◌≡◌, List, length, map}
-use Rattle.wit_arena.specs.Common.{ForeignVisit, PackageFile, PackageName, Span, dep, foreign_packages, foreign_visits}
+use Rattle.wit_values.specs.declared.span.Span.{Span}
+use Rattle.wit_tree.specs.declared.tree.PackageFile.{PackageFile}
+use Rattle.wit_package_names.specs.declared.package_name.PackageName.{PackageName}
+use Rattle.wit_syntax.specs.Foreign.{ForeignVisit, foreign_packages, foreign_visits}
+use Rattle.wit_arena.specs.Whole.{dep}
 use Rattle.wit_files.specs.declared.foreign.ForeignVisit.{ForeignVisit as Borrowed}
 use Rattle.wit_files.specs.ForeignPaths.{foreign_view}
 use Rattle.wit_foreign.specs.declared.package_table.Deps.{Deps}

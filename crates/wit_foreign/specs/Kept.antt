@@ -1,6 +1,18 @@
 -- The table of other packages' items, as it grows visit by visit.
 use Rattle.std.specs.Prelude.{ℕ, not, List, [], ◌∷◌, ◌++◌, map, Option, Some, None, nat_eq, if◌then◌else◌}
-use Rattle.wit_arena.specs.Common.{AstItem, ForeignVisit, PackageName, Stability, filter, firsts, foreign_place, insert_entry, lookup, package_of, pointwise, same_address, same_item, same_package, stability_of, unwrap_or, visited}
+use Rattle.std.specs.List.{filter}
+use Rattle.std.specs.Map.{lookup}
+use Rattle.std.specs.Option.{unwrap_or}
+use Rattle.std.specs.Cmp.Lexicographic.{pointwise}
+use Rattle.indexmap.specs.IndexMap.{insert_entry}
+use Rattle.wit_types.specs.declared.stability.Stability.{Stability}
+use Rattle.wit_model.specs.declared.ast_item.AstItem.{AstItem}
+use Rattle.wit_package_names.specs.declared.package_name.PackageName.{PackageName}
+use Rattle.wit_syntax.specs.Address.{same_package, same_address, package_of}
+use Rattle.wit_syntax.specs.Metadata.{stability_of}
+use Rattle.wit_syntax.specs.Repeats.{firsts}
+use Rattle.wit_syntax.specs.Foreign.{ForeignVisit, visited, same_item}
+use Rattle.wit_arena.specs.Whole.{foreign_place}
 use Rattle.wit_model.specs.declared.ast_item.AstItem.TheVariants as entry
 
 abbrev pub Visited : Type 0

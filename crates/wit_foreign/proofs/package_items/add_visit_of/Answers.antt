@@ -1,5 +1,5 @@
 use Rattle.std.proofs.Common.{◌∙◌, ap, sym, not, nat_eq}
-use Rattle.wit_arena.proofs.Common.{insert_entry, is_some, lookup, pointwise, set_value_at}
+use Rattle.wit_syntax.proofs.Common.{insert_entry, is_some, lookup, pointwise, set_value_at}
 use Rattle.wit_foreign.specs.Kept.{item_more}
 use Rattle.wit_foreign.proofs.Places.{lookup-position, set_value_at-position, lookup-nowhere}
 use Rattle.wit_foreign.proofs.package_items.add_visit_of.Goals as goal

@@ -1,5 +1,5 @@
 use Rattle.std.proofs.Common.{◌≡◌, ◌∙◌, ap, map, take, arith}
-use Rattle.wit_arena.proofs.Common.{take_all}
+use Rattle.wit_syntax.proofs.Common.{take_all}
 use Rattle.wit_foreign.specs.Kept.{table_in}
 use Rattle.wit_files.specs.ForeignPaths.{foreign_view}
 use Rattle.wit_foreign.proofs.package_table.foreign_deps.Goals as goal

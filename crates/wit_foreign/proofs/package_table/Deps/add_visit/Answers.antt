@@ -1,5 +1,5 @@
 use Rattle.std.proofs.Common.{◌∙◌, ◌++◌, List, [], ◌∷◌, ap, sym, not, nat_lt, nat_eq, cond, length, true, false}
-use Rattle.wit_arena.proofs.Common.{PackageName, append-nil, is_some, lookup, pointwise, same_package, unwrap_or}
+use Rattle.wit_syntax.proofs.Common.{PackageName, append-nil, is_some, lookup, pointwise, same_package, unwrap_or}
 use Rattle.wit_foreign.specs.Kept.{Items, table_more}
 use Rattle.wit_files.specs.ForeignPaths.{foreign_view}
 use Rattle.wit_foreign.proofs.Growth.{deps_more}
