@@ -1,7 +1,7 @@
 -- Lists of what is borrowed, one more, and one by one.
 use Rattle.std.proofs.Common.{◌≡◌, List, [], ◌∷◌, ◌++◌, map, sym, ap, ◌∙◌, append_assoc, ℕ, zero, suc, ◌+◌, ◌<◌, ◌≤◌, length, take, Some, inl, inr, refl, subst, arith, length-append, Bool, true, Option, None, IsSome, Contains, Vec}
 use Rattle.wit_arena.proofs.Common.{map-append, Id, IsEdge, IsOrder, Leads, Row, ScopeName, at_prefix, at_seam, at_take, at_within, cases_lt, cons_option, defined, get_or_from_slice_get, greedy_least, greedy_sorted, in_order, in_order-append, length-map, local_id, map_at, needed_ids, nil_from_length, own_greedy, row_of, rows_of, same_Some, slice_get, slice_get-take, take_all, take_next, used, Address, at_either, flat_map, flat_map_at, AllDiffer, slice_get_within, AreDistinct, AreOwn, Defined, Env, Fault, ForeignName, HasNames, Used, all_words, body_of, cases_Bool, cond-false, cond-true, either_at, filter, in_order_among, in_order_at, in_turn_distinct, is_defined, local_name, local_names, map, map_map, missing_type_at, names_within, needed_earlier, used_has, used_is, Case, Global, Span, Tuple, all_shapes, all_words-append, append-nil, case_types, filter_map_more, option_to_list, shape_of, tuple_inner, words, «Type» as Written, filter-append, flat_map-append}
-use Rattle.wit_scopes.specs.DefinitionOrder.{AreOrdered, IsTurnOf, IsWritten, NeedNone, AreInTurn}
+use Rattle.wit_scopes.specs.DefinitionOrder.{AreOrdered, NeedNone, AreInTurn}
 use Rattle.wit_scopes.specs.declared.scope_name.UsedName.{UsedName}
 use Rattle.wit_scopes.specs.BorrowedNames.{Borrowed, own_use, IsPlaced, IsNamePlaced, AreNamesPlaced, name_view, use_view}
 use Rattle.wit_type_tree.specs.declared.types.TypeDef.{TypeDef as Definition}
@@ -62,12 +62,9 @@ as_written xs none = record {
   are = ap defined (sym (ap (λ n. in_order xs (own n)) (length-map xs row_of) ∙ in_order-own xs (length xs) (omega arith) ∙ take_all (length xs) xs (omega arith)));
 }
 
--- definitions as they are written, and the names of their scope
-pub written_in_turn : (xs ds : List ScopeName) (ids : List Id) → IsWritten xs ds ids → NeedNone xs → IsTurnOf xs ds ids
-written_in_turn xs ds ids w none = record {
-  ordered = subst (AreOrdered xs) (sym w.are) (as_written xs none);
-  names = w.names ∙ ap (λ l. map local_id (used xs ++ l)) (sym w.are);
-}
+-- definitions as they are written
+pub written_in_turn : (xs ds : List ScopeName) → ds ≡ defined xs → NeedNone xs → AreOrdered xs ds
+written_in_turn xs ds are none = subst (AreOrdered xs) (sym are) (as_written xs none)
 
 -- one name more that needs none
 pub none_more : (xs : List ScopeName) (n : ℕ) (x : ScopeName) → NeedNone (take n xs) → slice_get xs n ≡ Some x → length (needed_ids x) ≡ 0 → NeedNone (take (n + 1) xs)

@@ -1,6 +1,6 @@
--- The definitions of a scope in their order, and its names.
-use Rattle.std.specs.Prelude.{◌≡◌, ◌++◌, ℕ, List, [], take, map, Some, Contains, slice_get}
-use Rattle.wit_arena.specs.Common.{Defined, Env, HasNames, Id, IsOrder, ScopeName, defined, in_order, local_id, local_name, needed_ids, rows_of, used}
+-- The definitions of a scope in their order.
+use Rattle.std.specs.Prelude.{◌≡◌, ℕ, List, [], take, Some, Contains, slice_get}
+use Rattle.wit_arena.specs.Common.{Defined, Env, HasNames, Id, IsOrder, ScopeName, defined, in_order, local_name, needed_ids, rows_of}
 use Rattle.wit_type_tree.specs.declared.types.TypeDef.{TypeDef as Definition}
 
 -- no name of a scope needs one
@@ -12,16 +12,6 @@ pub record AreOrdered (xs ds : List ScopeName) : Type 0 where
   pub order : List ℕ
   pub least : IsOrder (rows_of xs) order
   pub are : ds ≡ defined (in_order xs order)
-
--- these are the definitions of a scope as they are written, and its names: those that it uses, and then theirs
-pub record IsWritten (xs ds : List ScopeName) (ids : List Id) : Type 0 where
-  pub are : ds ≡ defined xs
-  pub names : ids ≡ map local_id (used xs ++ defined xs)
-
--- these are the definitions of a scope in the order in which they are resolved, and its names: those that it uses, and then theirs
-pub record IsTurnOf (xs ds : List ScopeName) (ids : List Id) : Type 0 where
-  pub ordered : AreOrdered xs ds
-  pub names : ids ≡ map local_id (used xs ++ ds)
 
 -- each name that one of these needs is in a table already, or one before it has it
 pub record AreInTurn (env : Env) (ds : List ScopeName) : Type 0 where

@@ -2,12 +2,12 @@
 ghost use Rattle.std.specs.Prelude.{◌≡◌, ◌++◌, map, IfOk};
 ghost use Rattle.std.specs.Bool.{MatchBool};
 ghost use Rattle.wit_graph.specs.Table.{rows, IsOrder};
-ghost use Rattle.wit_syntax.specs.ScopeTables.{needed_ids as the_needed, rows_of, used, AreDistinct};
+ghost use Rattle.wit_syntax.specs.ScopeTables.{defined, needed_ids as the_needed, rows_of, AreDistinct};
 ghost use Rattle.wit_syntax.specs.Source.{local_id as the_local_id};
 ghost use Rattle.wit_first.specs.First.{FindsBy};
 ghost use Rattle.wit_first.specs.OrderFaults.{IsTypeOrderFault};
 ghost use Rattle.wit_scopes.specs.BorrowedNames.{name_view, use_view, definition_view};
-ghost use Rattle.wit_scopes.specs.DefinitionOrder.{IsTurnOf, IsWritten, NeedNone};
+ghost use Rattle.wit_scopes.specs.DefinitionOrder.{AreOrdered, NeedNone};
 
 use crate::by_place::in_order;
 use crate::distinct::{add_definition_ids, used_ids};
@@ -73,8 +73,8 @@ fn turn_of<'t, 'a>(
     uses: &[UsedName<'t, 'a>],
     definitions: Vec<DefinedName<'t, 'a>>,
 ) -> Result<Turn<'t, 'a>, AllocError>
-    ensures definitions { IfOk result (λ turn. turn.definitions ≡ definitions.entry) }
-    ensures ids { IfOk result (λ turn. turn.ids.items ≡ map the_local_id (map use_view uses.now ++ map definition_view definitions.entry.items)) }
+    ensures definitions { IfOk result (λ t. t.definitions ≡ definitions.entry) }
+    ensures ids { IfOk result (λ t. t.ids.items ≡ map the_local_id (map use_view uses.now ++ map definition_view t.definitions.items)) }
 {
     let mut ids = used_ids(alloc, uses, definitions.len())?;
     add_definition_ids(&mut ids, &definitions)?;
@@ -87,8 +87,8 @@ pub fn written_turn<'t, 'a>(
     names: &[ScopeName<'t, 'a>],
     uses: &[UsedName<'t, 'a>],
 ) -> Result<Turn<'t, 'a>, AllocError>
-    requires { map use_view uses.now ≡ used (map name_view names.now) }
-    ensures { IfOk result (λ turn. IsWritten (map name_view names.now) (map definition_view turn.definitions.items) turn.ids.items) }
+    ensures definitions { IfOk result (λ t. map definition_view t.definitions.items ≡ defined (map name_view names.now)) }
+    ensures ids { IfOk result (λ t. t.ids.items ≡ map the_local_id (map use_view uses.now ++ map definition_view t.definitions.items)) }
 {
     let written = definitions(alloc, names, uses.len())?;
     turn_of(alloc, uses, written)
@@ -116,9 +116,10 @@ pub fn ordered_turn<'t, 'a>(
     written: Turn<'t, 'a>,
 ) -> ParseResult<Turn<'t, 'a>>
     requires distinct { AreDistinct (map name_view names.now) }
-    requires uses { map use_view uses.now ≡ used (map name_view names.now) }
-    requires written { IsWritten (map name_view names.now) (map definition_view written.definitions.items) written.ids.items }
-    ensures turn { IfOk result (λ turn. IsTurnOf (map name_view names.now) (map definition_view turn.definitions.items) turn.ids.items) }
+    requires definitions { map definition_view written.definitions.items ≡ defined (map name_view names.now) }
+    requires ids { written.ids.items ≡ map the_local_id (map use_view uses.now ++ map definition_view written.definitions.items) }
+    ensures ordered { IfOk result (λ t. AreOrdered (map name_view names.now) (map definition_view t.definitions.items)) }
+    ensures ids { IfOk result (λ t. t.ids.items ≡ map the_local_id (map use_view uses.now ++ map definition_view t.definitions.items)) }
     ensures first { FindsBy (IsTypeOrderFault (map name_view names.now)) result }
 {
     if need_none(alloc, names)? {

@@ -1,25 +1,29 @@
 use Rattle.std.proofs.Common.{◌≡◌, ◌++◌, List, map, ap, sym, ◌∙◌, subst, []}
-use Rattle.wit_items.proofs.Common.{Address, AreDistinct, Defines, Id, Required, ResolvedScope, all_handles, defined, defines_more, definition_view, distinct_names, env_of, err_from_is_err_and, flat_map, in_order, listed_has, local_id, local_name, local_names, local_names_differ, local_names_fault, map-append, name_types, name_view, names_in, reports_back, reports_prefix, reports_same, used, «Type» as Written}
+use Rattle.wit_items.proofs.Common.{Address, AreDistinct, Defines, Id, Required, ResolvedScope, ScopeName, all_handles, defined, defines_more, definition_view, distinct_names, env_of, err_from_is_err_and, flat_map, in_order, listed_has, local_id, local_name, local_names, local_names_differ, local_names_fault, map-append, name_types, name_view, names_in, reports_back, reports_prefix, reports_same, used, «Type» as Written}
 use Rattle.wit_scopes.specs.DefinitionOrder.{AreOrdered}
 use Rattle.wit_item_entries.proofs.ReachedFaults.{definitions_found, done, failed, outcome_reported, types-in_turn}
 use Rattle.wit_scopes.proofs.Placed.{in_their_turn, own_borrowed, differ_names, turn_differs}
 use Rattle.wit_item_entries.proofs.names.resolve_types.Goals as goal
 use Rattle.wit_entries.specs.EntryFaults.{Requires}
 
+-- the names of a scope, those that it uses and then those of its definitions
+all_ids : {us vs ds es : List ScopeName} {ids : List Id} → us ≡ vs → ds ≡ es → ids ≡ map local_id (us ++ ds) → ids ≡ map local_id (vs ++ es)
+all_ids {us} {vs} {ds} {es} uses made are = are ∙ ap (λ (l : List ScopeName). map local_id (l ++ ds)) uses ∙ ap (λ (l : List ScopeName). map local_id (vs ++ l)) made
+
 pub ordered_turn-requires-clause-distinct : goal.ordered_turn-requires-clause-distinct
 ordered_turn-requires-clause-distinct c =
     let xs = map name_view c.args.names.now in
     let ids : List Id = c.deref.result.now in
-    let are : ids ≡ map local_id (used xs ++ defined xs) = c.deref.ensures.value ∙ c.in_ok-written.ensures.names in
+    let are : ids ≡ map local_id (used xs ++ defined xs) = all_ids c.requires.uses c.in_ok-written.ensures.definitions (c.deref.ensures.value ∙ c.in_ok-written.ensures.ids) in
     distinct_names xs (differ_names xs ids are (local_names_differ ids c.in_ok-check_unique_names.ensures))
 
 pub define_all-requires : goal.define_all-requires
 define_all-requires c =
     let xs = map name_view c.args.names.now in
     let ds = map definition_view c.deref-2.result.now in
-    let o : AreOrdered xs ds = subst (λ l. AreOrdered xs (map definition_view l)) (sym c.deref-2.ensures.value) c.in_ok-turn.ensures.turn.ordered in
+    let o : AreOrdered xs ds = subst (λ l. AreOrdered xs (map definition_view l)) (sym c.deref-2.ensures.value) c.in_ok-turn.ensures.ordered in
     let ids : List Id = c.deref.result.now in
-    let are : ids ≡ map local_id (used xs ++ defined xs) = c.deref.ensures.value ∙ c.in_ok-written.ensures.names in
+    let are : ids ≡ map local_id (used xs ++ defined xs) = all_ids c.requires.uses c.in_ok-written.ensures.definitions (c.deref.ensures.value ∙ c.in_ok-written.ensures.ids) in
     let distinct : AreDistinct xs = distinct_names xs (differ_names xs ids are (local_names_differ ids c.in_ok-check_unique_names.ensures)) in
     record {
       turn = in_their_turn xs ds (env_of c.args.scope.now.names) (own_borrowed c.args.names.now) o (listed_has c.args.scope.now.names (used xs) c.requires.listed);
@@ -29,10 +33,9 @@ define_all-requires c =
 pub returns-clause-defines : goal.returns-clause-defines
 returns-clause-defines c = λ first cs uses none.
     let xs = map name_view c.args.names.now in
-    let turn = c.in_ok-turn.ensures.turn in
-    let o = turn.ordered in
+    let o = c.in_ok-turn.ensures.ordered in
     let ids : List Id = c.deref.result.now in
-    let are : ids ≡ map local_id (used xs ++ defined xs) = c.deref.ensures.value ∙ c.in_ok-written.ensures.names in
+    let are : ids ≡ map local_id (used xs ++ defined xs) = all_ids c.requires.uses c.in_ok-written.ensures.definitions (c.deref.ensures.value ∙ c.in_ok-written.ensures.ids) in
     let a = c.args.scope.now in
     let b = c.define_all.new.scope in
     let new = c.define_all.new.types in
@@ -47,7 +50,7 @@ returns-clause-defines c = λ first cs uses none.
         distinct = distinct_names xs (differ_names xs ids are (local_names_differ ids c.in_ok-check_unique_names.ensures));
         defines = λ s. defines_more first c.args.types.now new cs a.owner s [] a.names b.names (used xs) ds (uses s) (defines cs s);
       };
-      turn = turn.names ∙ ap (λ l. map local_id (used xs ++ l)) o.are;
+      turn = all_ids c.requires.uses o.are c.in_ok-turn.ensures.ids;
       listed = listed ∙ ap (λ l. l ++ local_names ds) c.requires.listed ∙ sym (map-append local_name (used xs) ds);
       handled = subst (λ (before : List Required). Requires (env_of b.names) new (all_handles (flat_map name_types (used xs ++ ds))) before b.required.items) none (subst (λ (ts : List Written). Requires (env_of b.names) new (all_handles ts) a.required.items b.required.items) (sym (types-in_turn xs o.order)) handled);
     }
@@ -56,14 +59,14 @@ pub returns-in_err-check_unique_names-clause-first : goal.returns-in_err-check_u
 returns-in_err-check_unique_names-clause-first c =
     let p = err_from_is_err_and c.from_residual-in_err-check_unique_names.result c.from_residual-in_err-check_unique_names.ensures.1 in
     let xs = map name_view c.args.names.now in
-    let are : c.deref.result.now ≡ map local_id (used xs ++ defined xs) = c.deref.ensures.value ∙ c.in_ok-written.ensures.names in
+    let are : c.deref.result.now ≡ map local_id (used xs ++ defined xs) = all_ids c.requires.uses c.in_ok-written.ensures.definitions (c.deref.ensures.value ∙ c.in_ok-written.ensures.ids) in
     rw (p.1, p.2) (λ outcome is cs handle along. reports_prefix _ (reports_same (ap local_names_fault are) c.in_err-check_unique_names.ensures))
 
 pub returns-in_err-turn-clause-first : goal.returns-in_err-turn-clause-first
 returns-in_err-turn-clause-first c =
     let p = err_from_is_err_and c.from_residual-in_err-turn.result c.from_residual-in_err-turn.ensures.1 in
     let xs = map name_view c.args.names.now in
-    let are : c.deref.result.now ≡ map local_id (used xs ++ defined xs) = c.deref.ensures.value ∙ c.in_ok-written.ensures.names in
+    let are : c.deref.result.now ≡ map local_id (used xs ++ defined xs) = all_ids c.requires.uses c.in_ok-written.ensures.definitions (c.deref.ensures.value ∙ c.in_ok-written.ensures.ids) in
     rw (p.1, p.2) (λ outcome is cs handle along. reports_back (ap local_names_fault (sym are) ∙ c.in_ok-check_unique_names.ensures) (reports_prefix _ (outcome_reported xs outcome _ is c.in_err-turn.ensures.first)))
 
 pub returns-in_err-define_all-clause-first : goal.returns-in_err-define_all-clause-first
@@ -71,9 +74,9 @@ returns-in_err-define_all-clause-first c =
     let p = err_from_is_err_and c.from_residual-in_err-define_all.result c.from_residual-in_err-define_all.ensures.1 in
     let xs = map name_view c.args.names.now in
     let ds = map definition_view c.deref-2.result.now in
-    let o : AreOrdered xs ds = subst (λ l. AreOrdered xs (map definition_view l)) (sym c.deref-2.ensures.value) c.in_ok-turn.ensures.turn.ordered in
+    let o : AreOrdered xs ds = subst (λ l. AreOrdered xs (map definition_view l)) (sym c.deref-2.ensures.value) c.in_ok-turn.ensures.ordered in
     let ids : List Id = c.deref.result.now in
-    let are : ids ≡ map local_id (used xs ++ defined xs) = c.deref.ensures.value ∙ c.in_ok-written.ensures.names in
+    let are : ids ≡ map local_id (used xs ++ defined xs) = all_ids c.requires.uses c.in_ok-written.ensures.definitions (c.deref.ensures.value ∙ c.in_ok-written.ensures.ids) in
     let distinct : AreDistinct xs = distinct_names xs (differ_names xs ids are (local_names_differ ids c.in_ok-check_unique_names.ensures)) in
     rw (p.1, p.2) (λ outcome is cs handle along. definitions_found xs ds o.order (ap local_names_fault (sym are) ∙ c.in_ok-check_unique_names.ensures) o.least o.are outcome is (failed _) c.args.scope.now c.args.types.now cs handle distinct along c.in_err-define_all.ensures.first)
 
@@ -81,8 +84,8 @@ pub returns-clause-first : goal.returns-clause-first
 returns-clause-first c = λ outcome is cs handle along.
     let xs = map name_view c.args.names.now in
     let ds = map definition_view c.deref-2.result.now in
-    let o : AreOrdered xs ds = subst (λ l. AreOrdered xs (map definition_view l)) (sym c.deref-2.ensures.value) c.in_ok-turn.ensures.turn.ordered in
+    let o : AreOrdered xs ds = subst (λ l. AreOrdered xs (map definition_view l)) (sym c.deref-2.ensures.value) c.in_ok-turn.ensures.ordered in
     let ids : List Id = c.deref.result.now in
-    let are : ids ≡ map local_id (used xs ++ defined xs) = c.deref.ensures.value ∙ c.in_ok-written.ensures.names in
+    let are : ids ≡ map local_id (used xs ++ defined xs) = all_ids c.requires.uses c.in_ok-written.ensures.definitions (c.deref.ensures.value ∙ c.in_ok-written.ensures.ids) in
     let distinct : AreDistinct xs = distinct_names xs (differ_names xs ids are (local_names_differ ids c.in_ok-check_unique_names.ensures)) in
     definitions_found xs ds o.order (ap local_names_fault (sym are) ∙ c.in_ok-check_unique_names.ensures) o.least o.are outcome is (done ids) c.args.scope.now c.args.types.now cs handle distinct along c.in_ok-define_all.ensures.first

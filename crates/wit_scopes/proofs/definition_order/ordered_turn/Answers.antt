@@ -1,23 +1,21 @@
-use Rattle.std.proofs.Common.{◌≡◌, ◌++◌, get_or, map, ap, sym, ◌∙◌, subst, arith}
-use Rattle.wit_arena.proofs.Common.{IsOrder, MatchBool-at_true, defined, err_from_is_err_and, in_order, length-map, local_id, names_within, rows_of, slice_get-get_or}
-use Rattle.wit_scopes.specs.BorrowedNames.{name_view, definition_view}
+use Rattle.std.proofs.Common.{◌≡◌, get_or, map, ap, sym, ◌∙◌, subst, arith}
+use Rattle.wit_arena.proofs.Common.{IsOrder, MatchBool-at_true, defined, err_from_is_err_and, in_order, length-map, names_within, rows_of, slice_get-get_or}
+use Rattle.wit_scopes.specs.BorrowedNames.{name_view}
 use Rattle.wit_scopes.specs.DefinitionOrder.{NeedNone}
 use Rattle.wit_scopes.proofs.Placed.{written_in_turn}
 use Rattle.wit_scopes.proofs.definition_order.ordered_turn.Goals as goal
 use Rattle.wit_arena.proofs.JoinedMade.{map-in_order}
 
-pub returns-then-branch-clause-turn : goal.returns-then-branch-clause-turn
-returns-then-branch-clause-turn c =
+pub returns-then-branch-clause-ordered : goal.returns-then-branch-clause-ordered
+returns-then-branch-clause-ordered c =
     let xs = map name_view c.args.names.now in
-    let written = c.args.written in
-    written_in_turn xs (map definition_view written.definitions.items) written.ids.items c.requires.written (MatchBool-at_true (NeedNone xs) (NeedNone xs → ⊥) c.if-branch.true c.in_ok-need_none.ensures)
+    written_in_turn xs _ c.requires.definitions (MatchBool-at_true (NeedNone xs) (NeedNone xs → ⊥) c.if-branch.true c.in_ok-need_none.ensures)
 
 pub returns-then-branch-clause-first : goal.returns-then-branch-clause-first
 returns-then-branch-clause-first c =
     let xs = map name_view c.args.names.now in
-    let written = c.args.written in
-    let turn = written_in_turn xs (map definition_view written.definitions.items) written.ids.items c.requires.written (MatchBool-at_true (NeedNone xs) (NeedNone xs → ⊥) c.if-branch.true c.in_ok-need_none.ensures) in
-    (turn.ordered.order, turn.ordered.least)
+    let ordered = written_in_turn xs _ c.requires.definitions (MatchBool-at_true (NeedNone xs) (NeedNone xs → ⊥) c.if-branch.true c.in_ok-need_none.ensures) in
+    (ordered.order, ordered.least)
 
 pub in_order-requires : goal.in_order-requires
 in_order-requires c = λ i d lt.
@@ -27,20 +25,20 @@ in_order-requires c = λ i d lt.
     let order : IsOrder (rows_of xs) places = subst (IsOrder (rows_of xs)) (sym c.deref.ensures.value) c.in_ok-places.ensures.order in
     (let h = names_within xs places order i (get_or places i d) (slice_get-get_or places i d lt) in omega (arith, length-map names name_view))
 
-pub returns-clause-turn : goal.returns-clause-turn
-returns-clause-turn c =
+pub returns-clause-ordered : goal.returns-clause-ordered
+returns-clause-ordered c =
     let names = c.args.names.now in
     let places = c.in_ok-places.places.items in
     let ordered = c.in_ok-ordered.ordered.items in
     let are : ordered ≡ in_order names places = c.in_ok-ordered.ensures ∙ ap (in_order names) c.deref.ensures.value in
     rw c.in_ok-turn_of.ensures.definitions (record {
-      ordered = record {
-        order = places;
-        least = c.in_ok-places.ensures.order;
-        are = c.in_ok-sorted.ensures ∙ ap (λ l. defined (map name_view l)) (c.deref-2.ensures.value ∙ are) ∙ ap defined (map-in_order name_view names places);
-      };
-      names = c.in_ok-turn_of.ensures.ids ∙ ap (λ l. map local_id (l ++ map definition_view c.in_ok-sorted.sorted.items)) c.requires.uses;
+      order = places;
+      least = c.in_ok-places.ensures.order;
+      are = c.in_ok-sorted.ensures ∙ ap (λ l. defined (map name_view l)) (c.deref-2.ensures.value ∙ are) ∙ ap defined (map-in_order name_view names places);
     })
+
+pub returns-clause-ids : goal.returns-clause-ids
+returns-clause-ids c = c.in_ok-turn_of.ensures.ids
 
 pub returns-in_err-places-clause-first : goal.returns-in_err-places-clause-first
 returns-in_err-places-clause-first c =
