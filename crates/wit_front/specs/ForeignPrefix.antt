@@ -61,6 +61,10 @@ pub record AreAdded (vs : List ForeignVisit) (ts : List ForeignUse) (es : List T
   pub entries : a.entries.items ≡ entries_after 0 0 vs
   pub spans : a.spans.items ≡ map (λ t. t.id.span) (firsts same_foreign_use ts)
 
+-- an item is added after these at its first visit
+abbrev pub AddsVisit : ForeignArenas → ForeignArenas → ForeignVisit → Type 0
+AddsVisit old new v = (vs : List ForeignVisit) → AreAdded vs [] [] old → AreAdded (vs ++ v ∷ []) [] [] new
+
 -- the names among these that come from other packages
 abbrev pub name_foreign_uses : ScopeName → List ForeignUse
 name_foreign_uses (Used from attributes n) = filter (λ t. is_foreign t.from) (use_of_foreign from attributes n ∷ [])

@@ -1,5 +1,5 @@
 //! What other packages' items put before the arenas.
-ghost use Rattle.std.specs.Prelude.{◌≡◌, ◌++◌, ◌∷◌, ◌<◌, All, Some, [], true, false, length, map, nat_eq, slice_get, IfOk, OnOk};
+ghost use Rattle.std.specs.Prelude.{◌≡◌, ◌∷◌, ◌<◌, All, Some, [], true, false, length, map, nat_eq, slice_get, IfOk, OnOk};
 ghost use Rattle.std.specs.Cmp.Lexicographic.{pointwise};
 ghost use Rattle.std.specs.List.{flat_map};
 ghost use Rattle.indexmap.specs.IndexMap.{insert_entry};
@@ -7,7 +7,7 @@ ghost use Rattle.wit_syntax.specs.Source.{use_of_foreign};
 ghost use Rattle.wit_files.specs.ForeignPaths.{foreign_view};
 ghost use Rattle.wit_scopes.specs.BorrowedNames.{name_view, IsNamePlaced, AreNamesPlaced};
 ghost use Rattle.wit_items.specs.BorrowedItems.{ArePlacedInside, IsItemPlaced};
-ghost use Rattle.wit_front.specs.ForeignPrefix.{AddsPrefix, AddsUsed, inside_uses, interface_with, with_types, bare_world, AreAdded, HasUsed, name_foreign_uses, borrowed_foreign_uses};
+ghost use Rattle.wit_front.specs.ForeignPrefix.{AddsPrefix, AddsUsed, AddsVisit, inside_uses, interface_with, with_types, bare_world, AreAdded, HasUsed, name_foreign_uses, borrowed_foreign_uses};
 
 use std::alloc::{AllocError, Global};
 use wit_entries::entries::Entries;
@@ -98,7 +98,7 @@ impl ForeignArenas {
     /// Adds a world at its first visit.
     fn add_world(&mut self, alloc: Global, visit: ForeignVisit<'_, '_>) -> Result<(), AllocError>
         requires { visit.wants_world ≡ true }
-        ensures { OnOk result ((vs : _) → AreAdded vs [] [] self.old → AreAdded (vs ++ foreign_view visit.entry ∷ []) [] [] self.new) }
+        ensures { OnOk result (AddsVisit self.old self.new (foreign_view visit.entry)) }
     {
         let world = foreign_world(alloc, visit.name.span)?;
         let id = self.worlds.alloc(world)?;
@@ -113,7 +113,7 @@ impl ForeignArenas {
         visit: ForeignVisit<'_, '_>,
     ) -> Result<(), AllocError>
         requires { visit.wants_world ≡ false }
-        ensures { OnOk result ((vs : _) → AreAdded vs [] [] self.old → AreAdded (vs ++ foreign_view visit.entry ∷ []) [] [] self.new) }
+        ensures { OnOk result (AddsVisit self.old self.new (foreign_view visit.entry)) }
     {
         let interface = foreign_interface(alloc, visit.name.span);
         let id = self.interfaces.alloc(interface)?;
@@ -123,7 +123,7 @@ impl ForeignArenas {
 
     /// Adds an item at its first visit.
     fn add(&mut self, alloc: Global, visit: ForeignVisit<'_, '_>) -> Result<(), AllocError>
-        ensures { OnOk result ((vs : _) → AreAdded vs [] [] self.old → AreAdded (vs ++ foreign_view visit.entry ∷ []) [] [] self.new) }
+        ensures { OnOk result (AddsVisit self.old self.new (foreign_view visit.entry)) }
     {
         if visit.wants_world {
             return self.add_world(alloc, visit);

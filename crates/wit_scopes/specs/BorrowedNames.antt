@@ -1,12 +1,13 @@
 -- What the resolver holds by reference: names of a scope, used names and definitions, and interfaces of other packages at their places.
-use Rattle.std.specs.Prelude.{◌≡◌, ◌∷◌, [], List, Some, ⊤, slice_get, ℕ}
+use Rattle.std.specs.Prelude.{◌≡◌, ◌++◌, ◌∷◌, [], List, Some, ⊤, map, slice_get, ℕ}
+use Rattle.wit_scopes.specs.declared.definition_order.Turn.{Turn}
 use Rattle.wit_scopes.specs.declared.scope_name.UsedName.{UsedName}
 use denote.Ref.{Bor}
 use Rattle.wit_type_tree.specs.declared.types.TypeDef.{TypeDef}
 use Rattle.wit_scopes.specs.declared.scope_name.Lent.{Lent}
 use Rattle.wit_scopes.specs.declared.scope_name.Named.{Named}
 use Rattle.wit_scopes.specs.declared.scope_name.Source.{Source as BorrowedSource}
-use Rattle.wit_arena.specs.Common.{Address, Defined, ForeignNamed, InterfaceNamed, ScopeName, Used, package_of}
+use Rattle.wit_arena.specs.Common.{Address, Defined, ForeignNamed, InterfaceNamed, ScopeName, Used, local_id, package_of}
 use Rattle.wit_scopes.specs.declared.scope_name.Named.TheVariants as borrowed
 use Rattle.wit_scopes.specs.declared.scope_name.Source.TheVariants as borrowed_source
 
@@ -26,6 +27,10 @@ DefinedName = Lent (Bor TypeDef)
 -- the definition that is borrowed
 abbrev pub definition_view : DefinedName → ScopeName
 definition_view d = Defined d.definition.now
+
+-- the names of a turn: the used ones, and then those of its definitions
+abbrev pub AreIdsOf : List UsedName → Turn → Type 0
+AreIdsOf uses t = t.ids.items ≡ map local_id (map use_view uses ++ map definition_view t.definitions.items)
 
 -- a borrowed name of a scope
 abbrev pub Borrowed : Type 0

@@ -1,12 +1,11 @@
 //! The order in which the definitions of a scope are resolved.
-ghost use Rattle.std.specs.Prelude.{◌≡◌, ◌++◌, map, IfOk};
+ghost use Rattle.std.specs.Prelude.{◌≡◌, map, IfOk};
 ghost use Rattle.std.specs.Bool.{MatchBool};
 ghost use Rattle.wit_graph.specs.Table.{rows, IsOrder};
 ghost use Rattle.wit_syntax.specs.ScopeTables.{defined, needed_ids as the_needed, rows_of, AreDistinct};
-ghost use Rattle.wit_syntax.specs.Source.{local_id as the_local_id};
 ghost use Rattle.wit_first.specs.First.{FindsBy};
 ghost use Rattle.wit_first.specs.OrderFaults.{IsTypeOrderFault};
-ghost use Rattle.wit_scopes.specs.BorrowedNames.{name_view, use_view, definition_view};
+ghost use Rattle.wit_scopes.specs.BorrowedNames.{AreIdsOf, name_view, definition_view};
 ghost use Rattle.wit_scopes.specs.DefinitionOrder.{AreOrdered, NeedNone};
 
 use crate::by_place::in_order;
@@ -74,7 +73,7 @@ fn turn_of<'t, 'a>(
     definitions: Vec<DefinedName<'t, 'a>>,
 ) -> Result<Turn<'t, 'a>, AllocError>
     ensures definitions { IfOk result (λ t. t.definitions ≡ definitions.entry) }
-    ensures ids { IfOk result (λ t. t.ids.items ≡ map the_local_id (map use_view uses.now ++ map definition_view t.definitions.items)) }
+    ensures ids { IfOk result (AreIdsOf uses.now) }
 {
     let mut ids = used_ids(alloc, uses, definitions.len())?;
     add_definition_ids(&mut ids, &definitions)?;
@@ -88,7 +87,7 @@ pub fn written_turn<'t, 'a>(
     uses: &[UsedName<'t, 'a>],
 ) -> Result<Turn<'t, 'a>, AllocError>
     ensures definitions { IfOk result (λ t. map definition_view t.definitions.items ≡ defined (map name_view names.now)) }
-    ensures ids { IfOk result (λ t. t.ids.items ≡ map the_local_id (map use_view uses.now ++ map definition_view t.definitions.items)) }
+    ensures ids { IfOk result (AreIdsOf uses.now) }
 {
     let written = definitions(alloc, names, uses.len())?;
     turn_of(alloc, uses, written)
@@ -117,9 +116,9 @@ pub fn ordered_turn<'t, 'a>(
 ) -> ParseResult<Turn<'t, 'a>>
     requires distinct { AreDistinct (map name_view names.now) }
     requires definitions { map definition_view written.definitions.items ≡ defined (map name_view names.now) }
-    requires ids { written.ids.items ≡ map the_local_id (map use_view uses.now ++ map definition_view written.definitions.items) }
+    requires ids { AreIdsOf uses.now written }
     ensures ordered { IfOk result (λ t. AreOrdered (map name_view names.now) (map definition_view t.definitions.items)) }
-    ensures ids { IfOk result (λ t. t.ids.items ≡ map the_local_id (map use_view uses.now ++ map definition_view t.definitions.items)) }
+    ensures ids { IfOk result (AreIdsOf uses.now) }
     ensures first { FindsBy (IsTypeOrderFault (map name_view names.now)) result }
 {
     if need_none(alloc, names)? {
