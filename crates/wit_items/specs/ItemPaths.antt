@@ -5,7 +5,6 @@ use Rattle.wit_tree.specs.declared.tree.PackageName.{PackageName as Header}
 use Rattle.wit_files.specs.FileNames.{top_at}
 use Rattle.wit_items.specs.declared.part_names.Part.{Part as BorrowedPart}
 use Rattle.wit_scopes.specs.declared.scope_name.Source.{Source}
-use Rattle.wit_scopes.specs.BorrowedNames.{IsPlaced}
 use Rattle.wit_model.specs.declared.ast_item.AstItem.TheVariants as entry
 use Rattle.wit_items.specs.declared.part_names.Part.TheVariants as borrowed_part
 use Rattle.wit_scopes.specs.declared.scope_name.Source.TheVariants as source
@@ -82,7 +81,3 @@ world_at files by_name (Foreign p id) = world_entry (entry_at files (Foreign p i
 abbrev pub source_target : Source → Target
 source_target (source.Declared id) = Local id
 source_target (source.Foreign place of name) = Foreign (package_of of.now) name
-
--- it is there, and placed
-abbrev pub IsSourceOf : List PackageFile → Target → Source → Type 0
-IsSourceOf files to s = (source_target s ≡ to) × IsPlaced (prefix_of files) s

@@ -8,8 +8,8 @@ ghost use Rattle.wit_first.specs.First.{Finds, first_in};
 ghost use Rattle.wit_first.specs.UseFaults.{use_fault};
 ghost use Rattle.wit_syntax.specs.ScopeTables.{own_uses};
 ghost use Rattle.wit_files.specs.FileNames.{top_at};
-ghost use Rattle.wit_scopes.specs.BorrowedNames.{name_view, AreNamesPlaced};
-ghost use Rattle.wit_items.specs.ItemPaths.{prefix_of, part_view, HasItem, HasPath, IsSourceOf};
+ghost use Rattle.wit_scopes.specs.BorrowedNames.{name_view, IsPlaced, AreNamesPlaced};
+ghost use Rattle.wit_items.specs.ItemPaths.{prefix_of, part_view, HasItem, HasPath, source_target};
 
 use crate::files::Files;
 use crate::resolved_path::path_source;
@@ -62,7 +62,8 @@ fn sound_source<'f, 'a>(
     used: &'f Use<'a>,
 ) -> ParseResult<Source<'f, 'a>>
     requires path { HasPath files.now place used.now.from }
-    ensures source { IfOk result (IsSourceOf files.now (leads (top_at files.now place) used.now.from)) }
+    ensures source { IfOk result (λ s. source_target s ≡ leads (top_at files.now place) used.now.from) }
+    ensures placed { IfOk result (IsPlaced (prefix_of files.now)) }
     ensures first { Finds (use_fault files.now (top_at files.now place) used.now) result }
 {
     check_metadata(alloc, &used.attributes)?;

@@ -9,7 +9,7 @@ ghost use Rattle.wit_first.specs.UseFaults.{path_fault, reached_fault};
 ghost use Rattle.wit_top_names.specs.Tops.{target_view};
 ghost use Rattle.wit_files.specs.FileNames.{top_at};
 ghost use Rattle.wit_scopes.specs.BorrowedNames.{IsPlaced};
-ghost use Rattle.wit_items.specs.ItemPaths.{prefix_of, HasPath, entry_at, source_target, IsSourceOf};
+ghost use Rattle.wit_items.specs.ItemPaths.{prefix_of, HasPath, entry_at, source_target};
 ghost use Rattle.wit_items.specs.ResolvedInterfaces.{source_place, unresolved_fault};
 
 use crate::files::Files;
@@ -59,7 +59,8 @@ fn named_source<'f, 'a>(
     path: &UsePath<'a>,
     name: Id<'a>,
 ) -> ParseResult<Source<'f, 'a>>
-    ensures source { IfOk result (IsSourceOf files.now (Local name.entry)) }
+    ensures source { IfOk result (λ s. source_target s ≡ Local name.entry) }
+    ensures placed { IfOk result (IsPlaced (prefix_of files.now)) }
     ensures first { Finds (reached_fault (is_world_at files.now (Local name.entry)) (path_id path.now) (lost_fault (all_items files.now) (Local name.entry)) None) result }
 {
     match files.found(Target::Local(name)) {
@@ -83,7 +84,8 @@ pub fn path_source<'f, 'a>(
     path: &'f UsePath<'a>,
 ) -> ParseResult<Source<'f, 'a>>
     requires path { HasPath files.now place path.now }
-    ensures source { IfOk result (IsSourceOf files.now (leads (top_at files.now place) path.now)) }
+    ensures source { IfOk result (λ s. source_target s ≡ leads (top_at files.now place) path.now) }
+    ensures placed { IfOk result (IsPlaced (prefix_of files.now)) }
     ensures first { Finds (path_fault files.now (top_at files.now place) path.now None) result }
 {
     match files.target(place, path) {

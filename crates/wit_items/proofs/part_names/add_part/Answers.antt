@@ -28,7 +28,7 @@ returns-clause-view c =
     elim c.match-part.branch [
       | in-DefinitionPart+in_ok-push-in-DefinitionPart b ↦ rw (b.names-is, b.in-DefinitionPart.is) (ap (map name_view) b.in_ok-push-in-DefinitionPart.ensures.items ∙ map-append name_view old (_ ∷ []))
       | in-UsePart+in_ok-from-in-UsePart+in_ok-add_used_names-in-UsePart b ↦ (
-          let from = ap (λ (s : Address). map name_view old ++ map (Used s b.in-UsePart.used.now.attributes.items) b.in-UsePart.used.now.names.items) (source_seen _ ∙ ap (target_scope InterfaceNamed) b.in_ok-from-in-UsePart.ensures.source.0) in
+          let from = ap (λ (s : Address). map name_view old ++ map (Used s b.in-UsePart.used.now.attributes.items) b.in-UsePart.used.now.names.items) (source_seen _ ∙ ap (target_scope InterfaceNamed) b.in_ok-from-in-UsePart.ensures.source) in
           rw (b.names-is, b.in-UsePart.is) ((rw (b.deref.ensures.value, b.deref-in-UsePart.ensures.value) at b.in_ok-add_used_names-in-UsePart.ensures.names) ∙ from))
       | in-IncludePart b ↦ rw (b.names-is, b.in-IncludePart.is) same
       | in-FunctionPart b ↦ rw (b.names-is, b.in-FunctionPart.is) same
@@ -40,7 +40,7 @@ returns-clause-placed c = λ placed.
     let prefix = prefix_of c.args.files.now in
     elim c.match-part.branch [
       | in-DefinitionPart+in_ok-push-in-DefinitionPart b ↦ rw b.names-is (names_more prefix c.args.names.now.items _ _ b.in_ok-push-in-DefinitionPart.ensures.items placed tt)
-      | in-UsePart+in_ok-from-in-UsePart+in_ok-add_used_names-in-UsePart b ↦ rw b.names-is (b.in_ok-add_used_names-in-UsePart.ensures.placed prefix b.in_ok-from-in-UsePart.ensures.source.1 placed)
+      | in-UsePart+in_ok-from-in-UsePart+in_ok-add_used_names-in-UsePart b ↦ rw b.names-is (b.in_ok-add_used_names-in-UsePart.ensures.placed prefix b.in_ok-from-in-UsePart.ensures.placed placed)
       | in-IncludePart b ↦ rw b.names-is placed
       | in-FunctionPart b ↦ rw b.names-is placed
       | in-ExternPart b ↦ rw b.names-is placed

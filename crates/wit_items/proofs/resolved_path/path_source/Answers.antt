@@ -9,13 +9,15 @@ use Rattle.wit_items.proofs.Others.{interface_found, interface_missing, wanted_v
 use Rattle.wit_items.proofs.resolved_path.path_source.Goals as goal
 
 pub returns-in-Some-Interface-clause-source : goal.returns-in-Some-Interface-clause-source
-returns-in-Some-Interface-clause-source c =
+returns-in-Some-Interface-clause-source c = sym (ap target_view c.in-Foreign.is) ∙ c.target.ensures
+
+pub returns-in-Some-Interface-clause-placed : goal.returns-in-Some-Interface-clause-placed
+returns-in-Some-Interface-clause-placed c =
     let files = c.args.files.now in
     let p = package_of c.in-Foreign.«package».now in
     let id = c.in-Foreign.name in
-    let lead : leads (top_at files c.args.place) c.args.path.now ≡ Foreign p id = sym c.target.ensures ∙ ap target_view c.in-Foreign.is in
     let there : option_copied c.entry_there.result ≡ Some (entry.Interface c.index.result) = search rules in
-    (sym lead, (interface_found files p id c.index.result (sym c.entry_there.ensures ∙ there)).1)
+    (interface_found files p id c.index.result (sym c.entry_there.ensures ∙ there)).1
 
 pub returns-in-Some-Interface-clause-first : goal.returns-in-Some-Interface-clause-first
 returns-in-Some-Interface-clause-first c =

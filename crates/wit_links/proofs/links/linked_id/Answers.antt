@@ -4,9 +4,6 @@ use Rattle.wit_links.specs.Links.{IsLinkedTo, interface_place}
 use Rattle.wit_links.proofs.Leading.{source_placed}
 use Rattle.wit_links.proofs.links.linked_id.Goals as goal
 
-pub source_id-requires : goal.source_id-requires
-source_id-requires c = c.in_ok-source.ensures.source.1
-
 pub returns-in_err-source-clause-first : goal.returns-in_err-source-clause-first
 returns-in_err-source-clause-first c =
     let p = err_from_is_err_and c.from_residual.result c.from_residual.ensures.1 in
@@ -17,9 +14,8 @@ returns-clause-leads c =
     let is = c.args.interfaces.now in
     let path = c.args.path.now in
     let top = top_at is.files c.args.place in
-    let from = c.in_ok-source.ensures.source in
     let usable = wanted_usable is.files c.args.place path c.requires.path c.in_ok-source.ensures.first in
-    IfOk-weaker c.source_id.result (λ id. source_place is.by_name c.in_ok-source.source ≡ Some id) (IsLinkedTo is.files is.by_name top path) (λ id at. (usable, ap (λ (t : Target). interface_place (prefix_of is.files) is.by_name (target_scope InterfaceNamed t)) (sym from.0) ∙ source_placed is.files is.by_name c.in_ok-source.source from.1 ∙ at)) c.source_id.ensures.id
+    IfOk-weaker c.source_id.result (λ id. source_place is.by_name c.in_ok-source.source ≡ Some id) (IsLinkedTo is.files is.by_name top path) (λ id at. (usable, ap (λ (t : Target). interface_place (prefix_of is.files) is.by_name (target_scope InterfaceNamed t)) (sym c.in_ok-source.ensures.source) ∙ source_placed is.files is.by_name c.in_ok-source.source c.in_ok-source.ensures.placed ∙ at)) c.source_id.ensures.id
 
 pub returns-clause-first : goal.returns-clause-first
-returns-clause-first c = finds_back _ c.source_id.result c.in_ok-source.ensures.first (subst (λ (t : Target). Finds (unresolved_fault c.args.interfaces.now.by_name t) c.source_id.result) c.in_ok-source.ensures.source.0 c.source_id.ensures.first)
+returns-clause-first c = finds_back _ c.source_id.result c.in_ok-source.ensures.first (subst (λ (t : Target). Finds (unresolved_fault c.args.interfaces.now.by_name t) c.source_id.result) c.in_ok-source.ensures.source c.source_id.ensures.first)
