@@ -123,7 +123,7 @@ any_names [] name = refl
 any_names (v ∷ vs) name = ap (λ (b : Bool). bytes_eq (local_name (use_view v)) name || b) (any_names vs name)
 
 -- one more, where the earlier ones are in a table
-pub local_next : (is : Interfaces) (names : Names) (before : List UsedName) (u : UsedName) → names_in names ≡ local_names (map use_view before) → local_fault is before u ≡ option_or (used_fault is u) (spelled_fault names (local_id (use_view u)))
+pub local_next : (is : Interfaces) (names : Names) (before : List UsedName) (u : UsedName) → names_in names ≡ local_names (map use_view before) → local_fault is before u ≡ option_or (used_fault is u) (spelled_fault names u)
 local_next is names before u listed =
     let id = local_id (use_view u) in
     let name = local_name (use_view u) in

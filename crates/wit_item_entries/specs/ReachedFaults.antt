@@ -34,8 +34,8 @@ abbrev pub used_fault : Interfaces → UsedName → Option Fault
 used_fault is u = option_or (unresolved_fault is.by_name (source_target u.from)) (option_map_or (asked_fault u.name.now.name) (interface_of is u.from) None)
 
 -- a name of a scope is spelled alike
-abbrev pub spelled_fault : Names → Id → Option Fault
-spelled_fault names id = if is_some (env_of names id.name.now) then Some (name_twice id) else None
+abbrev pub spelled_fault : Names → UsedName → Option Fault
+spelled_fault names u = if is_some (env_of names (local_name (use_view u))) then Some (name_twice (local_id (use_view u))) else None
 
 -- of a used name, and then an earlier one is spelled alike
 abbrev pub local_fault : Interfaces → List UsedName → UsedName → Option Fault

@@ -2,7 +2,6 @@
 ghost use Rattle.std.specs.Prelude.{◌≡◌, ◌↔◌, ◌++◌, [], Contains, Some, codes, map, OnOk, IfOk, IsTrue, string_bytes, slice_get};
 ghost use Rattle.std.specs.List.{flat_map};
 ghost use Rattle.std.specs.Option.{option_copied, option_or, option_to_list};
-ghost use Rattle.wit_syntax.specs.Source.{local_id};
 ghost use Rattle.wit_syntax.specs.ScopeTables.{local_names};
 ghost use Rattle.wit_first.specs.First.{Finds, Reports, first_after};
 ghost use Rattle.wit_arena.specs.SourceFunctions.{freestanding_names};
@@ -100,7 +99,7 @@ fn resolve_use<'f, 'a>(
     ensures owner { OnOk result (scope.new.owner ≡ scope.old.owner) }
     ensures required { scope.new.required ≡ scope.old.required }
     ensures extended { OnOk result (IsExtended types.old types.new) }
-    ensures first { Finds (option_or (used_fault interfaces.now used.now) (spelled_fault scope.old.names (local_id (use_view used.now)))) result }
+    ensures first { Finds (option_or (used_fault interfaces.now used.now) (spelled_fault scope.old.names used.now)) result }
 {
     let name = used.name;
     let id = source_id(alloc, interfaces, &used.from)?;

@@ -1,5 +1,5 @@
 use Rattle.std.proofs.Common.{◌≡◌, true, None, Some, inl, inr, refl, sym, ap, ◌∙◌, rules, ℕ, Option}
-use Rattle.wit_items.proofs.Common.{codes, defined_twice, env_of, err_from_is_err_and, free_functions, if◌then◌else◌, is_none, local_id, name_twice, option_and_then, option_map_or, reports_back, reports_prefix, reports_same, resolved_scope_at, slice_get, source_view, source_within, use_view}
+use Rattle.wit_items.proofs.Common.{Fault, Id, codes, defined_twice, env_of, err_from_is_err_and, free_functions, if◌then◌else◌, is_none, name_twice, option_and_then, option_map_or, reports_back, reports_prefix, reports_same, resolved_scope_at, slice_get, source_view, source_within}
 use Rattle.std.specs.Prelude.{is_some}
 use Rattle.wit_item_entries.specs.ReachedFaults.{interface_of, asked_fault, lost_name, used_fault, spelled_fault}
 use Rattle.wit_item_entries.proofs.ReachedFaults.{found_of, used_from}
@@ -10,7 +10,7 @@ returns-in_err-id-clause-first c =
     let p = err_from_is_err_and c.from_residual.result c.from_residual.ensures.1 in
     let is = c.args.interfaces.now in
     let u = c.args.used.now in
-    rw (p.1, p.2) (reports_prefix (spelled_fault c.args.scope.now.names (local_id (use_view u))) (reports_prefix (option_map_or (asked_fault u.name.now.name) (interface_of is u.from) None) c.in_err-id.ensures.first))
+    rw (p.1, p.2) (reports_prefix (spelled_fault c.args.scope.now.names u) (reports_prefix (option_map_or (asked_fault u.name.now.name) (interface_of is u.from) None) c.in_err-id.ensures.first))
 
 pub returns-in-None-clause-first : goal.returns-in-None-clause-first
 returns-in-None-clause-first c =
@@ -21,7 +21,7 @@ returns-in-None-clause-first c =
     let free : env_of i.types id.name.now ≡ None = search rules in
     let at : interface_of is u.from ≡ Some i = ap (option_and_then (slice_get is.arena)) c.in_ok-id.ensures.id ∙ c.get-interface.ensures in
     let lost : used_fault is u ≡ Some (lost_name (free_functions i) id) = used_from is u i c.in_ok-id.ensures.first at ∙ ap (λ (o : Option ℕ). if is_none o then Some (lost_name (free_functions i) id) else None) free in
-    reports_prefix (spelled_fault c.args.scope.now.names (local_id (use_view u))) (reports_same (sym lost) c.refuse_used.ensures)
+    reports_prefix (spelled_fault c.args.scope.now.names u) (reports_same (sym lost) c.refuse_used.ensures)
 
 pub returns-then-is_some-clause-first : goal.returns-then-is_some-clause-first
 returns-then-is_some-clause-first c =
@@ -35,10 +35,11 @@ returns-then-is_some-clause-first c =
     let at : interface_of is u.from ≡ Some i = ap (option_and_then (slice_get is.arena)) c.in_ok-id.ensures.id ∙ c.get-interface.ensures in
     let right : used_fault is u ≡ None = used_from is u i c.in_ok-id.ensures.first at ∙ ap (λ (o : Option ℕ). if is_none o then Some (lost_name (free_functions i) id) else None) found in
     let here : is_some (env_of names local.name.now) ≡ true = search rules in
-    let twice : spelled_fault names local ≡ Some (name_twice local) = rw here refl in
+    let spelled : Id → Option Fault = λ id. if is_some (env_of names id.name.now) then Some (name_twice id) else None in
+    let twice : spelled local ≡ Some (name_twice local) = rw here refl in
     elim (c.refuse_in.ensures (defined_twice (codes "name") local.name.now) c.defined_twice.ensures) [
       | inl memory ↦ inl memory
-      | inr says ↦ reports_back right (inr (ap (spelled_fault names) (sym c.local_of-local.ensures) ∙ twice ∙ ap Some (sym says)))
+      | inr says ↦ reports_back right (inr (ap spelled (sym c.local_of-local.ensures) ∙ twice ∙ ap Some (sym says)))
     ]
 
 pub get-interface-requires : goal.get-interface-requires
