@@ -5,11 +5,9 @@ pub use Rattle.wit_links.specs.Links.{IsLinkedTo, interface_place, linked_fault,
 pub use Rattle.wit_links.specs.declared.worlds.Worlds.{Worlds}
 pub use Rattle.wit_item_entries.specs.AddedNames.{AddsTurn, IsTurn, Appends}
 pub use Rattle.wit_item_entries.specs.ReachedFaults.{EndsInTurn, FindsNames, item_stability, names_fault, ordered_fault}
-pub use Rattle.wit_contents.specs.AddedInterfaces.{AddsAt, AppendsAll, IsIndexed, interfaces_in}
-pub use Rattle.wit_contents.specs.InterfaceFaults.{AreRightOf, FindsInterface, IsLent, IsRightOf, interface_fault, names_of, rest_fault}
+pub use Rattle.wit_contents.specs.Interfaces.{AddsAt, AppendsAll, IsIndexed, interfaces_in, AreRightOf, FindsInterface, IsLent, IsRightOf, interface_fault, names_of, rest_fault}
 pub use Rattle.wit_contents.specs.Files.{IsRight, fault_after}
-pub use Rattle.wit_contents.specs.MemberFaults.{AreRightMembers, IsRightMember, MemberTest, function_member, inline_member, link_member}
-pub use Rattle.wit_contents.specs.Walk.{AddsInside, AddsMembers, HavePlaces, IsNext, IsStart, IsWalk, ItemWalk, Stage, lead, next_place, puts_nothing, resource_items, stage, walk_of}
+pub use Rattle.wit_contents.specs.Walk.{AreRightMembers, IsRightMember, MemberTest, function_member, inline_member, link_member, AddsInside, AddsMembers, HavePlaces, IsNext, IsStart, IsWalk, ItemWalk, Stage, lead, next_place, puts_nothing, resource_items, stage, walk_of}
 pub use Rattle.wit_contents.specs.Worlds.{AddsContent, AddsTo, AreIndexed, AreRightOfWorlds, FindsSides, HasContent, IsRightOfWorld, arenas, sides_fault, turn_fault, world_head, worlds_in}
 pub use Rattle.wit_items.specs.declared.interfaces.Interfaces.{Interfaces}
 pub use Rattle.wit_items.specs.declared.items.Item.{Item}

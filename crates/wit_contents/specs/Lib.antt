@@ -1,7 +1,5 @@
-pub mod AddedInterfaces
+pub mod Interfaces
 pub mod Files
-pub mod InterfaceFaults
-pub mod MemberFaults
 pub mod Walk
 pub mod Worlds
 pub mod Names

@@ -1,7 +1,6 @@
 -- What a world adds to the arenas, the walk of what it imports and exports, and its first fault.
 use Rattle.std.specs.Prelude.{◌≡◌, ℕ, List, ◌∷◌, [], ◌++◌, length, map, true, Option, Result, Some, slice_get, take}
-use Rattle.wit_contents.specs.Names.{Address, AddsScope, AddsWorld, AddsWorlds, Appends, EndsInTurn, Fault, Id, Interface, Interfaces, IsItemOf, IsNameIndex, IsWorld, Item as BorrowedItem, Metadata, ParseError, Required, ResolvedNames, TypeDef, World, WorldArenas, WorldNamed, about, address, declared_metadata, defined_fault, in_order, in_turn, includes, inline_items, is_world, item_stability, item_view, local_id, name_of_id, names_fault, option_or, others_of, prefix_of, prefix_worlds, resolved_scopes_of, rows_of, scope_names, side_items, worlds_at, worlds_of}
-use Rattle.wit_arena.specs.Common.{Item}
+use Rattle.wit_contents.specs.Names.{Address, AddsScope, AddsWorld, AddsWorlds, Appends, BorrowedItem, EndsInTurn, Fault, Id, Interface, Interfaces, IsItemOf, IsNameIndex, IsWorld, Item, Metadata, ParseError, Required, ResolvedNames, TypeDef, World, WorldArenas, WorldNamed, about, address, declared_metadata, defined_fault, in_order, in_turn, includes, inline_items, is_world, item_stability, item_view, local_id, name_of_id, names_fault, option_or, others_of, prefix_of, prefix_worlds, resolved_scopes_of, rows_of, scope_names, side_items, worlds_at, worlds_of}
 use Rattle.wit_types.specs.declared.types.TypeOwner.TheVariants as owner
 use Rattle.wit_links.specs.declared.worlds.Worlds.{Worlds}
 use Rattle.wit_item_entries.specs.AddedNames.{AddsTurn}
@@ -15,8 +14,7 @@ use Rattle.wit_contents.specs.declared.world.WorldContent.{WorldContent}
 use Rattle.wit_contents.specs.declared.walk.Growing.{Growing}
 use Rattle.wit_contents.specs.declared.walk.Walked.{Walked}
 use Rattle.wit_contents.specs.declared.walk.WorldScope.{WorldScope}
-use Rattle.wit_contents.specs.Walk.{IsStart, IsWalk, ItemWalk, stage}
-use Rattle.wit_contents.specs.MemberFaults.{AreRightMembers, MemberTest}
+use Rattle.wit_contents.specs.Walk.{IsStart, IsWalk, ItemWalk, stage, AreRightMembers, MemberTest}
 
 -- the worlds among items, in the order of their places
 abbrev pub worlds_in : List BorrowedItem → List ℕ → List Item

@@ -3,8 +3,7 @@ ghost use Rattle.std.specs.Prelude.{◌≡◌, ◌<◌, ◌++◌, ◌∷◌, [],
 ghost use Rattle.wit_type_tree.specs.RefusalText.{IsAllocationFailure};
 ghost use Rattle.wit_syntax.specs.Source.{is_world};
 ghost use Rattle.wit_items.specs.BorrowedItems.{item_view, AreItemsOf, IsItemOf};
-ghost use Rattle.wit_contents.specs.AddedInterfaces.{AppendsAll, IsIndexed, interfaces_in};
-ghost use Rattle.wit_contents.specs.InterfaceFaults.{FindsAmong, FindsOne};
+ghost use Rattle.wit_contents.specs.Interfaces.{AppendsAll, IsIndexed, interfaces_in, FindsAmong, FindsOne};
 
 use crate::interface::interface_of;
 use wit_entries::entries::Entries;

@@ -9,8 +9,7 @@ ghost use Rattle.wit_items.specs.BorrowedItems.{declared_view, scope_item};
 ghost use Rattle.wit_first.specs.First.{Finds};
 ghost use Rattle.wit_arena.specs.Resolving.{env_of};
 ghost use Rattle.wit_externs.specs.Clash.{FindsIn, lone_setters};
-ghost use Rattle.wit_contents.specs.InterfaceFaults.{rest_fault, FindsInterface, IsLent, names_of};
-ghost use Rattle.wit_contents.specs.AddedInterfaces.{AddsAt, AddsTable};
+ghost use Rattle.wit_contents.specs.Interfaces.{rest_fault, FindsInterface, IsLent, names_of, AddsAt, AddsTable};
 ghost use Rattle.wit_item_entries.specs.Body.{HasTurn};
 
 use std::alloc::{AllocError, Global};

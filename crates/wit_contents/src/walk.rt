@@ -7,9 +7,8 @@ ghost use Rattle.wit_rules.specs.Signatures.{function_view};
 ghost use Rattle.wit_items.specs.BorrowedItems.{item_view, scope_item};
 ghost use Rattle.wit_world_sides.specs.Members.{path_link};
 ghost use Rattle.wit_links.specs.Links.{inline_side, seen_on};
-ghost use Rattle.wit_contents.specs.InterfaceFaults.{FindsInterface, IsLent};
-ghost use Rattle.wit_contents.specs.MemberFaults.{FindsMembers};
-ghost use Rattle.wit_contents.specs.Walk.{AddsItems, IsNext, next_place, resource_items, stage, walk_of, AddsInside};
+ghost use Rattle.wit_contents.specs.Interfaces.{FindsInterface, IsLent};
+ghost use Rattle.wit_contents.specs.Walk.{FindsMembers, AddsItems, IsNext, next_place, resource_items, stage, walk_of, AddsInside};
 
 use crate::interface::interface_of;
 use std::alloc::AllocError;
