@@ -3,8 +3,6 @@ use Rattle.std.specs.Prelude.{◌≡◌, ◌⊎◌, List, Contains}
 use Rattle.wit_tree.specs.declared.tree.NestedPackage.{NestedPackage}
 use Rattle.wit_arena.specs.Common.{Fault, IsDocumentedTwice, IsOtherPackage, PackageFile, fault}
 use Rattle.wit_tree.specs.declared.tree.SourceFile.{SourceFile}
-use Rattle.wit_first.specs.HeaderFaults.{push_fault}
-use Rattle.wit_first.specs.Laws.{Agrees}
 
 -- a package is among those that are nested in a source
 pub record IsNesting (nested : List NestedPackage) (f : Fault) : Type 0 where
@@ -16,7 +14,3 @@ pub record IsNesting (nested : List NestedPackage) (f : Fault) : Type 0 where
 -- package is nested in it
 abbrev pub IsStray : List PackageFile → SourceFile → Fault → Type 0
 IsStray files s f = IsOtherPackage files s.file f ⊎ (IsDocumentedTwice files s.file f ⊎ IsNesting s.nested.items f)
-
--- the first fault of a source is a reason why it is one; and where there is none, it is none
-abbrev pub PushesAgree : Type 0
-PushesAgree = (files : List PackageFile) (s : SourceFile) → Agrees (push_fault files s) (IsStray files s)

@@ -1,6 +1,9 @@
 //! What holds of all resolved packages, and of the files that make them.
 ghost use Rattle.std.specs.Prelude.{◌≡◌, List, [], ◌∷◌};
 ghost use Rattle.wit_tree.specs.declared.tree.PackageFile.{PackageFile as TheFile};
+ghost use Rattle.wit_tree.specs.declared.tree.SourceFile.{SourceFile as TheSource};
+ghost use Rattle.wit_first.specs.HeaderFaults.{push_fault};
+ghost use Rattle.wit_first.specs.Laws.{Agrees};
 ghost use Rattle.wit_files.specs.Visits.{all_visits};
 ghost use Rattle.wit_syntax.specs.Splitting.{IsJoined, IsSplit};
 ghost use Rattle.wit_syntax.specs.Broken.{IsLegal};
@@ -11,7 +14,7 @@ ghost use Rattle.wit_arena.specs.Made.{Makes};
 ghost use Rattle.wit_parser.specs.Ids.{AreIdsWithin};
 ghost use Rattle.wit_parser.specs.Marks.{HaveMarks};
 ghost use Rattle.wit_parser.specs.OnePackage.{MakeOne};
-ghost use Rattle.wit_parser.specs.Stray.{PushesAgree};
+ghost use Rattle.wit_parser.specs.Stray.{IsStray};
 
 use wit_model::UnresolvedPackage;
 
@@ -62,5 +65,5 @@ pub fn one_package()
 /// The first fault of a source that [`Resolver::push`](crate::Resolver::push) reports breaks one of
 /// E1, E2 and E3; and where there is none, the source breaks none of them.
 pub fn pushes_agree()
-    ensures { PushesAgree }
+    ensures { (files : List TheFile) (s : TheSource) → Agrees (push_fault files s) (IsStray files s) }
 {}
