@@ -7,11 +7,10 @@ use Rattle.wit_contents.specs.declared.walk.WorldScope.{WorldScope}
 use Rattle.wit_arena.proofs.Common.{Item}
 use Rattle.wit_walk.proofs.Common.{World as Written, WorldItem}
 use Rattle.wit_externs.specs.Clash.{sides_setters, again}
-use Rattle.wit_item_entries.proofs.ReachedFaults.{done, failed}
+use Rattle.wit_item_entries.proofs.ReachedFaults.{done, failed, turn_texts}
 use Rattle.wit_item_entries.specs.declared.names.ResolvedNames.{ResolvedNames}
 use Rattle.wit_contents.proofs.MemberFaults.{turned, world_sides}
 use Rattle.wit_world_sides.specs.Members.{none_of}
-use Rattle.wit_item_entries.proofs.ReachedFaults.{turn_texts}
 use Rattle.wit_links.proofs.Leading.{addresses_count}
 use Rattle.wit_contents.specs.Walk.{IsWorldOf}
 use Rattle.wit_rules.specs.Signatures.{function_view, AreResults}
