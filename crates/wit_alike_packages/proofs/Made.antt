@@ -1,6 +1,6 @@
 -- Files that are alike make one package.
 use Rattle.std.proofs.Common.{◌≡◌, ℕ, List, ◌++◌, map, take, Some, inl, inr, refl, ap, ap₂, sym, ◌∙◌, subst}
-use Rattle.wit_arena.proofs.Common.{Address, AllZip, Contains, Def, Exprs, Form, Interface, IsEntryOf, IsOrder, Item, Key, Kind, Makes, Metadata, Occurrence, PackageFile, Row, ScopeName, Span, Stability, TypeDef, TypeOwner, UnresolvedPackage, Whole, World, about_name, all_items, all_occurrences, all_scopes, entry, firsts, flat_map, foreign_interface, foreign_interfaces, foreign_use_occurrence, foreign_uses, foreign_world, foreign_worlds, in_order, interface_scopes, item_rows, item_turns, keys, last_header, name_exprs, one_answer, option_map, own_interface, own_interfaces, own_world, owner_at, package_of, rows_of, same_edges, scope, scope_names, turn_handles, turn_occurrences, types_of, world_scopes, worlds_of}
+use Rattle.wit_arena.proofs.Common.{Address, AllZip, Contains, Def, Exprs, Form, Interface, IsEntryOf, IsOrder, Item, Key, Makes, Metadata, Occurrence, PackageFile, Row, ScopeName, Span, Stability, TypeDef, TypeOwner, UnresolvedPackage, Whole, World, about_name, all_items, all_occurrences, all_scopes, entry, firsts, flat_map, foreign_interface, foreign_interfaces, foreign_use_occurrence, foreign_uses, foreign_world, foreign_worlds, in_order, interface_scopes, item_rows, item_turns, keys, last_header, name_exprs, one_answer, option_map, own_interface, own_interfaces, own_world, owner_at, package_of, rows_of, same_edges, scope, scope_names, turn_handles, turn_occurrences, types_of, world_scopes, worlds_of}
 use Rattle.wit_tree.specs.declared.tree.PackageName.{PackageName as Header}
 use Rattle.wit_types.specs.declared.types.«Type».{«Type» as Ty}
 use Rattle.wit_grammar.specs.Trees.{PackageId}
@@ -28,8 +28,8 @@ order_alike rs ss h places is =
     ]
 
 -- an entry is that of what occurs, where scopes have names that are alike, and the same owners
-abbrev kind_by : Form → List Ty → Kind
-kind_by form parts = record { form = form; parts = parts }
+abbrev kind_by : Form → List Ty → Form × List Ty
+kind_by form parts = (form, parts)
 
 module _ (names others : Address → List ScopeName) (same : (s : Address) → AllZip SameName (names s) (others s)) (owner more : Address → TypeOwner) (owned : (s : Address) → owner s ≡ more s) (id : Key → ℕ) (es : List TypeDef) where
   entry_alike : (k : Key) (span : Span) (given : Stability) (e : TypeDef) → IsEntryOf names owner id es k span given e → IsEntryOf others more id es k span given e

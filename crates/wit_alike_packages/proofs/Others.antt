@@ -1,6 +1,6 @@
 -- What alike files name of other packages, and what they require of them.
 use Rattle.std.proofs.Common.{◌≡◌, ℕ, ◌+◌, Bool, not, cond, List, [], ◌∷◌, ◌++◌, map, length, Bor, Option, Some, None, refl, ap, ap₂, sym, ◌∙◌, subst}
-use Rattle.wit_arena.proofs.Common.{Address, AllZip, AreRequired, AstItem, AtForeign, AtResource, Contains, Docs, EndsAt, ForeignUse, ForeignVisit, HandleRequires, Id, Item, Key, PackageFile, PackageName, Span, Stability, Word, address, at_contains, contains_at, dep, docs_of, filter, first_docs, first_foreign_uses, foreign_entry, foreign_interface, foreign_interfaces, foreign_items, foreign_packages, foreign_place, foreign_visits, foreign_world, foreign_worlds, headers, if◌then◌else◌, interface, interface_scopes, length-map, name_places, no_metadata, own_interfaces, package_of, prefix_len, same_address, same_item, same_package, scope, shape_end, slice_get, stability_of, visited, world, world_scopes, worlds_of, ◌==◌}
+use Rattle.wit_arena.proofs.Common.{Address, AllZip, AreRequired, AstItem, AtForeign, AtResource, Contains, Docs, EndsAt, ForeignUse, ForeignVisit, HandleRequires, Id, Item, Key, PackageFile, PackageName, Span, Stability, Word, address, at_contains, contains_at, dep, docs_of, filter, first_docs, first_foreign_uses, foreign_entry, foreign_interface, foreign_interfaces, foreign_items, foreign_packages, foreign_place, foreign_visits, foreign_world, foreign_worlds, headers, if◌then◌else◌, interface, interface_scopes, length-map, name_places, own_interfaces, package_of, prefix_len, same_address, same_item, same_package, scope, shape_end, slice_get, stability_of, visited, world, world_scopes, worlds_of, ◌==◌, metadata, no_docs}
 use Rattle.wit_walk.proofs.Common.{End}
 use Rattle.wit_tree.specs.declared.tree.PackageName.{PackageName as Header}
 use Rattle.wit_model.specs.declared.ast_item.AstItem.TheVariants as entry
@@ -153,13 +153,13 @@ module _ (files others : List PackageFile) (h : AllZip SameFile files others) wh
       let scopes : scope others (visited v) ≡ scope others (visited w) = ap (scope others) (same_visited v w same) in
       let names : name_places id (visited v) (scope files (visited v)) ≡ name_places id (visited w) (scope others (visited w)) =
       same_name_places id (visited v) (visited w) (same_visited v w same) (scope files (visited v)) (scope others (visited v)) (same_scope files others h (visited v)) ∙ ap (name_places id (visited w)) scopes in
-      ap₂ (λ (l : List (List ℕ × ℕ)) (span : Span). interface None l [] no_metadata span) names (same_span v.id w.id same.id)
+      ap₂ (λ (l : List (List ℕ × ℕ)) (span : Span). interface None l [] (metadata no_docs []) span) names (same_span v.id w.id same.id)
 
   pub all_foreign_interfaces : (id : Key → ℕ) → map (foreign_interface files id) (foreign_interfaces files) ≡ map (foreign_interface others id) (foreign_interfaces others)
   all_foreign_interfaces id = zip_same SameVisit (foreign_interface files id) (foreign_interface others id) (same_foreign_interface id) (foreign_interfaces files) (foreign_interfaces others) same_foreign_interfaces
 
   pub all_foreign_worlds : map foreign_world (foreign_worlds files) ≡ map foreign_world (foreign_worlds others)
-  all_foreign_worlds = zip_same SameVisit foreign_world foreign_world (λ v w same. ap (λ (span : Span). world [] [] [] [] no_metadata span) (same_span v.id w.id same.id)) (foreign_worlds files) (foreign_worlds others) same_foreign_worlds
+  all_foreign_worlds = zip_same SameVisit foreign_world foreign_world (λ v w same. ap (λ (span : Span). world [] [] [] [] (metadata no_docs []) span) (same_span v.id w.id same.id)) (foreign_worlds files) (foreign_worlds others) same_foreign_worlds
 
   pub same_interface_scopes : (is js : List Item) → AllZip SameItem is js → interface_scopes files is ≡ interface_scopes others js
   same_interface_scopes is js items =

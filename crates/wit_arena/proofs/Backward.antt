@@ -48,7 +48,7 @@ both_below n None b h = All-cons (λ s. rank s ≤ n) None (b ∷ []) (omega ari
 both_below n (Some t) b h = All-cons (λ s. rank s ≤ n) (Some t) (b ∷ []) (first_below n t (option_to_list b) h) (last_below n b (All-tail (IsBelow n) t (option_to_list b) h))
 
 -- the slots of a kind, and the place of a handle's resource, are below where the parts are
-kind_below : (n : ℕ) (k : TypeDefKind) → AreBelow n (kind_of k).parts → IsKindBelow n k
+kind_below : (n : ℕ) (k : TypeDefKind) → AreBelow n (kind_of k).1 → IsKindBelow n k
 kind_below n (kind.Record r) h = (fields_below n r.fields h, omega arith)
 kind_below n (kind.Handle (handle.Own i)) h = (All-nil (λ s. rank s ≤ n), first_below n (type.Id i) [] h)
 kind_below n (kind.Handle (handle.Borrow i)) h = (All-nil (λ s. rank s ≤ n), first_below n (type.Id i) [] h)

@@ -36,7 +36,7 @@ names_added ks s names name place is fresh at_end = record {
 }
 
 -- a name over parts that were resolved
-defines_from : (old mid new : List TypeDef) (cs : List ResolvedScope) (o : TypeOwner) (s : Address) (names names' : Names) (x : ScopeName) (kind : TypeDefKind) (es : Exprs) → keys (parts_occurrences s x) ≡ all_seen es → ((decls : Decls) (ms : List Occurrence) → IsOccurrence decls ms old → AreNames (keys ms) s (env_of names) → AreKnown (keys ms) s cs → Extends decls ms (parts_occurrences s x) mid (λ ks. AreAt ks (name_exprs s x) (kind_of kind).parts)) → (kind_of kind).form ≡ (about_name x).body.form → IsAdded mid new o names names' (local_name x) (about_name x).metadata (about_name x).span kind → Defines old new cs o s names names' (x ∷ [])
+defines_from : (old mid new : List TypeDef) (cs : List ResolvedScope) (o : TypeOwner) (s : Address) (names names' : Names) (x : ScopeName) (kind : TypeDefKind) (es : Exprs) → keys (parts_occurrences s x) ≡ all_seen es → ((decls : Decls) (ms : List Occurrence) → IsOccurrence decls ms old → AreNames (keys ms) s (env_of names) → AreKnown (keys ms) s cs → Extends decls ms (parts_occurrences s x) mid (λ ks. AreAt ks (name_exprs s x) (kind_of kind).1)) → (kind_of kind).0 ≡ (about_name x).body.form → IsAdded mid new o names names' (local_name x) (about_name x).metadata (about_name x).span kind → Defines old new cs o s names names' (x ∷ [])
 defines_from old mid new cs o s names names' x kind es keys_of p form a = record {
   from = λ decls ms among distinct anew known m are_present. (
       let name = local_name x in
@@ -61,7 +61,7 @@ defines_from old mid new cs o s names names' x kind es keys_of p form a = record
 }
 
 -- a definition over parts that were resolved
-pub defines_one : (old mid new : List TypeDef) (cs : List ResolvedScope) (o : TypeOwner) (s : Address) (names names' : Names) (d : Definition) (kind : TypeDefKind) → AreResolved old mid s (env_of names) (shapes_occurrences s (about_name (Defined d)).metadata.stability (body_of d.body).parts) (exprs_of s (body_of d.body).parts) (kind_of kind).parts → (kind_of kind).form ≡ (body_of d.body).form → IsAdded mid new o names names' d.name.name.now (about_name (Defined d)).metadata d.name.span kind → Defines old new cs o s names names' (Defined d ∷ [])
+pub defines_one : (old mid new : List TypeDef) (cs : List ResolvedScope) (o : TypeOwner) (s : Address) (names names' : Names) (d : Definition) (kind : TypeDefKind) → AreResolved old mid s (env_of names) (shapes_occurrences s (about_name (Defined d)).metadata.stability (body_of d.body).parts) (exprs_of s (body_of d.body).parts) (kind_of kind).1 → (kind_of kind).0 ≡ (body_of d.body).form → IsAdded mid new o names names' d.name.name.now (about_name (Defined d)).metadata d.name.span kind → Defines old new cs o s names names' (Defined d ∷ [])
 defines_one old mid new cs o s names names' d kind p form a = defines_from old mid new cs o s names names' (Defined d) kind (exprs_of s (body_of d.body).parts) p.same (λ decls ms m are_present known. p.from decls ms m are_present) form a
 
 -- the names of a scope mean their places, however it is called

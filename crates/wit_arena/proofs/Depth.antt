@@ -42,8 +42,8 @@ module _ (files : List PackageFile) (decls : Decls) (ks : List Key) (p : Unresol
       let x = it.1 in
       let at : slice_get (scope files s) it.0 ≡ Some x = ap (λ (d : List ScopeName × TypeOwner). slice_get d.0 it.0) (sym here.own) ∙ it.2 in
       let own : owner_of p e.0.owner ≡ Some s = ap (owner_of p) (it.6 ∙ ap (λ (d : List ScopeName × TypeOwner). d.1) here.own) ∙ here.called in
-      let parts = all_at_untaken i ks (name_exprs s x) (kind_of e.0.kind).parts it.8 in
-      let inner = parts_agree n agree (unwrap_or (about_name x).from s) (about_name x).body.parts (kind_of e.0.kind).parts parts in
+      let parts = all_at_untaken i ks (name_exprs s x) (kind_of e.0.kind).1 it.8 in
+      let inner = parts_agree n agree (unwrap_or (about_name x).from s) (about_name x).body.parts (kind_of e.0.kind).1 parts in
       let found = meaning_found (scope files s) it.0 x name here.distinct at it.3 in
       let heads = head_agrees s name x e.0 it.3 it.5 own it.9 in
       rw (e.1, it.4, heads, it.7, inner, found) refl
@@ -52,7 +52,7 @@ module _ (files : List PackageFile) (decls : Decls) (ks : List Key) (p : Unresol
   whole_agrees n agree s form parts i there =
       let e = entry_of_key decls ks p.types m i (Whole form (exprs_of s parts)) there in
       let it = m.each i (Whole form (exprs_of s parts)) e.0 there e.1 in
-      let inner = parts_agree n agree s parts (kind_of e.0.kind).parts (all_at_untaken i ks (exprs_of s parts) (kind_of e.0.kind).parts it.3) in
+      let inner = parts_agree n agree s parts (kind_of e.0.kind).1 (all_at_untaken i ks (exprs_of s parts) (kind_of e.0.kind).1 it.3) in
       rw (e.1, it.0, it.2, inner) refl
 
   pub same_tree : (n : ℕ) → Agree n

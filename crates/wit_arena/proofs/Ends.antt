@@ -175,11 +175,11 @@ module _ (files : List PackageFile) (decls : Decls) (ks : List Key) (es : List T
       let here = scopes i s id.name.now at in
       let x = it.1 in
       let there : slice_get (scope files s) it.0 ≡ Some x = ap (λ (d : List ScopeName × TypeOwner). slice_get d.0 it.0) (sym here.own) ∙ it.2 in
-      let parts = all_at_untaken i ks (name_exprs s x) (kind_of entry.0.kind).parts it.8 in
+      let parts = all_at_untaken i ks (name_exprs s x) (kind_of entry.0.kind).1 it.8 in
       let means : Means files s id x = record { found = meaning_found (scope files s) it.0 x id.name.now here.distinct there it.3 } in
-      let before : kind_end (entry_end n (take i es)) i (kind_of entry.0.kind).form (kind_of entry.0.kind).parts ≡ Some e = ap (found_end (entry_end n (take i es)) i) (sym entry.1) ∙ is in
-      let one : kind_end (entry_end n es) i (kind_of entry.0.kind).form (kind_of entry.0.kind).parts ≡ Some e = kind_by (entry_end n (take i es)) (entry_end n es) i (kind_of entry.0.kind).form (kind_of entry.0.kind).parts e (λ j has there. end_before n i j e (slice_get_within es i entry.0 entry.1) (backward decls ks es m i entry.0 (type.Id j) (record { is = entry.1 }) has) there) before in
-      end_formed n (end_source n) i s id x (kind_of entry.0.kind).form (kind_of entry.0.kind).parts e means it.7 it.3 parts at one
+      let before : kind_end (entry_end n (take i es)) i (kind_of entry.0.kind).0 (kind_of entry.0.kind).1 ≡ Some e = ap (found_end (entry_end n (take i es)) i) (sym entry.1) ∙ is in
+      let one : kind_end (entry_end n es) i (kind_of entry.0.kind).0 (kind_of entry.0.kind).1 ≡ Some e = kind_by (entry_end n (take i es)) (entry_end n es) i (kind_of entry.0.kind).0 (kind_of entry.0.kind).1 e (λ j has there. end_before n i j e (slice_get_within es i entry.0 entry.1) (backward decls ks es m i entry.0 (type.Id j) (record { is = entry.1 }) has) there) before in
+      end_formed n (end_source n) i s id x (kind_of entry.0.kind).0 (kind_of entry.0.kind).1 e means it.7 it.3 parts at one
 
 -- an entry of a name ends where the name does, also once the arena has grown
 pub end_source-more : (files : List PackageFile) (decls : Decls) (ks : List Key) (es more : List TypeDef) (m : IsKeyed decls ks es) → ((j : ℕ) (s : Address) (name : List ℕ) → slice_get ks j ≡ Some (Def s name) → IsDeclared files decls s) → (n i : ℕ) (s : Address) (id : Id) (e : EntryEnd) → slice_get ks i ≡ Some (Def s id.name.now) → entry_end n (es ++ more) i ≡ Some e → EndIs files ks s id e

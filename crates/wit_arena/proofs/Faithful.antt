@@ -34,7 +34,7 @@ module _ (files : List PackageFile) (decls : Decls) (written : List Occurrence) 
   abbrev ks : List Key
   ks = keys d.seen
 
-  whole_key : (j : ℕ) (k : Key) (e : TypeDef) → IsEntry decls (take j ks) k e → e.name ≡ None → (parts : Exprs) × (k ≡ Whole (kind_of e.kind).form parts)
+  whole_key : (j : ℕ) (k : Key) (e : TypeDef) → IsEntry decls (take j ks) k e → e.name ≡ None → (parts : Exprs) × (k ≡ Whole (kind_of e.kind).0 parts)
   whole_key j (Def s name) e it none = absurd (let named = it.4 in let f : ⊥ = cc in f)
   whole_key j (Whole form parts) e it none = (parts, ap (λ (f : Form). Whole f parts) (sym it.2))
 
@@ -49,12 +49,12 @@ module _ (files : List PackageFile) (decls : Decls) (written : List Occurrence) 
   ]
 
   -- an unnamed entry is that of an unnamed type, which is in a name of a scope or in a function
-  whole_at : (j : ℕ) (e : TypeDef) → slice_get p.types j ≡ Some e → e.name ≡ None → (parts : Exprs) × (slice_get ks j ≡ Some (Whole (kind_of e.kind).form parts)) × (IsWholeOf cs (kind_of e.kind).form parts ⊎ IsInSignatureOf cs (kind_of e.kind).form parts)
+  whole_at : (j : ℕ) (e : TypeDef) → slice_get p.types j ≡ Some e → e.name ≡ None → (parts : Exprs) × (slice_get ks j ≡ Some (Whole (kind_of e.kind).0 parts)) × (IsWholeOf cs (kind_of e.kind).0 parts ⊎ IsInSignatureOf cs (kind_of e.kind).0 parts)
   whole_at j e at none =
       let k = key_of decls ks p.types d.occurrence.keyed j e at in
       let w = whole_key j k.0 e (d.occurrence.keyed.each j k.0 e k.1 at) none in
-      let there : slice_get ks j ≡ Some (Whole (kind_of e.kind).form w.0) = k.1 ∙ ap Some w.1 in
-      (w.0, there, wholes (kind_of e.kind).form w.0 (was_seen j (kind_of e.kind).form w.0 there))
+      let there : slice_get ks j ≡ Some (Whole (kind_of e.kind).0 w.0) = k.1 ∙ ap Some w.1 in
+      (w.0, there, wholes (kind_of e.kind).0 w.0 (was_seen j (kind_of e.kind).0 w.0 there))
 
   -- the function of a scope that one of the package is
   at_made : (t : ℕ) (c : DoneScope) → slice_get cs t ≡ Some c → (k : ℕ) (f : Function) → slice_get c.made k ≡ Some f → (j : ℕ) × (fn : SourceFunction) × (slice_get c.functions j ≡ Some fn) × (j ≡ k) × IsFunction ks c.address fn f
@@ -65,15 +65,15 @@ module _ (files : List PackageFile) (decls : Decls) (written : List Occurrence) 
       let fn = at_within c.functions k (omega arith) in
       (k, fn.0, fn.1, refl, are.each k fn.0 f fn.1 made)
 
-  formed : (j : ℕ) (e : TypeDef) → slice_get p.types j ≡ Some e → e.name ≡ None → IsAnonymousForm (kind_of e.kind).form
+  formed : (j : ℕ) (e : TypeDef) → slice_get p.types j ≡ Some e → e.name ≡ None → IsAnonymousForm (kind_of e.kind).0
   formed j e at none =
       let it = whole_at j e at none in
       elim it.2 [
-        | inl w ↦ name_anonymous w.resolved_scope.address w.x (kind_of e.kind).form it.0 w.has
+        | inl w ↦ name_anonymous w.resolved_scope.address w.x (kind_of e.kind).0 it.0 w.has
         | inr w ↦ (
             let c = w.resolved_scope in
             let there = ap (λ (l : List SourceFunction). slice_get l w.inside.index) (sym (d.each w.place c w.at).functions) ∙ w.inside.among in
-            seen_anonymous c.address w.inside.shape (kind_of e.kind).form it.0 (signature_anonymous files c.address w.inside.index w.inside.fn there w.inside.position w.inside.shape w.inside.written) w.inside.has)
+            seen_anonymous c.address w.inside.shape (kind_of e.kind).0 it.0 (signature_anonymous files c.address w.inside.index w.inside.fn there w.inside.position w.inside.shape w.inside.written) w.inside.has)
       ]
 
   -- a function of a scope is under its side and name among those of its owner
@@ -92,7 +92,7 @@ module _ (files : List PackageFile) (decls : Decls) (written : List Occurrence) 
       let q = (d.each w.place c w.at).turn.among w.index x w.among in
       let top = entry_of files decls written cs p.types d id.0 s (local_name x) id.2 in
       let inner = parts_at files decls written cs p.types d w.place c q.0 x id.0 top.0 w.at q.1 id.2 top.1 in
-      let one = all_lead files decls written cs p d (unwrap_or (about_name x).from s) (about_name x).body.parts (kind_of top.0.kind).parts j form parts inner there w.has in
+      let one = all_lead files decls written cs p d (unwrap_or (about_name x).from s) (about_name x).body.parts (kind_of top.0.kind).1 j form parts inner there w.has in
       let found = ap (λ (o : Option ScopeName). node_parts (named_node s o)) (means files decls written cs p d w.place c w.index x (local_name x) w.at w.among refl) in (
         one.leads.inner,
         record {
@@ -130,8 +130,8 @@ module _ (files : List PackageFile) (decls : Decls) (written : List Occurrence) 
   covered j e at none =
       let it = whole_at j e at none in
       elim it.2 [
-        | inl w ↦ reached_from j (kind_of e.kind).form it.0 it.1 w
-        | inr w ↦ reached_by j (kind_of e.kind).form it.0 it.1 w
+        | inl w ↦ reached_from j (kind_of e.kind).0 it.0 it.1 w
+        | inr w ↦ reached_by j (kind_of e.kind).0 it.0 it.1 w
       ]
 
   -- a name of a scope is under its name among those of its owner
@@ -223,12 +223,12 @@ module _ (files : List PackageFile) (decls : Decls) (written : List Occurrence) 
 
     -- where what is taken occurred first, and the package says where it is used
     module _ (first : Extended (map foreign_use_key (first_foreign_uses files)) ks) (count : length p.unknown_type_spans ≡ length (first_foreign_uses files)) where
-      prefix : (i : ℕ) (e : TypeDef) → slice_get p.types i ≡ Some e → ((kind_of e.kind).form ≡ UnknownForm) ↔ (i < length p.unknown_type_spans)
-      prefix i e at = subst (λ (n : ℕ). ((kind_of e.kind).form ≡ UnknownForm) ↔ (i < n)) (sym count) (unknown_prefix files decls written cs p.types d first formed i e at)
+      prefix : (i : ℕ) (e : TypeDef) → slice_get p.types i ≡ Some e → ((kind_of e.kind).0 ≡ UnknownForm) ↔ (i < length p.unknown_type_spans)
+      prefix i e at = subst (λ (n : ℕ). ((kind_of e.kind).0 ≡ UnknownForm) ↔ (i < n)) (sym count) (unknown_prefix files decls written cs p.types d first formed i e at)
 
       pub faithful : IsFaithful files p
       faithful = record {
-        backward = λ i e at. all_parts (IsBelow i) (kind_of e.kind).parts (λ part has. backward decls ks p.types d.occurrence.keyed i e part (record { is = at }) has);
+        backward = λ i e at. all_parts (IsBelow i) (kind_of e.kind).1 (λ part has. backward decls ks p.types d.occurrence.keyed i e part (record { is = at }) has);
         interned = λ i j e f ati atj. interned decls ks p.types d.occurrence.keyed i j e f (record { is = ati }) (record { is = atj });
         formed = formed;
         prefix = prefix;

@@ -1,11 +1,11 @@
 -- What is resolved in turn of items that are the same but for the names at the top of their files.
 use Rattle.std.proofs.Common.{◌≡◌, ℕ, List, [], ◌∷◌, ◌++◌, Bool, not, Option, Some, None, inl, inr, refl, sym, ap, ◌∙◌, subst, subst₂, take}
-use Rattle.wit_arena.proofs.Names.{Address, AreTwins, Declared, Item, ScopeName, SideFunction, SideInline, SideItem, SideLink, SourceFunction, Turned, about, address, after_one, bare, cons_option, declared_of, filter, filter-map, flat_map, functions, in_order, in_turn, inline_items, inline_twins, interface_turn, interfaces_of, item_turns, kept_at, map, map-append, map-flat_map, names_in_turn, names_of_bare, no_names, option_map, own_interfaces, scope_names, side_items, slice_get, slice_get-map, turns_of_world, turns_on_sides, twins_become, twins_make, worlds_of, AreAlike, AreInOrder, AreNamesInOrder, Collects, ForeignUse, IsJoined, IsOrder, Occurrence, PackageFile, alike_back, all_items, all_occurrences, all_scopes, foreign_use_occurrence, foreign_uses, foreign_uses_alike, items_twins, joined_alike, names_same, parts, retop, rows_of, turn_occurrences, twin_among, twins_back, twins_inside, AreRequired, Contains, Def, ForeignVisit, Function, Include, Interface, IsEntryOf, Key, Makes, Span, Stability, TopName, TypeDef, TypeOwner, UnresolvedPackage, Whole, WorldItem, WorldKey, WorldSide, about_name, declared_metadata, entry, first_docs, firsts, foreign_interface, foreign_interfaces, foreign_world, foreign_worlds, function_in, include_in, includes, interface, interface_scopes, keys, map_by, name_places, no_metadata, own_interface, own_world, owner_at, package_of, placed, role_side, scope, scope_alike, side_entries, turn_handles, visited, world_scopes}
+use Rattle.wit_arena.proofs.Names.{Address, AreTwins, Declared, Item, ScopeName, SideFunction, SideInline, SideItem, SideLink, SourceFunction, Turned, about, address, after_one, bare, cons_option, declared_of, filter, filter-map, flat_map, functions, in_order, in_turn, inline_items, inline_twins, interface_turn, interfaces_of, item_turns, kept_at, map, map-append, map-flat_map, names_in_turn, names_of_bare, no_names, option_map, own_interfaces, scope_names, side_items, slice_get, slice_get-map, turns_of_world, turns_on_sides, twins_become, twins_make, worlds_of, AreAlike, Collects, ForeignUse, IsJoined, IsOrder, Occurrence, PackageFile, alike_back, all_items, all_occurrences, all_scopes, foreign_use_occurrence, foreign_uses, foreign_uses_alike, items_twins, joined_alike, names_same, parts, retop, rows_of, turn_occurrences, twin_among, twins_back, twins_inside, AreRequired, Contains, Def, ForeignVisit, Function, Include, Interface, IsEntryOf, Key, Makes, Span, Stability, TopName, TypeDef, TypeOwner, UnresolvedPackage, Whole, WorldItem, WorldKey, WorldSide, about_name, declared_metadata, entry, first_docs, firsts, foreign_interface, foreign_interfaces, foreign_world, foreign_worlds, function_in, include_in, includes, interface, interface_scopes, keys, map_by, name_places, own_interface, own_world, owner_at, package_of, placed, role_side, scope, scope_alike, side_entries, turn_handles, visited, world_scopes, metadata, no_docs}
 use Rattle.wit_syntax.proofs.JoinedTargets.{AreThemselves, included_same, used_same}
 use Rattle.wit_syntax.proofs.JoinedOrders.{order_onward}
 use Rattle.wit_arena.specs.SplitOccurrences.{AreFirstOccurrences, HaveSameOccurrences, HaveSamePackages}
 use Rattle.wit_arena.proofs.Occurrence.{collects_one}
-use Rattle.wit_arena.proofs.OneMade.{one_turns}
+use Rattle.wit_arena.proofs.OneMade.{one_turns, AreInOrder, AreNamesInOrder}
 use Rattle.wit_tree.specs.declared.tree.PackageName.{PackageName as Header}
 use Rattle.wit_syntax.proofs.JoinedHeaders.{HaveSameHeaders, headers_back, joined_headers}
 use Rattle.wit_arena.proofs.JoinedOthers.{foreign_interfaces_same, foreign_worlds_same, others_onward, required_onward}
@@ -215,7 +215,7 @@ module _ (files others : List PackageFile) (a : AreAlike files others) (hs : Hav
   owned s = ap (λ l. owner_at l (world_scopes files m.items) s) interfaces_there ∙ ap (λ l. owner_at ss l s) worlds_there
 
   foreign_by : (v : ForeignVisit) → foreign_interface files m.id v ≡ foreign_interface others m.id v
-  foreign_by v = ap (λ xs. interface None (name_places m.id (visited v) xs) [] no_metadata v.id.span) (scope_alike files others a (visited v))
+  foreign_by v = ap (λ xs. interface None (name_places m.id (visited v) xs) [] (metadata no_docs []) v.id.span) (scope_alike files others a (visited v))
 
   interfaces : p.interfaces ≡ map (foreign_interface others m.id) (foreign_interfaces others) ++ map (own_interface m.id m.order) (own_interfaces items)
   interfaces = cc (m.interfaces, map_by (foreign_interface files m.id) (foreign_interface others m.id) foreign_by (foreign_interfaces files), foreign_interfaces_same files others a, own_made (own_interface m.id m.order) (interface_again m.id m.order one) m.items items twins)

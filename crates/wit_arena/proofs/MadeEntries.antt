@@ -1,16 +1,13 @@
 -- Where a function gives the place of each key, each entry of the arena of types is stated.
 use Rattle.std.proofs.Common.{◌≡◌, ℕ, List, ◌∷◌, length, take, Option, Some, None, sym, ap, ◌∙◌}
-use Rattle.wit_arena.proofs.Names.{Address, Decls, Def, Docs, Exprs, Form, IsEntry, IsEntryOf, IsOccurrence, Key, Kind, Metadata, Occurrence, PackageFile, Span, Stability, TypeDef, TypeDefKind, TypeOwner, Whole, about_name, contains_at, declarations, entry, first_known, keys, kind_of, length-map, map, name_exprs, no_docs, option_map, owner_at, scope, slice_get, slice_get-map, stability_at, types_of}
+use Rattle.wit_arena.proofs.Names.{Address, Decls, Def, Docs, Exprs, Form, IsEntry, IsEntryOf, IsOccurrence, Key, Metadata, Occurrence, PackageFile, Span, Stability, TypeDef, TypeDefKind, TypeOwner, Whole, about_name, contains_at, declarations, entry, first_known, keys, kind_of, length-map, map, name_exprs, no_docs, option_map, owner_at, scope, slice_get, slice_get-map, stability_at, types_of}
 use Rattle.wit_types.specs.declared.types.TypeOwner.TheVariants as owner
 use Rattle.wit_types.specs.declared.types.«Type».{«Type» as Ty}
 use Rattle.wit_arena.specs.Occurrences.{settled}
 use Rattle.wit_arena.proofs.Placing.{GivesPlaces, gives_used, all_at-types_of}
 
-abbrev kind : Form → List Ty → Kind
-kind form parts = record { form = form; parts = parts }
-
-kind_stated : (k : Kind) (form : Form) (parts : List Ty) → k.form ≡ form → k.parts ≡ parts → k ≡ kind form parts
-kind_stated k form parts same_form same_parts = (let same : kind k.form k.parts ≡ kind form parts = cc in same)
+kind_stated : (k : Form × List Ty) (form : Form) (parts : List Ty) → k.0 ≡ form → k.1 ≡ parts → k ≡ (form, parts)
+kind_stated k form parts same_form same_parts = λ i. (same_form i, same_parts i)
 
 abbrev by_fields : Option (List ℕ) → TypeDefKind → TypeOwner → Docs → Stability → Option (List ℕ) → Span → TypeDef
 by_fields name kind owner docs stability id span = record { name = name; kind = kind; owner = owner; docs = docs; stability = stability; external_id = id; span = span }
@@ -31,7 +28,7 @@ module _ (id : Key → ℕ) (decls : Decls) (ks : List Key) (gives : GivesPlaces
   named_stated s name h =
       let n = (about_name h.1).metadata in
       let form = (about_name h.1).body.form in
-      let parts = all_at-types_of id ks gives (name_exprs s h.1) (kind_of e.kind).parts h.8 in (
+      let parts = all_at-types_of id ks gives (name_exprs s h.1) (kind_of e.kind).1 h.8 in (
         h.1,
         e.kind,
         contains_at (decls s).0 h.0 h.1 h.2,
@@ -42,7 +39,7 @@ module _ (id : Key → ℕ) (decls : Decls) (ks : List Key) (gives : GivesPlaces
 
   unnamed_stated : (form : Form) (parts : Exprs) → (e.name ≡ None → e.stability ≡ settled es given e.kind) → IsEntry decls ks (Whole form parts) e → IsStated (Whole form parts)
   unnamed_stated form parts stable h =
-      let types = all_at-types_of id ks gives parts (kind_of e.kind).parts h.3 in
+      let types = all_at-types_of id ks gives parts (kind_of e.kind).1 h.3 in
       let known = first_known (given ∷ map (stability_at es) (types_of id parts)) in
       let stability : e.stability ≡ known = stable h.0 ∙ ap (λ (ts : List Ty). first_known (given ∷ map (stability_at es) ts)) types in (
         e.kind,

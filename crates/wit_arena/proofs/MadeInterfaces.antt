@@ -1,6 +1,6 @@
 -- Where a function gives the place of each key, each interface of the package is stated.
 use Rattle.std.proofs.Common.{◌≡◌, ℕ, List, [], Option, Some, None, ap, ◌∙◌}
-use Rattle.wit_arena.proofs.Names.{Docs, ForeignVisit, Function, Interface, IsForeignInterface, IsInterface, Item, Key, Metadata, PackageFile, Span, Stability, about, address, by_name, declared_metadata, foreign_interface, function_in, functions as item_functions, interface, map_map, name_places, names_in_turn, no_metadata, own_interface, placed, placed_functions}
+use Rattle.wit_arena.proofs.Names.{Docs, ForeignVisit, Function, Interface, IsForeignInterface, IsInterface, Item, Key, Metadata, PackageFile, Span, Stability, about, address, by_name, declared_metadata, foreign_interface, function_in, functions as item_functions, interface, map_map, name_places, names_in_turn, own_interface, placed, placed_functions, metadata, no_docs}
 use Rattle.wit_arena.proofs.Ordered.{Ordered, ordered_names, turned}
 use Rattle.wit_arena.proofs.PackageIfDone.{IsResolvedInterface}
 use Rattle.wit_arena.proofs.Placing.{GivesPlaces}
@@ -24,7 +24,7 @@ interface_stated name span n i types functions says same_types same_functions =
 
 module _ (id : Key → ℕ) (ks : List Key) (gives : GivesPlaces id ks) where
   pub foreign_interface-as_stated : (files : List PackageFile) (v : ForeignVisit) (i : Interface) → IsForeignInterface files ks v i → i ≡ foreign_interface files id v
-  foreign_interface-as_stated files v i h = interface_stated None v.id.span no_metadata i (foreign_interface files id v).types [] h.0 (types-places id ks gives (foreign_turned files v) i.types h.1) h.2
+  foreign_interface-as_stated files v i h = interface_stated None v.id.span (metadata no_docs []) i (foreign_interface files id v).types [] h.0 (types-places id ks gives (foreign_turned files v) i.types h.1) h.2
 
   pub own_interface-as_stated : (order : Item → List ℕ) (o : Ordered) (i : Interface) → ordered_names o ≡ names_in_turn order o.item → IsResolvedInterface ks o i → i ≡ own_interface id order o.item
   own_interface-as_stated order o i in_turn h =

@@ -1,6 +1,6 @@
 -- Where a function gives the place of each key, and scopes are where they are stated to, each world of the package is stated.
 use Rattle.std.proofs.Common.{◌≡◌, ℕ, List, [], ◌∷◌, ◌++◌, Option, refl, sym, ap, ◌∙◌, subst}
-use Rattle.wit_arena.proofs.Names.{Address, AreSideItems, Def, Docs, Exported, ForeignVisit, Function, Imported, Include, IsForeignWorld, IsInclude, IsWorld, Item, Key, Metadata, ScopeName, Span, Stability, TopName, Type_, World, WorldInclude, WorldItem, WorldKey, WorldNamed, WorldSide, about, address, declared_metadata, entries_on, flat_map, foreign_world, function_in, functions as item_functions, functions_items, include_in, includes, inline_items, item_function, leads, local_id, local_name, map, name_imports, name_places, names_in_turn, no_metadata, own_world, settled, side_items, target_scope, type_imports, world, world_entries, world_types}
+use Rattle.wit_arena.proofs.Names.{Address, AreSideItems, Def, Docs, Exported, ForeignVisit, Function, Imported, Include, IsForeignWorld, IsInclude, IsWorld, Item, Key, Metadata, ScopeName, Span, Stability, TopName, Type_, World, WorldInclude, WorldItem, WorldKey, WorldNamed, WorldSide, about, address, declared_metadata, entries_on, flat_map, foreign_world, function_in, functions as item_functions, functions_items, include_in, includes, inline_items, item_function, leads, local_id, local_name, map, name_imports, name_places, names_in_turn, own_world, settled, side_items, target_scope, type_imports, world, world_entries, world_types, metadata, no_docs}
 use Rattle.wit_model.specs.declared.world.IncludeName.{IncludeName}
 use Rattle.wit_model.specs.declared.world.WorldKey.TheVariants as key
 use Rattle.wit_arena.proofs.Ordered.{OrderedWorld, addresses, ordered_names, turned}
@@ -28,7 +28,7 @@ world_stated name span n w imports exports includes says same_imports same_expor
     same
 
 pub foreign_world-as_stated : (v : ForeignVisit) (w : World) → IsForeignWorld v w → w ≡ foreign_world v
-foreign_world-as_stated v w h = world_stated [] v.id.span no_metadata w [] [] [] h.0 h.1 h.2 h.3
+foreign_world-as_stated v w h = world_stated [] v.id.span (metadata no_docs []) w [] [] [] h.0 h.1 h.2 h.3
 
 abbrev include : Stability → ℕ → List IncludeName → Span → WorldInclude
 include stability id names span = record { stability = stability; id = id; names = names; span = span }

@@ -130,16 +130,16 @@ occurrence_more {decls} {ms} {es} m e occurrence new it here settled = record {
 pub extends_then : {decls : Decls} {ms a b : List Occurrence} {mid new : List TypeDef} {P Q : List Key → Type 0} (R : List Key → Type 0) (x : Extends decls ms a mid P) (y : Extends decls x.now b new Q) → R (keys y.now) → Extends decls ms (a ++ b) new R
 extends_then {decls} {ms} {a} {b} {mid} {new} {P} {Q} R x y holds = record { now = y.now; collects = collects_append a b ms x.now y.now x.collects y.collects; occurrence = y.occurrence; holds = holds }
 
-found_key : (decls : Decls) (n : ℕ) (ks : List Key) (k : Key) (parts : Exprs) (e : TypeDef) → IsEntry decls (take n ks) k e → e.name ≡ None → AreAt ks parts (kind_of e.kind).parts → k ≡ Whole (kind_of e.kind).form parts
+found_key : (decls : Decls) (n : ℕ) (ks : List Key) (k : Key) (parts : Exprs) (e : TypeDef) → IsEntry decls (take n ks) k e → e.name ≡ None → AreAt ks parts (kind_of e.kind).1 → k ≡ Whole (kind_of e.kind).0 parts
 found_key decls n ks (Def s name) parts e h none at = absurd (let wrong = h.4 in let f : ⊥ = cc in f)
-found_key decls n ks (Whole form parts') parts e h none at = cc (h.2, all_at_injective ks parts' parts (kind_of e.kind).parts (all_at_untaken n ks parts' (kind_of e.kind).parts h.3) at)
+found_key decls n ks (Whole form parts') parts e h none at = cc (h.2, all_at_injective ks parts' parts (kind_of e.kind).1 (all_at_untaken n ks parts' (kind_of e.kind).1 h.3) at)
 
 -- this kind alone has its form and parts
 pub record IsOnly (what : TypeDefKind) : Type 0 where
-  pub same : (k : TypeDefKind) → (kind_of k).form ≡ (kind_of what).form → (kind_of k).parts ≡ (kind_of what).parts → k ≡ what
+  pub same : (k : TypeDefKind) → (kind_of k).0 ≡ (kind_of what).0 → (kind_of k).1 ≡ (kind_of what).1 → k ≡ what
 
 -- an unnamed type occurs, whether it was there or was added
-pub occur_whole : (decls : Decls) (ms : List Occurrence) (old new : List TypeDef) (kind : TypeDefKind) (given : Stability) (span : Span) (parts : Exprs) (i : ℕ) → IsOnly kind → IsOccurrence decls ms old → AreAt (keys ms) parts (kind_of kind).parts → IsInterned old new kind given span i → Extends decls ms (record { key = Whole (kind_of kind).form parts; span = span; given = given } ∷ []) new (λ ks. slice_get ks i ≡ Some (Whole (kind_of kind).form parts))
+pub occur_whole : (decls : Decls) (ms : List Occurrence) (old new : List TypeDef) (kind : TypeDefKind) (given : Stability) (span : Span) (parts : Exprs) (i : ℕ) → IsOnly kind → IsOccurrence decls ms old → AreAt (keys ms) parts (kind_of kind).1 → IsInterned old new kind given span i → Extends decls ms (record { key = Whole (kind_of kind).0 parts; span = span; given = given } ∷ []) new (λ ks. slice_get ks i ≡ Some (Whole (kind_of kind).0 parts))
 occur_whole decls ms old new kind given span parts i only m at interned = elim interned.either [
   | inl found ↦ (
       let e = found.1.0 in
@@ -148,19 +148,19 @@ occur_whole decls ms old new kind given span parts i only m at interned = elim i
       let count = keyed.count in
       let lt = slice_get_within old i e found.1.1.is in
       let key = at_within (keys ms) i (omega arith) in
-      let at' = subst (λ (k : TypeDefKind). AreAt (keys ms) parts (kind_of k).parts) (sym is.kind) at in
+      let at' = subst (λ (k : TypeDefKind). AreAt (keys ms) parts (kind_of k).1) (sym is.kind) at in
       let same = found_key decls i (keys ms) key.0 parts e (keyed.each i key.0 e key.1 found.1.1.is) is.name at' in
-      let there : slice_get (keys ms) i ≡ Some (Whole (kind_of kind).form parts) = key.1 ∙ ap Some same ∙ ap (λ (k : TypeDefKind). Some (Whole (kind_of k).form parts)) is.kind in
+      let there : slice_get (keys ms) i ≡ Some (Whole (kind_of kind).0 parts) = key.1 ∙ ap Some same ∙ ap (λ (k : TypeDefKind). Some (Whole (kind_of k).0 parts)) is.kind in
       record { now = ms; collects = inl ((i, there), refl); occurrence = subst (IsOccurrence decls ms) (sym found.0) m; holds = there })
   | inr added ↦ (
-      let key = Whole (kind_of kind).form parts in
+      let key = Whole (kind_of kind).0 parts in
       let keyed = m.keyed in
       let fresh : IsSeen (keys ms) key → ⊥ = λ was. (
       let count = keyed.count in
       let lt = slice_get_within (keys ms) was.0 key was.1 in
       let e = at_within old was.0 (omega arith) in
       let it = keyed.each was.0 key e.0 was.1 e.1 in
-      let tys = all_at_functional (keys ms) keyed.once parts (kind_of e.0.kind).parts (kind_of kind).parts (all_at_untaken was.0 (keys ms) parts (kind_of e.0.kind).parts it.3) at in
+      let tys = all_at_functional (keys ms) keyed.once parts (kind_of e.0.kind).1 (kind_of kind).1 (all_at_untaken was.0 (keys ms) parts (kind_of e.0.kind).1 it.3) at in
       added.2 was.0 e.0 (record { is = e.1 }) (record { name = it.0; kind = only.same e.0.kind it.2 tys })) in
       record {
         now = ms ++ record { key = key; span = span; given = given } ∷ [];
@@ -310,7 +310,7 @@ result_again None (Some u) = refl
 result_again None None = refl
 
 -- it is found again
-kind_again : (k : TypeDefKind) → IsAnonymousForm (kind_of k).form → kind_from (kind_of k).form (kind_of k).parts ≡ k
+kind_again : (k : TypeDefKind) → IsAnonymousForm (kind_of k).0 → kind_from (kind_of k).0 (kind_of k).1 ≡ k
 kind_again (kind.Result r) h = result_again r.ok r.err
 kind_again (kind.Handle (Own r)) h = absurd h
 kind_again (kind.Future None) h = refl
@@ -318,7 +318,7 @@ kind_again (kind.Stream None) h = refl
 kind_again k h = search
 
 -- the form and parts of an unnamed type are those of no other kind
-pub only_anonymous : (what : TypeDefKind) → IsAnonymousForm (kind_of what).form → IsOnly what
+pub only_anonymous : (what : TypeDefKind) → IsAnonymousForm (kind_of what).0 → IsOnly what
 only_anonymous what anonymous = record {
-  same = λ k form parts. sym (kind_again k (subst IsAnonymousForm (sym form) anonymous)) ∙ ap (λ f. kind_from f (kind_of k).parts) form ∙ ap (kind_from (kind_of what).form) parts ∙ kind_again what anonymous;
+  same = λ k form parts. sym (kind_again k (subst IsAnonymousForm (sym form) anonymous)) ∙ ap (λ f. kind_from f (kind_of k).1) form ∙ ap (kind_from (kind_of what).0) parts ∙ kind_again what anonymous;
 }

@@ -111,14 +111,14 @@ cases_back : (cs : List Case) → cases (map case_member cs) (payloads cs) ≡ c
 cases_back [] = refl
 cases_back (c ∷ cs) = case_back c.name c.ty c.docs c.span cs (cases_back cs)
 
-result_back : (ok err : Option Ty) → made (kind_of (kind.Result (record { ok = ok; err = err }))).form (kind_of (kind.Result (record { ok = ok; err = err }))).parts ≡ kind.Result (record { ok = ok; err = err })
+result_back : (ok err : Option Ty) → made (kind_of (kind.Result (record { ok = ok; err = err }))).0 (kind_of (kind.Result (record { ok = ok; err = err }))).1 ≡ kind.Result (record { ok = ok; err = err })
 result_back None None = refl
 result_back None (Some t) = refl
 result_back (Some t) None = refl
 result_back (Some t) (Some u) = refl
 
 -- a type is the one of its form and its parts
-back : (k : TypeDefKind) → made (kind_of k).form (kind_of k).parts ≡ k
+back : (k : TypeDefKind) → made (kind_of k).0 (kind_of k).1 ≡ k
 back (kind.Record r) = ap (λ l. kind.Record (record { fields = l })) (fields_back r.fields)
 back (kind.Flags f) = ap (λ l. kind.Flags (record { flags = l })) (map_back flag_member flag (λ x. refl) f.flags)
 back (kind.Variant v) = ap (λ l. kind.Variant (record { cases = l })) (cases_back v.cases)
@@ -130,8 +130,8 @@ back (kind.Stream None) = refl
 back _ = refl
 
 -- so two of one form and the same parts are one
-pub one_kind : (k l : TypeDefKind) → (kind_of k).form ≡ (kind_of l).form → (kind_of k).parts ≡ (kind_of l).parts → k ≡ l
-one_kind k l form parts = sym (back k) ∙ ap (λ f. made f (kind_of k).parts) form ∙ ap (made (kind_of l).form) parts ∙ back l
+pub one_kind : (k l : TypeDefKind) → (kind_of k).0 ≡ (kind_of l).0 → (kind_of k).1 ≡ (kind_of l).1 → k ≡ l
+one_kind k l form parts = sym (back k) ∙ ap (λ f. made f (kind_of k).1) form ∙ ap (made (kind_of l).0) parts ∙ back l
 
 -- Primitive types and their words.
 -- the primitive that a type is

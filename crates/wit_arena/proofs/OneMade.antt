@@ -1,7 +1,7 @@
 -- Where two orders of names agree on items, these are resolved in one way, and are in a package in one way.
 use Rattle.std.proofs.Common.{◌≡◌, ℕ, suc, List, [], ◌∷◌, ◌++◌, Some, refl, ap, ◌∙◌, ◌<◌, Bool, not, length, inl, inr, sym, subst, Contains, true, false, Option, None}
 use Rattle.std.proofs.Math.Path.{fun_ext}
-use Rattle.wit_arena.proofs.Names.{Address, Item, Key, SideFunction, SideInline, SideItem, SideLink, Turned, address, flat_map, inline_items, interface_turn, interfaces_of, item_turns, map, own_interface, own_world, side_items, slice_get, turns_of_world, turns_on_sides, worlds_of, AreInOrder, AreNamesInOrder, PackageFile, all_items, all_scopes, at_split, contains_at, filter, flat_map_at, flat_map_has, in_order, in_order_at, is_world, item_row, item_rows, kept_at, length-map, one_answer, order_within, own_interfaces, rows_of, scope_names, AllDiffer, AllZip, AreRequired, AstItem, AtForeign, AtResource, Def, Docs, HandleRequires, Id, Interface, IsLegal, Makes, Occurrence, PackageName, Span, Stability, TypeDef, UnresolvedPackage, World, all_occurrences, filter_map, foreign_interface, foreign_interfaces, foreign_world, foreign_worlds, interface_scopes, keys, owner_at, scope, turn_handles, world_scopes}
+use Rattle.wit_arena.proofs.Names.{Address, Item, Key, SideFunction, SideInline, SideItem, SideLink, Turned, address, flat_map, inline_items, interface_turn, interfaces_of, item_turns, map, own_interface, own_world, side_items, slice_get, turns_of_world, turns_on_sides, worlds_of, PackageFile, all_items, all_scopes, at_split, contains_at, filter, flat_map_at, flat_map_has, in_order, in_order_at, is_world, item_row, item_rows, kept_at, length-map, one_answer, order_within, own_interfaces, rows_of, scope_names, AllDiffer, AllZip, AreRequired, AstItem, AtForeign, AtResource, Def, Docs, HandleRequires, Id, Interface, IsLegal, Makes, Occurrence, PackageName, Span, Stability, TypeDef, UnresolvedPackage, World, all_occurrences, filter_map, foreign_interface, foreign_interfaces, foreign_world, foreign_worlds, interface_scopes, keys, owner_at, scope, turn_handles, world_scopes, IsOrder}
 use Rattle.wit_arena.proofs.Turns.{function_turn}
 use Rattle.wit_arena.proofs.Ends.{ends_one}
 use Rattle.wit_arena.proofs.Occurrence.{firsts-differ}
@@ -46,6 +46,12 @@ module _ (order other : Item → List ℕ) where
   same_worlds id ss ws is agree = map_same (own_world id order ss ws) (own_world id other ss ws) is (λ k i at. ap (λ (l : List ℕ). own_world id (λ s. l) ss ws i) (agree k i at))
 
 -- There is one order of the items of files, and one of the names of each, so that two that are stated agree on all items.
+abbrev pub AreInOrder : List PackageFile → List Item → Type 0
+AreInOrder files is = (places : List ℕ) × IsOrder (item_rows files) places × (is ≡ in_order (all_items files) places)
+
+abbrev pub AreNamesInOrder : List PackageFile → (Item → List ℕ) → Type 0
+AreNamesInOrder files order = (i : Item) → Contains (all_scopes files) i → IsOrder (rows_of (scope_names i)) (order i)
+
 module _ (files : List PackageFile) where
   -- the items have one order
   pub one_order_of_items : (is js : List Item) → AreInOrder files is → AreInOrder files js → is ≡ js

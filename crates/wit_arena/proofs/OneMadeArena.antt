@@ -1,6 +1,6 @@
 -- One arena of types is what some first occurrences make, where each scope has one name that is called so.
 use Rattle.std.proofs.Common.{◌≡◌, ℕ, List, length, take, Some, sym, ap, ◌∙◌, subst, arith, Contains}
-use Rattle.wit_arena.proofs.Names.{Address, AreDistinct, Def, Form, IsEntryOf, Key, Kind, Occurrence, ScopeName, Span, Stability, TypeDef, TypeDefKind, TypeOwner, Whole, about_name, at_contains, at_within, differ_at, kind_of, local_name, name_exprs, slice_get, slice_get_within, types_of}
+use Rattle.wit_arena.proofs.Names.{Address, AreDistinct, Def, Form, IsEntryOf, Key, Occurrence, ScopeName, Span, Stability, TypeDef, TypeDefKind, TypeOwner, Whole, about_name, at_contains, at_within, differ_at, kind_of, local_name, name_exprs, slice_get, slice_get_within, types_of}
 use Rattle.wit_types.specs.declared.types.«Type».{«Type» as Ty}
 use Rattle.wit_arena.proofs.OneKind.{one_kind, same_some}
 use Rattle.wit_arena.proofs.OneList.{same_by_prefixes}
@@ -13,18 +13,15 @@ one_called xs differ x y in_x in_y same =
     let place : a.0 ≡ b.0 = differ_at local_name xs differ a.0 b.0 x y a.1 b.1 same in
     same_some (sym a.1 ∙ ap (slice_get xs) place ∙ b.1)
 
-abbrev kind_stated : Form → List Ty → Kind
-kind_stated form parts = record { form = form; parts = parts }
-
 same_kind : (k l : TypeDefKind) → kind_of k ≡ kind_of l → k ≡ l
-same_kind k l same = one_kind k l (ap (λ (t : Kind). t.form) same) (ap (λ (t : Kind). t.parts) same)
+same_kind k l same = one_kind k l (ap (λ (t : Form × List Ty). t.0) same) (ap (λ (t : Form × List Ty). t.1) same)
 
 module _ (names : Address → List ScopeName) (differ : (s : Address) → AreDistinct (names s)) (owner_of : Address → TypeOwner) (id : Key → ℕ) where
   -- there is one entry of what occurs, after the same ones
   one_entry : (es : List TypeDef) (k : Key) (span : Span) (given : Stability) (e f : TypeDef) → IsEntryOf names owner_of id es k span given e → IsEntryOf names owner_of id es k span given f → e ≡ f
   one_entry es (Def s name) span given e f a b =
       let one : a.0 ≡ b.0 = one_called (names s) (differ s) a.0 b.0 a.2 b.2 (a.3 ∙ sym b.3) in
-      let kind : a.1 ≡ b.1 = same_kind a.1 b.1 (a.4 ∙ ap (λ (x : ScopeName). kind_stated (about_name x).body.form (types_of id (name_exprs s x))) one ∙ sym b.4) in
+      let kind : a.1 ≡ b.1 = same_kind a.1 b.1 (a.4 ∙ ap (λ (x : ScopeName). ((about_name x).body.form, types_of id (name_exprs s x))) one ∙ sym b.4) in
       cc (a.5, ap about_name one, kind, b.5)
   one_entry es (Whole form parts) span given e f a b = cc (a.2, same_kind a.0 b.0 (a.1 ∙ sym b.1), b.2)
 

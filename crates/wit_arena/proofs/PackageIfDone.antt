@@ -94,7 +94,7 @@ module _ (files : List PackageFile) (decls : Decls) (written : List Occurrence) 
       it.6 ∙ ap (λ (d : List ScopeName × TypeOwner). d.1) (d.own t c at)
 
   -- it has the parts of the name
-  pub parts_at : (t : ℕ) (c : DoneScope) (k : ℕ) (x : ScopeName) (id : ℕ) (e : TypeDef) → slice_get cs t ≡ Some c → slice_get (scope files c.address) k ≡ Some x → slice_get ks id ≡ Some (Def c.address (local_name x)) → slice_get es id ≡ Some e → AreAt ks (name_exprs c.address x) (kind_of e.kind).parts
+  pub parts_at : (t : ℕ) (c : DoneScope) (k : ℕ) (x : ScopeName) (id : ℕ) (e : TypeDef) → slice_get cs t ≡ Some c → slice_get (scope files c.address) k ≡ Some x → slice_get ks id ≡ Some (Def c.address (local_name x)) → slice_get es id ≡ Some e → AreAt ks (name_exprs c.address x) (kind_of e.kind).1
   parts_at t c k x id e at xat here there =
       let s = c.address in
       let it = d.occurrence.keyed.each id (Def s (local_name x)) e here there in
@@ -102,7 +102,7 @@ module _ (files : List PackageFile) (decls : Decls) (written : List Occurrence) 
       let place = differ_at local_name (scope files s) (d.each t c at).turn.distinct it.0 k it.1 x there xat it.3 in
       let one : Some it.1 ≡ Some x = sym there ∙ ap (slice_get (scope files s)) place ∙ xat in
       let same : it.1 ≡ x = cc in
-      subst (λ (z : ScopeName). AreAt ks (name_exprs s z) (kind_of e.kind).parts) same (all_at_untaken id ks (name_exprs s it.1) (kind_of e.kind).parts it.8)
+      subst (λ (z : ScopeName). AreAt ks (name_exprs s z) (kind_of e.kind).1) same (all_at_untaken id ks (name_exprs s it.1) (kind_of e.kind).1 it.8)
 
   -- a function of a scope, and the one of the package that it is
   pub function_at : (t : ℕ) (c : DoneScope) (k : ℕ) (fn : SourceFunction) → slice_get cs t ≡ Some c → slice_get c.functions k ≡ Some fn → (f : Function) × (slice_get c.made k ≡ Some f) × IsFunction ks c.address fn f

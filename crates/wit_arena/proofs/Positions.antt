@@ -14,11 +14,11 @@ use Rattle.wit_arena.proofs.Resolving.{DoneScope, IsPresent}
 use Rattle.wit_arena.proofs.PackageIfDone.{entry_of, parts_at}
 
 -- an entry has the parts of its kind
-entry_parts : (p : UnresolvedPackage) (name : Option (List ℕ)) (e : TypeDef) → node_parts (entry_node p name e) ≡ (kind_of e.kind).parts
+entry_parts : (p : UnresolvedPackage) (name : Option (List ℕ)) (e : TypeDef) → node_parts (entry_node p name e) ≡ (kind_of e.kind).1
 entry_parts p None e = refl
 entry_parts p (Some name) e = refl
 
-pub type_parts : (p : UnresolvedPackage) (i : ℕ) (e : TypeDef) → slice_get p.types i ≡ Some e → node_parts (package_node p (type.Id i)) ≡ (kind_of e.kind).parts
+pub type_parts : (p : UnresolvedPackage) (i : ℕ) (e : TypeDef) → slice_get p.types i ≡ Some e → node_parts (package_node p (type.Id i)) ≡ (kind_of e.kind).1
 type_parts p i e at = ap (λ (o : Option TypeDef). node_parts (option_map_or (λ (e : TypeDef). entry_node p e.name e) o Nothing)) at ∙ entry_parts p e.name e
 
 module _ (files : List PackageFile) (decls : Decls) (written : List Occurrence) (cs : List DoneScope) (p : UnresolvedPackage) (d : IsPresent files decls written cs p.types) where
@@ -47,7 +47,7 @@ module _ (files : List PackageFile) (decls : Decls) (written : List Occurrence) 
       let q = (d.each it.place c it.at).turn.among it.index x it.among in
       let there : slice_get ks i ≡ Some (Def c.address (local_name x)) = here ∙ ap (λ (z : Address). Some (Def z id.name.now)) (sym it.scope) ∙ ap (λ (n : List ℕ). Some (Def c.address n)) (sym it.called) in
       let e = entry_of files decls written cs p.types d i c.address (local_name x) there in
-      let parts : AreAt ks (name_exprs s x) (kind_of e.0.kind).parts = subst (λ (z : Address). AreAt ks (name_exprs z x) (kind_of e.0.kind).parts) it.scope (parts_at files decls written cs p.types d it.place c q.0 x i e.0 it.at q.1 there e.1) in
+      let parts : AreAt ks (name_exprs s x) (kind_of e.0.kind).1 = subst (λ (z : Address). AreAt ks (name_exprs z x) (kind_of e.0.kind).1) it.scope (parts_at files decls written cs p.types d it.place c q.0 x i e.0 it.at q.1 there e.1) in
       let found : meaning (scope files s) id.name.now ≡ Some x = ap (λ (z : Address). meaning (scope files z) id.name.now) (sym it.scope) ∙ means it.place c it.index x id.name.now it.at it.among it.called in
       record {
         scope = unwrap_or (about_name x).from s;
@@ -61,7 +61,7 @@ module _ (files : List PackageFile) (decls : Decls) (written : List Occurrence) 
       let k = Whole form (exprs_of s parts) in
       let e = entry_of_key decls ks p.types d.occurrence.keyed h.0 k h.2 in
       let it = d.occurrence.keyed.each h.0 k e.0 h.2 e.1 in
-      subst (AreAt ks (exprs_of s parts)) (sym (ap (λ (u : Ty). node_parts (package_node p u)) h.1 ∙ type_parts p h.0 e.0 e.1)) (all_at_untaken h.0 ks (exprs_of s parts) (kind_of e.0.kind).parts it.3)
+      subst (AreAt ks (exprs_of s parts)) (sym (ap (λ (u : Ty). node_parts (package_node p u)) h.1 ∙ type_parts p h.0 e.0 e.1)) (all_at_untaken h.0 ks (exprs_of s parts) (kind_of e.0.kind).1 it.3)
 
   pub has_parts : (s : Address) (x : Shape) (t : Ty) → IsAt ks (expr_of s x) t → HasParts (s, x) t
   has_parts s (shape.Prim q) t h = record {

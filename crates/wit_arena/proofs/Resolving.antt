@@ -25,13 +25,13 @@ resolved_more {old} {mid} {new} {s} {env} {a} {b} {es} {fs} {ts} {us} p q = reco
 }
 
 -- the whole after its parts
-pub resolved_whole : {old mid new : List TypeDef} {s : Address} {env : Env} {a : List Occurrence} {es : Exprs} (kind : TypeDefKind) (given : Stability) (span : Span) (i : ℕ) → IsOnly kind → AreResolved old mid s env a es (kind_of kind).parts → IsInterned mid new kind given span i → AreResolved old new s env (a ++ record { key = Whole (kind_of kind).form es; span = span; given = given } ∷ []) (one (Of (kind_of kind).form es)) (Id i ∷ [])
+pub resolved_whole : {old mid new : List TypeDef} {s : Address} {env : Env} {a : List Occurrence} {es : Exprs} (kind : TypeDefKind) (given : Stability) (span : Span) (i : ℕ) → IsOnly kind → AreResolved old mid s env a es (kind_of kind).1 → IsInterned mid new kind given span i → AreResolved old new s env (a ++ record { key = Whole (kind_of kind).0 es; span = span; given = given } ∷ []) (one (Of (kind_of kind).0 es)) (Id i ∷ [])
 resolved_whole {old} {mid} {new} {s} {env} {a} {es} kind given span i only p interned = record {
-  same = keys-append a (record { key = Whole (kind_of kind).form es; span = span; given = given } ∷ []) ∙ ap (λ ks. ks ++ Whole (kind_of kind).form es ∷ []) p.same ∙ sym (append-nil (all_seen es ++ Whole (kind_of kind).form es ∷ []));
+  same = keys-append a (record { key = Whole (kind_of kind).0 es; span = span; given = given } ∷ []) ∙ ap (λ ks. ks ++ Whole (kind_of kind).0 es ∷ []) p.same ∙ sym (append-nil (all_seen es ++ Whole (kind_of kind).0 es ∷ []));
   from = λ decls ms m names. (
       let x = p.from decls ms m names in
       let y = occur_whole decls x.now mid new kind given span es i only x.occurrence x.holds interned in
-      extends_then (λ ks. AreAt ks (one (Of (kind_of kind).form es)) (Id i ∷ [])) x y ((i, refl, y.holds), tt));
+      extends_then (λ ks. AreAt ks (one (Of (kind_of kind).0 es)) (Id i ∷ [])) x y ((i, refl, y.holds), tt));
 }
 
 -- What occurs in types, by its keys.

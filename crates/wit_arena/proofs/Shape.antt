@@ -23,20 +23,20 @@ module _ (decls : Decls) (ks : List Key) (es : List TypeDef) (m : IsKeyed decls 
   below_all n (More x xs) (t ∷ ts) part h has = elim has [ inl here ↦ subst (IsBelow n) here (below_one n x t h.0) | inr rest ↦ below_all n xs ts part h.1 rest ]
   below_all n _ ts part h has = absurd h
 
-  below_entry : (i : ℕ) (k : Key) (e : TypeDef) (part : Ty) → IsEntry decls (take i ks) k e → HasPart (kind_of e.kind).parts part → IsBelow i part
-  below_entry i (Def s name) e part it has = below_all i (name_exprs s it.1) (kind_of e.kind).parts part it.8 has
-  below_entry i (Whole form parts) e part it has = below_all i parts (kind_of e.kind).parts part it.3 has
+  below_entry : (i : ℕ) (k : Key) (e : TypeDef) (part : Ty) → IsEntry decls (take i ks) k e → HasPart (kind_of e.kind).1 part → IsBelow i part
+  below_entry i (Def s name) e part it has = below_all i (name_exprs s it.1) (kind_of e.kind).1 part it.8 has
+  below_entry i (Whole form parts) e part it has = below_all i parts (kind_of e.kind).1 part it.3 has
 
-  pub backward : (i : ℕ) (e : TypeDef) (part : Ty) → At es i e → HasPart (kind_of e.kind).parts part → IsBelow i part
+  pub backward : (i : ℕ) (e : TypeDef) (part : Ty) → At es i e → HasPart (kind_of e.kind).1 part → IsBelow i part
   backward i e part at has = let k = key_of i e at.is in below_entry i k.0 e part (m.each i k.0 e k.1 at.is) has
 
   same_whole : (i j : ℕ) (k l : Key) (e f : TypeDef) → IsEntry decls (take i ks) k e → IsEntry decls (take j ks) l f → e.name ≡ None → f.name ≡ None → e.kind ≡ f.kind → k ≡ l
   same_whole i j (Def s name) l e f p q noe nof same = absurd (let named = p.4 in let f : ⊥ = cc in f)
   same_whole i j (Whole form parts) (Def s name) e f p q noe nof same = absurd (let named = q.4 in let f : ⊥ = cc in f)
   same_whole i j (Whole form parts) (Whole form' parts') e f p q noe nof same =
-      let forms : form ≡ form' = sym p.2 ∙ ap (λ (k : TypeDefKind). (kind_of k).form) same ∙ q.2 in
-      let there = subst (λ (k : TypeDefKind). AreAt ks parts (kind_of k).parts) same (all_at_untaken i ks parts (kind_of e.kind).parts p.3) in
-      let inner = all_at_injective ks parts parts' (kind_of f.kind).parts there (all_at_untaken j ks parts' (kind_of f.kind).parts q.3) in
+      let forms : form ≡ form' = sym p.2 ∙ ap (λ (k : TypeDefKind). (kind_of k).0) same ∙ q.2 in
+      let there = subst (λ (k : TypeDefKind). AreAt ks parts (kind_of k).1) same (all_at_untaken i ks parts (kind_of e.kind).1 p.3) in
+      let inner = all_at_injective ks parts parts' (kind_of f.kind).1 there (all_at_untaken j ks parts' (kind_of f.kind).1 q.3) in
       ap (λ f. Whole f parts) forms ∙ ap (Whole form') inner
 
   pub interned : (i j : ℕ) (e f : TypeDef) → At es i e → At es j f → e.name ≡ None → f.name ≡ None → e.kind ≡ f.kind → i ≡ j

@@ -33,12 +33,12 @@ unknown_used (Used from attributes n) h = absurd (let f : ⊥ = cc in f)
 unknown_used (Defined d) h = absurd (body_known d.body h)
 unknown_used (ForeignName attributes id) h = (attributes, id, refl)
 
-module _ (files : List PackageFile) (decls : Decls) (written : List Occurrence) (cs : List DoneScope) (es : List TypeDef) (d : IsPresent files decls written cs es) (prefix : Extended (map foreign_use_key (first_foreign_uses files)) (keys d.seen)) (formed : (j : ℕ) (e : TypeDef) → slice_get es j ≡ Some e → e.name ≡ None → IsAnonymousForm (kind_of e.kind).form) where
+module _ (files : List PackageFile) (decls : Decls) (written : List Occurrence) (cs : List DoneScope) (es : List TypeDef) (d : IsPresent files decls written cs es) (prefix : Extended (map foreign_use_key (first_foreign_uses files)) (keys d.seen)) (formed : (j : ℕ) (e : TypeDef) → slice_get es j ≡ Some e → e.name ≡ None → IsAnonymousForm (kind_of e.kind).0) where
   abbrev ts : List ForeignUse
   ts = first_foreign_uses files
 
   -- the entry of a name that occurred has the form of a name of its scope
-  name_at : (i : ℕ) (s : Address) (name : List ℕ) (e : TypeDef) → slice_get (keys d.seen) i ≡ Some (Def s name) → slice_get es i ≡ Some e → (k : ℕ) × (x : ScopeName) × (slice_get (scope files s) k ≡ Some x) × ((kind_of e.kind).form ≡ (about_name x).body.form) × (local_name x ≡ name)
+  name_at : (i : ℕ) (s : Address) (name : List ℕ) (e : TypeDef) → slice_get (keys d.seen) i ≡ Some (Def s name) → slice_get es i ≡ Some e → (k : ℕ) × (x : ScopeName) × (slice_get (scope files s) k ≡ Some x) × ((kind_of e.kind).0 ≡ (about_name x).body.form) × (local_name x ≡ name)
   name_at i s name e here there =
       let of = d.before i s name here in
       let c = of.resolved_scope in
@@ -47,7 +47,7 @@ module _ (files : List PackageFile) (decls : Decls) (written : List Occurrence) 
       (it.0, it.1, ap (λ (z : Address). slice_get (scope files z) it.0) (sym of.scope) ∙ ap (λ (d : List ScopeName × TypeOwner). slice_get d.0 it.0) (sym (d.own of.place c of.at)) ∙ it.2, it.7, it.3)
 
   -- and has an unknown form there
-  prefix_unknown : (j : ℕ) (t : ForeignUse) (e : TypeDef) → slice_get ts j ≡ Some t → slice_get es j ≡ Some e → (kind_of e.kind).form ≡ UnknownForm
+  prefix_unknown : (j : ℕ) (t : ForeignUse) (e : TypeDef) → slice_get ts j ≡ Some t → slice_get es j ≡ Some e → (kind_of e.kind).0 ≡ UnknownForm
   prefix_unknown j t e at there =
       let x = name_at j t.from t.id.name.now e (key_extended prefix j (foreign_use_key t) (slice_get-map foreign_use_key ts j ∙ ap (option_map foreign_use_key) at)) there in
       let y = foreign_name files t.from x.0 x.1 (let k = firsts_at same_foreign_use (foreign_uses files) j t at in (used_at files k.0 t k.1).foreign) x.2 in
@@ -63,7 +63,7 @@ module _ (files : List PackageFile) (decls : Decls) (written : List Occurrence) 
       omega arith
 
   -- what has an unknown form comes first
-  unknown_at : (i : ℕ) (k : Key) (e : TypeDef) → slice_get (keys d.seen) i ≡ Some k → slice_get es i ≡ Some e → (kind_of e.kind).form ≡ UnknownForm → i < length ts
+  unknown_at : (i : ℕ) (k : Key) (e : TypeDef) → slice_get (keys d.seen) i ≡ Some k → slice_get es i ≡ Some e → (kind_of e.kind).0 ≡ UnknownForm → i < length ts
   unknown_at i (Def s name) e here there unknown =
       let x = name_at i s name e here there in
       elim (cases_Bool (is_foreign s)) [
@@ -73,7 +73,7 @@ module _ (files : List PackageFile) (decls : Decls) (written : List Occurrence) 
   unknown_at i (Whole form parts) e here there unknown = absurd (subst IsAnonymousForm unknown (formed i e there (d.occurrence.keyed.each i (Whole form parts) e here there).0))
 
   -- so these are the prefix
-  pub unknown_prefix : (i : ℕ) (e : TypeDef) → slice_get es i ≡ Some e → ((kind_of e.kind).form ≡ UnknownForm) ↔ (i < length ts)
+  pub unknown_prefix : (i : ℕ) (e : TypeDef) → slice_get es i ≡ Some e → ((kind_of e.kind).0 ≡ UnknownForm) ↔ (i < length ts)
   unknown_prefix i e at = (
     λ unknown. (let k = key_of decls (keys d.seen) es d.occurrence.keyed i e at in unknown_at i k.0 e k.1 at unknown),
     λ lt. (let t = at_within ts i lt in prefix_unknown i t.0 e t.1 at),

@@ -50,12 +50,12 @@ IsAnonymousForm _ = Unit {0}
 -- Types refer only backwards, equal unnamed types are one, nothing is unreached, and every written type is, at its position, the tree that
 -- lexical scope gives it.
 pub record IsFaithful (files : List PackageFile) (p : UnresolvedPackage) : Type 0 where
-  pub backward : (i : ℕ) (e : TypeDef) → slice_get p.types i ≡ Some e → All (IsBelow i) (kind_of e.kind).parts
+  pub backward : (i : ℕ) (e : TypeDef) → slice_get p.types i ≡ Some e → All (IsBelow i) (kind_of e.kind).1
   pub interned : (i j : ℕ) (e f : TypeDef) → slice_get p.types i ≡ Some e → slice_get p.types j ≡ Some f → e.name ≡ None → f.name ≡ None → e.kind ≡ f.kind → i ≡ j
   -- an unnamed entry has a form that a type can have without a name: it is no own handle, no other word for a type, no resource
-  pub formed : (i : ℕ) (e : TypeDef) → slice_get p.types i ≡ Some e → e.name ≡ None → IsAnonymousForm (kind_of e.kind).form
+  pub formed : (i : ℕ) (e : TypeDef) → slice_get p.types i ≡ Some e → e.name ≡ None → IsAnonymousForm (kind_of e.kind).0
   -- the types of unknown form are exactly the start of the arena: as many as there are spans of unknown types
-  pub prefix : (i : ℕ) (e : TypeDef) → slice_get p.types i ≡ Some e → ((kind_of e.kind).form ≡ UnknownForm) ↔ (i < length p.unknown_type_spans)
+  pub prefix : (i : ℕ) (e : TypeDef) → slice_get p.types i ≡ Some e → ((kind_of e.kind).0 ≡ UnknownForm) ↔ (i < length p.unknown_type_spans)
   -- a named entry is among the names of its owner
   pub named : (j : ℕ) (e : TypeDef) (name : List ℕ) → slice_get p.types j ≡ Some e → e.name ≡ Some name → Contains (names_of p e.owner) (name, j)
   -- an unnamed one is that of a written type

@@ -5,33 +5,25 @@ use Rattle.wit_types.specs.declared.types.«Type».TheVariants.{Id}
 use Rattle.wit_types.specs.declared.types.Handle.TheVariants.{Own, Borrow}
 use Rattle.wit_types.specs.declared.types.TypeDefKind.TheVariants as kind
 
--- what a type is: a form over parts
-pub record Kind : Type 0 where
-  pub form : Form
-  pub parts : List Ty
-
 -- the form and the parts of a type of the arena
-abbrev pub kind_of : TypeDefKind → Kind
-kind_of (kind.Record r) = record { form = RecordForm (map (λ (f : Field). record { name = f.name; docs = f.docs; span = f.span }) r.fields); parts = map (λ f. f.ty) r.fields }
-kind_of kind.Resource = record { form = ResourceForm; parts = [] }
-kind_of (kind.Handle (Own r)) = record { form = OwnForm; parts = Id r ∷ [] }
-kind_of (kind.Handle (Borrow r)) = record { form = BorrowForm; parts = Id r ∷ [] }
-kind_of (kind.Flags f) = record { form = FlagsForm (map (λ (x : Flag). record { name = x.name; docs = x.docs; span = x.span }) f.flags); parts = [] }
-kind_of (kind.Tuple t) = record { form = TupleForm; parts = t.types }
-kind_of (kind.Variant v) = record {
-  form = VariantForm (map (λ (c : Case). (record { name = c.name; docs = c.docs; span = c.span }, is_some c.ty)) v.cases);
-  parts = filter_map (λ c. c.ty) v.cases;
-}
-kind_of (kind.Enum e) = record { form = EnumForm (map (λ (c : EnumCase). record { name = c.name; docs = c.docs; span = c.span }) e.cases); parts = [] }
-kind_of (kind.Option t) = record { form = OptionForm; parts = t ∷ [] }
-kind_of (kind.Result r) = record { form = ResultForm (is_some r.ok) (is_some r.err); parts = option_to_list r.ok ++ option_to_list r.err }
-kind_of (kind.List t) = record { form = ListForm; parts = t ∷ [] }
-kind_of (kind.Map k v) = record { form = MapForm; parts = k ∷ v ∷ [] }
-kind_of (kind.FixedLengthList t n) = record { form = FixedLengthListForm n; parts = t ∷ [] }
-kind_of (kind.Future t) = record { form = FutureForm (is_some t); parts = option_to_list t }
-kind_of (kind.Stream t) = record { form = StreamForm (is_some t); parts = option_to_list t }
-kind_of (kind.Type_ t) = record { form = AliasForm; parts = t ∷ [] }
-kind_of kind.Unknown = record { form = UnknownForm; parts = [] }
+abbrev pub kind_of : TypeDefKind → Form × List Ty
+kind_of (kind.Record r) = (RecordForm (map (λ (f : Field). record { name = f.name; docs = f.docs; span = f.span }) r.fields), map (λ f. f.ty) r.fields)
+kind_of kind.Resource = (ResourceForm, [])
+kind_of (kind.Handle (Own r)) = (OwnForm, Id r ∷ [])
+kind_of (kind.Handle (Borrow r)) = (BorrowForm, Id r ∷ [])
+kind_of (kind.Flags f) = (FlagsForm (map (λ (x : Flag). record { name = x.name; docs = x.docs; span = x.span }) f.flags), [])
+kind_of (kind.Tuple t) = (TupleForm, t.types)
+kind_of (kind.Variant v) = (VariantForm (map (λ (c : Case). (record { name = c.name; docs = c.docs; span = c.span }, is_some c.ty)) v.cases), filter_map (λ c. c.ty) v.cases)
+kind_of (kind.Enum e) = (EnumForm (map (λ (c : EnumCase). record { name = c.name; docs = c.docs; span = c.span }) e.cases), [])
+kind_of (kind.Option t) = (OptionForm, t ∷ [])
+kind_of (kind.Result r) = (ResultForm (is_some r.ok) (is_some r.err), option_to_list r.ok ++ option_to_list r.err)
+kind_of (kind.List t) = (ListForm, t ∷ [])
+kind_of (kind.Map k v) = (MapForm, k ∷ v ∷ [])
+kind_of (kind.FixedLengthList t n) = (FixedLengthListForm n, t ∷ [])
+kind_of (kind.Future t) = (FutureForm (is_some t), option_to_list t)
+kind_of (kind.Stream t) = (StreamForm (is_some t), option_to_list t)
+kind_of (kind.Type_ t) = (AliasForm, t ∷ [])
+kind_of kind.Unknown = (UnknownForm, [])
 
 -- where an entry of the arena ends: at a resource, at the unknown type at a place, or at anything else
 pub data EntryEnd : Type 0 where
@@ -53,7 +45,7 @@ kind_end ends place form parts = Some IsOther
 -- nothing is known of a place where nothing is
 abbrev pub found_end : (ℕ → Option EntryEnd) → ℕ → Option TypeDef → Option EntryEnd
 found_end ends place None = Some IsOther
-found_end ends place (Some e) = kind_end ends place (kind_of e.kind).form (kind_of e.kind).parts
+found_end ends place (Some e) = kind_end ends place (kind_of e.kind).0 (kind_of e.kind).1
 
 -- where the entry at a place ends, in so many steps, by those that come before it
 abbrev pub entry_end : ℕ → List TypeDef → ℕ → Option EntryEnd

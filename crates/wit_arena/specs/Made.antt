@@ -1,6 +1,6 @@
 -- The package that files make, as a value.
 use Rattle.std.specs.Prelude.{if◌then◌else◌, ◌≡◌, ◌↔◌, ℕ, Bool, true, List, [], ◌∷◌, ◌++◌, length, map, take, Option, Some, None, Contains, slice_get}
-use Rattle.wit_arena.specs.Names.{Address, Constructor, Exported, ExternalId, ForeignUse, ForeignVisit, Freestanding, Function, FunctionKind, Id, Imported, Include, Interface, IsOrder, Item, Metadata, Method, OnSide, PackageFile, Role, ScopeName, SideFunction, SideInline, SideItem, SideLink, SourceFunction, SourceParam, Span, Stability, Static, TopName, TypeDef, TypeDefKind, TypeOwner, UnresolvedPackage, World, WorldInclude, WorldItem, WorldKey, WorldNamed, WorldSide, about, about_name, address, all_items, all_params, all_scopes, declared_metadata, docs_of, filter_map, first_foreign_uses, first_known, firsts, flat_map, foreign_interfaces, foreign_packages, foreign_worlds, functions, headers, in_order, in_turn, includes, inline_items, interfaces_of, item_rows, last_header, leads, local_id, local_name, no_docs, no_metadata, option_map, package_of, path_id, path_scope, placed, position_or_len, primitive_type, role_side, rows_of, same_side, scope, scope_names, side_items, stability_of, stated_text, target_scope, unwrap_or, visited, worlds_of, «Type» as Ty}
+use Rattle.wit_arena.specs.Names.{Address, Constructor, Exported, ExternalId, ForeignUse, ForeignVisit, Freestanding, Function, FunctionKind, Id, Imported, Include, Interface, IsOrder, Item, Metadata, Method, OnSide, PackageFile, Role, ScopeName, SideFunction, SideInline, SideItem, SideLink, SourceFunction, SourceParam, Span, Stability, Static, TopName, TypeDef, TypeDefKind, TypeOwner, UnresolvedPackage, World, WorldInclude, WorldItem, WorldKey, WorldNamed, WorldSide, about, about_name, address, all_items, all_params, all_scopes, declared_metadata, docs_of, filter_map, first_foreign_uses, first_known, firsts, flat_map, foreign_interfaces, foreign_packages, foreign_worlds, functions, headers, in_order, in_turn, includes, inline_items, interfaces_of, item_rows, last_header, leads, local_id, local_name, no_docs, option_map, package_of, path_id, path_scope, placed, position_or_len, primitive_type, role_side, rows_of, same_side, scope, scope_names, side_items, stability_of, stated_text, target_scope, unwrap_or, visited, worlds_of, «Type» as Ty, metadata}
 use Rattle.wit_tree.specs.declared.tree.PackageName.{PackageName as Header}
 use Rattle.wit_types.specs.declared.types.TypeOwner.TheVariants as owner
 use Rattle.wit_types.specs.declared.types.«Type».TheVariants as type
@@ -30,8 +30,8 @@ entry name owner n span kind = record { name = name; kind = kind; owner = owner;
 -- stated of the name. That of an unnamed type has its form over those of its parts, and the first known of the stability that it occurs with and of theirs.
 abbrev pub IsEntryOf : (Address → List ScopeName) → (Address → TypeOwner) → (Key → ℕ) → List TypeDef → Key → Span → Stability → TypeDef → Type 0
 IsEntryOf names owner_of id es (Def s name) span given e = (x : ScopeName) × (kind : TypeDefKind) × Contains (names s) x × (local_name x ≡ name)
-    × (kind_of kind ≡ record { form = (about_name x).body.form; parts = types_of id (name_exprs s x) }) × (e ≡ entry (Some name) (owner_of s) (about_name x).metadata span kind)
-IsEntryOf names owner_of id es (Whole form parts) span given e = (kind : TypeDefKind) × (kind_of kind ≡ record { form = form; parts = types_of id parts })
+    × (kind_of kind ≡ ((about_name x).body.form, types_of id (name_exprs s x))) × (e ≡ entry (Some name) (owner_of s) (about_name x).metadata span kind)
+IsEntryOf names owner_of id es (Whole form parts) span given e = (kind : TypeDefKind) × (kind_of kind ≡ (form, types_of id parts))
     × (e ≡ entry None owner.None (record { docs = no_docs; stability = first_known (given ∷ map (stability_at es) (types_of id parts)); external_id = None }) span kind)
 
 -- the names of a scope, with their places
@@ -65,7 +65,7 @@ interface name types functions n span = record { name = name; types = types; fun
 
 -- an interface of another package, where a path first leads to it, with the names that are taken from it
 abbrev pub foreign_interface : List PackageFile → (Key → ℕ) → ForeignVisit → Interface
-foreign_interface files id v = interface None (name_places id (visited v) (scope files (visited v))) [] no_metadata v.id.span
+foreign_interface files id v = interface None (name_places id (visited v) (scope files (visited v))) [] (metadata no_docs []) v.id.span
 
 -- the names of an item as they are resolved: the used ones, and then the definitions in their order
 abbrev pub names_in_turn : (Item → List ℕ) → Item → List ScopeName
@@ -106,7 +106,7 @@ world name imports exports includes n span = record { name = name; imports = imp
 
 -- a world of another package, where a path first leads to it
 abbrev pub foreign_world : ForeignVisit → World
-foreign_world v = world [] [] [] [] no_metadata v.id.span
+foreign_world v = world [] [] [] [] (metadata no_docs []) v.id.span
 
 -- what is on the sides of a world, where the interfaces have these scopes
 abbrev pub world_entries : (Key → ℕ) → List Address → Item → List (WorldSide × (WorldKey × WorldItem))
@@ -148,14 +148,6 @@ interface_scopes files is = map visited (foreign_interfaces files) ++ map addres
 abbrev pub world_scopes : List PackageFile → List Item → List Address
 world_scopes files is = map visited (foreign_worlds files) ++ map address (worlds_of is)
 
--- the items of files, each after those that it needs, in the least such order
-abbrev pub AreInOrder : List PackageFile → List Item → Type 0
-AreInOrder files is = (places : List ℕ) × IsOrder (item_rows files) places × (is ≡ in_order (all_items files) places)
-
--- each scope has the least order in which its definitions come after those that they name
-abbrev pub AreNamesInOrder : List PackageFile → (Item → List ℕ) → Type 0
-AreNamesInOrder files order = (i : Item) → Contains (all_scopes files) i → IsOrder (rows_of (scope_names i)) (order i)
-
 -- The package has the name and the version of the last header, and the docs of the first that has some. Its arenas of interfaces and of worlds
 -- begin with the items of other packages, in the order of their first visits; then come the declared ones in the least order, and after the
 -- interfaces the inline ones, in the order of the worlds and of their items. Its arena of types is the list of first occurrences: of what is used
@@ -168,11 +160,13 @@ pub record Makes (files : List PackageFile) (p : UnresolvedPackage) : Type 0 whe
   pub deps : p.foreign_deps ≡ map (dep files) (foreign_packages files)
   pub dep_spans : p.foreign_dep_spans ≡ map (λ (v : ForeignVisit). v.of.span) (foreign_packages files)
   pub unknown : p.unknown_type_spans ≡ map (λ (t : ForeignUse). t.id.span) (first_foreign_uses files)
+  -- the items of files, each after those that it needs, in the least such order
   pub items : List Item
-  pub in_order : AreInOrder files items
+  pub in_order : (places : List ℕ) × IsOrder (item_rows files) places × (items ≡ in_order (all_items files) places)
   pub order : Item → List ℕ
   pub by_address : (i j : Item) → address i ≡ address j → order i ≡ order j
-  pub names_in_order : AreNamesInOrder files order
+  -- each scope has the least order in which its definitions come after those that they name
+  pub names_in_order : (i : Item) → Contains (all_scopes files) i → IsOrder (rows_of (scope_names i)) (order i)
   -- a test of whether two are one and the same
   pub same : Key → Key → Bool
   pub gives : (a b : Key) → (same a b ≡ true) ↔ (a ≡ b)

@@ -50,7 +50,7 @@ pub use Rattle.wit_syntax.specs.Fault.{Fault, cyclic_at, fault, fault_in, fault_
 pub use Rattle.wit_syntax.specs.Foreign.{ForeignVisit, foreign_at, foreign_interfaces, foreign_items, foreign_packages, foreign_visits, foreign_worlds, same_item, visited}
 pub use Rattle.wit_syntax.specs.Form.{AliasForm, BorrowForm, EnumForm, FixedLengthListForm, FlagsForm, Form, FutureForm, ListForm, MapForm, Member, OptionForm, OwnForm, RecordForm, ResourceForm, ResultForm, StreamForm, TupleForm, UnknownForm, VariantForm}
 pub use Rattle.wit_syntax.specs.Function.{Constructor, Freestanding, Method, OnSide, Role, SourceFunction, SourceParam, Static, all_params, all_types, free_function, functions, name_types, part_functions, resource_function, side_function, signature, written_types}
-pub use Rattle.wit_syntax.specs.Metadata.{AreMetadata, Metadata, docs_of, first_known, metadata, no_docs, no_metadata, stability_of}
+pub use Rattle.wit_syntax.specs.Metadata.{AreMetadata, Metadata, docs_of, first_known, metadata, no_docs, stability_of}
 pub use Rattle.wit_syntax.specs.NameEnds.{AtForeign, AtResource, EndsAt, shape_end}
 pub use Rattle.wit_syntax.specs.Node.{Head, Leaf, Named, Node, Nothing, Tree, Unnamed, primitive_type, unfolded}
 pub use Rattle.wit_syntax.specs.Repeats.{AllDiffer, firsts}

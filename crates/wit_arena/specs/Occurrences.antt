@@ -99,8 +99,8 @@ Decls = Address → List ScopeName × TypeOwner
 -- with what is stated of it; of an unnamed type, one without name, owner, docs and external id, with its form and parts.
 abbrev pub IsEntry : Decls → List Key → Key → TypeDef → Type 0
 IsEntry decls ks (Def s name) e = (k : ℕ) × (x : ScopeName) × (slice_get (decls s).0 k ≡ Some x) × (local_name x ≡ name) × (e.name ≡ Some name) × (e.span ≡ (about_name x).span) × (e.owner ≡ (decls s).1)
-    × ((kind_of e.kind).form ≡ (about_name x).body.form) × AreAt ks (name_exprs s x) (kind_of e.kind).parts × AreMetadata (about_name x).metadata e.docs e.stability e.external_id
-IsEntry decls ks (Whole form parts) e = (e.name ≡ None) × (e.owner ≡ owner.None) × ((kind_of e.kind).form ≡ form) × AreAt ks parts (kind_of e.kind).parts × (e.docs ≡ no_docs) × (e.external_id ≡ None)
+    × ((kind_of e.kind).0 ≡ (about_name x).body.form) × AreAt ks (name_exprs s x) (kind_of e.kind).1 × AreMetadata (about_name x).metadata e.docs e.stability e.external_id
+IsEntry decls ks (Whole form parts) e = (e.name ≡ None) × (e.owner ≡ owner.None) × ((kind_of e.kind).0 ≡ form) × AreAt ks parts (kind_of e.kind).1 × (e.docs ≡ no_docs) × (e.external_id ≡ None)
 
 -- the arena is what occurred, each once, and each entry that of its key over what occurred before
 pub record IsKeyed (decls : Decls) (ks : List Key) (es : List TypeDef) : Type 0 where
@@ -115,7 +115,7 @@ stability_at es ty = Unknown
 
 -- the stability of an unnamed type of this kind among entries: that of the definition that it is in, where that is known, else the first known one of its parts
 abbrev pub settled : List TypeDef → Stability → TypeDefKind → Stability
-settled es given kind = first_known (given ∷ map (stability_at es) (kind_of kind).parts)
+settled es given kind = first_known (given ∷ map (stability_at es) (kind_of kind).1)
 
 -- the arena is the list of first occurrences, and an unnamed type has that stability, among the entries before it
 pub record IsOccurrence (decls : Decls) (ms : List Occurrence) (es : List TypeDef) : Type 0 where

@@ -1,6 +1,6 @@
 -- What types of a package mean: the arenas unfolded, whose names are by what the package calls them, and what an interface says.
 use Rattle.std.specs.Prelude.{◌≡◌, ℕ, suc, ◌<◌, Bool, true, false, nat_eq, List, [], ◌∷◌, ◌++◌, Option, Some, None, map, find, slice_get}
-use Rattle.wit_arena.specs.Names.{Address, AstItem, Exported, ForeignNamed, ForeignVisit, Function, FunctionKey, Head, Imported, InlineAt, Interface, InterfaceNamed, Leaf, Metadata, Named, Node, Nothing, PackageName, Param, Span, Stability, Tree, TypeDef, TypeOwner, Unnamed, UnresolvedPackage, World, WorldItem, WorldKey, WorldNamed, WorldSide, filter, flat_map, no_metadata, option_and_then, option_map, option_map_or, option_or, option_to_list, unfolded, «Type» as Ty}
+use Rattle.wit_arena.specs.Names.{Address, AstItem, Exported, ForeignNamed, ForeignVisit, Function, FunctionKey, Head, Imported, InlineAt, Interface, InterfaceNamed, Leaf, Metadata, Named, Node, Nothing, PackageName, Param, Span, Stability, Tree, TypeDef, TypeOwner, Unnamed, UnresolvedPackage, World, WorldItem, WorldKey, WorldNamed, WorldSide, filter, flat_map, option_and_then, option_map, option_map_or, option_or, option_to_list, unfolded, «Type» as Ty, metadata, no_docs}
 use Rattle.wit_model.specs.declared.ast_item.AstItem.TheVariants as entry
 use Rattle.wit_model.specs.declared.world.WorldKey.TheVariants as key
 use Rattle.wit_model.specs.declared.world.WorldItem.TheVariants as item
@@ -110,8 +110,8 @@ abbrev pub entry_head : UnresolvedPackage → List ℕ → TypeDef → Head
 entry_head p name e = record { owner = owner_of p e.owner; name = name; span = e.span; docs = e.docs; stability = e.stability; external_id = e.external_id }
 
 abbrev pub entry_node : UnresolvedPackage → Option (List ℕ) → TypeDef → Node Ty
-entry_node p None e = Unnamed (kind_of e.kind).form (kind_of e.kind).parts
-entry_node p (Some name) e = Named (entry_head p name e) (kind_of e.kind).form (kind_of e.kind).parts
+entry_node p None e = Unnamed (kind_of e.kind).0 (kind_of e.kind).1
+entry_node p (Some name) e = Named (entry_head p name e) (kind_of e.kind).0 (kind_of e.kind).1
 
 -- one level of a type of the package
 abbrev pub package_node : UnresolvedPackage → Ty → Node Ty
@@ -141,4 +141,4 @@ IsWorld name span n w = (w.name ≡ name) × (w.span ≡ span) × (w.docs ≡ n.
 
 -- a world of another package, where a path first leads to it
 abbrev pub IsForeignWorld : ForeignVisit → World → Type 0
-IsForeignWorld v w = IsWorld [] v.id.span no_metadata w × (w.imports ≡ []) × (w.exports ≡ []) × (w.includes ≡ [])
+IsForeignWorld v w = IsWorld [] v.id.span (metadata no_docs []) w × (w.imports ≡ []) × (w.exports ≡ []) × (w.includes ≡ [])

@@ -31,7 +31,7 @@ module _ (ends : ℕ → Option EntryEnd) (all : (j : ℕ) → (e : EntryEnd) ×
 
   found_ends : (place : ℕ) (o : Option TypeDef) → (e : EntryEnd) × (found_end ends place o ≡ Some e)
   found_ends place None = (IsOther, refl)
-  found_ends place (Some x) = kind_ends place (kind_of x.kind).form (kind_of x.kind).parts
+  found_ends place (Some x) = kind_ends place (kind_of x.kind).0 (kind_of x.kind).1
 
 -- nothing is at a place beyond
 beyond : (es : List TypeDef) (i j : ℕ) → (j < i → ⊥) → slice_get (take i es) j ≡ None

@@ -17,7 +17,7 @@ kind_found f g i _ parts e by h = h
 
 end_found : (f g : ℕ → Option EntryEnd) (i : ℕ) (o : Option TypeDef) (e : EntryEnd) → ((j : ℕ) → f j ≡ Some e → g j ≡ Some e) → found_end f i o ≡ Some e → found_end g i o ≡ Some e
 end_found f g i None e by h = h
-end_found f g i (Some x) e by h = kind_found f g i (kind_of x.kind).form (kind_of x.kind).parts e by h
+end_found f g i (Some x) e by h = kind_found f g i (kind_of x.kind).0 (kind_of x.kind).1 e by h
 
 -- an end that is found in some steps is found in more
 more_steps : (n m : ℕ) (es : List TypeDef) (i : ℕ) (e : EntryEnd) → n ≤ m → entry_end n es i ≡ Some e → entry_end m es i ≡ Some e

@@ -9,11 +9,11 @@ use Rattle.wit_entries.specs.EntryFaults.{end_in, end_means, EndsNext, AreAsStat
 use Rattle.wit_entries.proofs.Ending.{found_in}
 
 -- where the last entry ends
-last_end : (n : ℕ) (es : List TypeDef) (e : TypeDef) → entry_end (suc n) (es ++ e ∷ []) (length es) ≡ kind_end (entry_end n es) (length es) (kind_of e.kind).form (kind_of e.kind).parts
+last_end : (n : ℕ) (es : List TypeDef) (e : TypeDef) → entry_end (suc n) (es ++ e ∷ []) (length es) ≡ kind_end (entry_end n es) (length es) (kind_of e.kind).0 (kind_of e.kind).1
 last_end n es e = ap (λ (l : List TypeDef). found_end (entry_end n l) (length es) (slice_get (es ++ e ∷ []) (length es))) (take-append_seam es (e ∷ [])) ∙ ap (found_end (entry_end n es) (length es)) (at_seam es e)
 
 abbrev pub ends_by : ℕ → List TypeDef → TypeDefKind → Option EntryEnd
-ends_by n es k = kind_end (entry_end n es) (length es) (kind_of k).form (kind_of k).parts
+ends_by n es k = kind_end (entry_end n es) (length es) (kind_of k).0 (kind_of k).1
 
 ends_kind : (es : List TypeDef) (k : TypeDefKind) (x : End) → EndsNext es k x → (n : ℕ) × (ends_by n es k ≡ Some (end_means x))
 ends_kind es kind.Resource x h = (1, ap (λ (y : End). Some (end_means y)) (sym h))

@@ -27,6 +27,6 @@ defines_noted old mid new cs o s names names' d kind n attributes as_stated same
     let all : metadata_view n ≡ (about_name (Defined d)).metadata = as_stated ∙ ap (metadata (docs_of d.docs)) same in
     let body = body_of d.body in
     defines_one old mid new cs o s names names' d kind
-    (subst (λ (given : Stability). AreParts old mid (env_of names) given body.parts (kind_of kind).parts) (ap (λ (m : Metadata). m.stability) all) is.parts s)
+    (subst (λ (given : Stability). AreParts old mid (env_of names) given body.parts (kind_of kind).1) (ap (λ (m : Metadata). m.stability) all) is.parts s)
     is.form
     (subst (λ (m : Metadata). IsAdded mid new o names names' d.name.name.now m d.name.span kind) all added)

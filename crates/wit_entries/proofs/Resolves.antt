@@ -75,9 +75,9 @@ abbrev pub before_parts : (Id → Fault) → Env → List TypeDef → Written �
 before_parts lost env es t = prefix_fault (name_fault lost env) (handle_fault lost env es) t
 
 -- a form is read once its parts are resolved, where these and what is before and after them are right
-pub parts_read : {old new : List TypeDef} {a b : List Required} (scope : TypeScope) (given : Stability) (whole : Written) (k : TypeDefKind) (span : Span) (form : Form) (inner : Shapes) (ts : List Written) → IsNoHandle whole → shape_of whole ≡ Of span form inner → (kind_of k).form ≡ form → IsAnonymousForm form → inner ≡ all_shapes ts → part_types whole ≡ ts → before_parts (lost_in scope.functions) (env_of scope.names.now) new whole ≡ None → back_fault whole ≡ None → ResolvedTypes scope given old new a b ts (kind_of k).parts → IsTypeRead scope given old new a b whole (reading.Form k span)
+pub parts_read : {old new : List TypeDef} {a b : List Required} (scope : TypeScope) (given : Stability) (whole : Written) (k : TypeDefKind) (span : Span) (form : Form) (inner : Shapes) (ts : List Written) → IsNoHandle whole → shape_of whole ≡ Of span form inner → (kind_of k).0 ≡ form → IsAnonymousForm form → inner ≡ all_shapes ts → part_types whole ≡ ts → before_parts (lost_in scope.functions) (env_of scope.names.now) new whole ≡ None → back_fault whole ≡ None → ResolvedTypes scope given old new a b ts (kind_of k).1 → IsTypeRead scope given old new a b whole (reading.Form k span)
 parts_read {old} {new} {a} {b} scope given whole k span form inner ts other shape named anonymous same parts before back p = record {
-  made = subst (λ (x : Shape). IsForm old new (env_of scope.names.now) given x k span) (sym shape) (refl, named, anonymous, subst (λ (xs : Shapes). AreParts old new (env_of scope.names.now) given xs (kind_of k).parts) (sym same) p.made);
+  made = subst (λ (x : Shape). IsForm old new (env_of scope.names.now) given x k span) (sym shape) (refl, named, anonymous, subst (λ (xs : Shapes). AreParts old new (env_of scope.names.now) given xs (kind_of k).1) (sym same) p.made);
   handled = requires_parts (env_of scope.names.now) new whole ts a b other parts p.handled;
   extended = p.extended;
   first = fault_parts (name_fault (lost_in scope.functions) (env_of scope.names.now)) (handle_fault (lost_in scope.functions) (env_of scope.names.now) new) whole ∙ none_both before (none_both (ap (types_fault (lost_in scope.functions) (env_of scope.names.now) new) parts ∙ p.first) back);

@@ -85,7 +85,7 @@ type_slots : (es : List TypeDef) (ts : List Ty) → map (stability_at es) ts ≡
 type_slots es ts = sym (map_map (slot_stability es) (λ (t : Ty). Some t) ts)
 
 -- the parts of every kind but a handle are in its slots
-parts_in_slots : (es : List TypeDef) (k : TypeDefKind) → ((h : Handle) → k ≡ kind.Handle h → ⊥) → first_known (map (stability_at es) (kind_of k).parts) ≡ first_known (map (slot_stability es) (slots k))
+parts_in_slots : (es : List TypeDef) (k : TypeDefKind) → ((h : Handle) → k ≡ kind.Handle h → ⊥) → first_known (map (stability_at es) (kind_of k).1) ≡ first_known (map (slot_stability es) (slots k))
 parts_in_slots es (kind.Handle h) other = absurd (other h refl)
 parts_in_slots es (kind.Record r) other = ap first_known (field_slots es r.fields)
 parts_in_slots es kind.Resource other = refl
@@ -103,5 +103,5 @@ parts_in_slots es (kind.Stream t) other = option_parts es t
 parts_in_slots es (kind.Type_ t) other = refl
 parts_in_slots es kind.Unknown other = refl
 
-pub slots_determine : (es : List TypeDef) (k : TypeDefKind) → ((h : Handle) → k ≡ kind.Handle h → ⊥) → known (first_known (map (stability_at es) (kind_of k).parts)) ≡ known (first_known (map (slot_stability es) (slots k)))
+pub slots_determine : (es : List TypeDef) (k : TypeDefKind) → ((h : Handle) → k ≡ kind.Handle h → ⊥) → known (first_known (map (stability_at es) (kind_of k).1)) ≡ known (first_known (map (slot_stability es) (slots k)))
 slots_determine es k other = ap known (parts_in_slots es k other)

@@ -20,8 +20,8 @@ AreTypes old new env given ts tys = AreParts old new env given (all_shapes ts) t
 
 -- a kind is the form of a body over its resolved parts
 pub record IsKindOf (old new : List TypeDef) (env : Env) (given : Stability) (body : Body) (kind : TypeDefKind) : Type 0 where
-  pub form : (kind_of kind).form ≡ body.form
-  pub parts : AreParts old new env given body.parts (kind_of kind).parts
+  pub form : (kind_of kind).0 ≡ body.form
+  pub parts : AreParts old new env given body.parts (kind_of kind).1
 
 -- a primitive or a name
 abbrev pub IsLeaf : Shape → Type 0
@@ -38,7 +38,7 @@ IsList t = ⊥
 abbrev pub IsForm : List TypeDef → List TypeDef → Env → Stability → Shape → TypeDefKind → Span → Type 0
 IsForm old new env given (Prim p) kind span = ⊥
 IsForm old new env given (Word id) kind span = ⊥
-IsForm old new env given (Of at form parts) kind span = (at ≡ span) × ((kind_of kind).form ≡ form) × IsAnonymousForm form × AreParts old new env given parts (kind_of kind).parts
+IsForm old new env given (Of at form parts) kind span = (at ≡ span) × ((kind_of kind).0 ≡ form) × IsAnonymousForm form × AreParts old new env given parts (kind_of kind).1
 
 -- a primitive or a name is a type by now, and a form is a kind
 abbrev pub IsRead : List TypeDef → List TypeDef → Env → Stability → Shape → Reading → Type 0

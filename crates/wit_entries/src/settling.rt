@@ -76,7 +76,7 @@ fn first_in_parts<'e>(
     types: &'e Arena<TypeDef, TypePlace>,
     kind: &TypeDefKind,
 ) -> Option<&'e Stability>
-    ensures { option_copied result ≡ the_known (first_known (map (stability_at types.now) (kind_of kind.now).parts)) }
+    ensures { option_copied result ≡ the_known (first_known (map (stability_at types.now) (kind_of kind.now).1)) }
 {
     match kind {
         TypeDefKind::Handle(handle) => known_at(types, Type::Id(resource_of(handle))),

@@ -145,7 +145,7 @@ fn resolve_result(
     parts: &tree::ResultTypes<'_>,
 ) -> ParseResult<Result_>
     ensures there { IfOk result (λ r. (is_some r.ok ≡ is_some (ok_type parts.now)) × (is_some r.err ≡ is_some (err_type parts.now))) }
-    ensures resolves { ResolvesTypes scope.entry given.now types.old types.new required.old required.new (result_types parts.now) (λ r. (kind_of (Result r)).parts) result }
+    ensures resolves { ResolvesTypes scope.entry given.now types.old types.new required.old required.new (result_types parts.now) (λ r. (kind_of (Result r)).1) result }
 {
     match parts {
         tree::ResultTypes::Neither => Ok(Result_ {

@@ -124,7 +124,7 @@ module _ (ptr : Ptr) (alloc : Global) where
   i_entry = record { name = Some (codes "i"); types = (codes "p", 1) ∷ []; functions = []; docs = no_docs; stability = Unknown; «package» = None; span = at 27 28; clone_of = None }
 
   kinds : map kind_of (list_entry.kind ∷ p_entry.kind ∷ kind.Type_ (type.Id 1) ∷ [])
-      ≡ (record { form = ListForm; parts = type.U8 ∷ [] } ∷ record { form = RecordForm members; parts = type.Id 0 ∷ type.Id 0 ∷ [] } ∷ record { form = AliasForm; parts = type.Id 1 ∷ [] } ∷ [])
+      ≡ ((ListForm, type.U8 ∷ []) ∷ (RecordForm members, type.Id 0 ∷ type.Id 0 ∷ []) ∷ (AliasForm, type.Id 1 ∷ []) ∷ [])
   kinds = refl
 
   -- a package of these arenas

@@ -66,13 +66,13 @@ pub seen_more : {decls : Decls} {ms : List Occurrence} {es : List TypeDef} (m : 
 seen_more {decls} {ms} {es} m e before new it here settled = occurrence_more m e before (fresh (keys ms) m.key new) it here settled
 
 -- a name of a scope has the next entry, over the places of its parts
-pub seen_named : {decls : Decls} {ms : List Occurrence} {es : List TypeDef} (s : Address) (k : ℕ) (x : ScopeName) (kind : TypeDefKind) → IsOccurrence decls ms es → is_new (key_mark (Def s (local_name x))) (keys ms) ≡ true → slice_get (decls s).0 k ≡ Some x → (kind_of kind).form ≡ (about_name x).body.form → AreAt (keys ms) (name_exprs s x) (kind_of kind).parts → IsOccurrence decls (ms ++ record { key = Def s (local_name x); span = (about_name x).span; given = (about_name x).metadata.stability } ∷ []) (es ++ named (decls s).1 (local_name x) kind (about_name x).metadata (about_name x).span ∷ [])
+pub seen_named : {decls : Decls} {ms : List Occurrence} {es : List TypeDef} (s : Address) (k : ℕ) (x : ScopeName) (kind : TypeDefKind) → IsOccurrence decls ms es → is_new (key_mark (Def s (local_name x))) (keys ms) ≡ true → slice_get (decls s).0 k ≡ Some x → (kind_of kind).0 ≡ (about_name x).body.form → AreAt (keys ms) (name_exprs s x) (kind_of kind).1 → IsOccurrence decls (ms ++ record { key = Def s (local_name x); span = (about_name x).span; given = (about_name x).metadata.stability } ∷ []) (es ++ named (decls s).1 (local_name x) kind (about_name x).metadata (about_name x).span ∷ [])
 seen_named {decls} {ms} {es} s k x kind before new at form parts =
     let m : Occurrence = record { key = Def s (local_name x); span = (about_name x).span; given = (about_name x).metadata.stability } in
     seen_more m (named (decls s).1 (local_name x) kind (about_name x).metadata (about_name x).span) before new (k, x, at, refl, refl, refl, refl, form, parts, record { docs = refl; stability = refl; external_id = refl }) refl tt
 
 -- and so has an unnamed type
-pub seen_unnamed : {decls : Decls} {ms : List Occurrence} {es : List TypeDef} (form : Form) (parts : Exprs) (kind : TypeDefKind) (given : Stability) (span : Span) → IsOccurrence decls ms es → is_new (key_mark (Whole form parts)) (keys ms) ≡ true → (kind_of kind).form ≡ form → AreAt (keys ms) parts (kind_of kind).parts → IsOccurrence decls (ms ++ record { key = Whole form parts; span = span; given = given } ∷ []) (es ++ unnamed kind (settled es given kind) span ∷ [])
+pub seen_unnamed : {decls : Decls} {ms : List Occurrence} {es : List TypeDef} (form : Form) (parts : Exprs) (kind : TypeDefKind) (given : Stability) (span : Span) → IsOccurrence decls ms es → is_new (key_mark (Whole form parts)) (keys ms) ≡ true → (kind_of kind).0 ≡ form → AreAt (keys ms) parts (kind_of kind).1 → IsOccurrence decls (ms ++ record { key = Whole form parts; span = span; given = given } ∷ []) (es ++ unnamed kind (settled es given kind) span ∷ [])
 seen_unnamed {decls} {ms} {es} form parts kind given span before new of are =
     let m : Occurrence = record { key = Whole form parts; span = span; given = given } in
     seen_more m (unnamed kind (settled es given kind) span) before new (refl, refl, of, are, refl, refl) refl refl

@@ -1,11 +1,14 @@
 -- Texts without a CR, line by line; and the indent of the first of some texts as the least.
 use Rattle.std.proofs.Common.{◌≡◌, ℕ, zero, suc, ◌+◌, ◌-◌, ◌<◌, ◌≤◌, ◌==◌, true, false, List, [], ◌∷◌, ◌++◌, length, get_or, take, append-nil, slice_index, Option, Some, None, is_some, inl, inr, refl, sym, ap, ◌∙◌, subst, arith, cond}
-use Rattle.wit_syntax.proofs.Common.{All-cons, All-head, All-nil, All-push, All-same, All-tail, after_spaces, cases_Bool, common_indent, ended_lines, eqb-true, flat_map, flat_map-append, fold, indent, is_ascii_whitespace, is_written, lines, lines_of_parts, map, map-append, min, ne_eqb, onto_first, prefix_len, said, slice_split, strip_carriage_return, take_more, without_spaces}
+use Rattle.wit_syntax.proofs.Common.{All-cons, All-head, All-nil, All-push, All-same, All-tail, cases_Bool, common_indent, ended_lines, eqb-true, flat_map, flat_map-append, fold, is_ascii_whitespace, lines, lines_of_parts, map, map-append, min, ne_eqb, onto_first, prefix_len, slice_split, strip_carriage_return, take_more, without_spaces, reduce}
 use Rattle.std.specs.List.{All}
-use Rattle.std.specs.Prelude.{filter}
+use Rattle.std.specs.Prelude.{filter, unwrap_or}
 use denote.Ref.{Bor}
 use Rattle.memchr.specs.Find.{IsFirstByte, is_byte}
 use Rattle.wit_notes.specs.PlainComments.{HasNoReturn, IsIndented, IsPushed, all_lines, ends_in_line, first_indent}
+use Rattle.wit_notes.specs.Texts.{after_spaces, indent, is_written, said}
+use Rattle.std.proofs.lemmas.List.Folds.{length-prefix_len}
+use Rattle.wit_notes.proofs.Texts.{spaces-one}
 
 -- CRs in two texts, one after the other
 no_return-split : (prefix back : List ℕ) → HasNoReturn (prefix ++ back) → HasNoReturn prefix × HasNoReturn back
@@ -106,14 +109,14 @@ indent-space text = let e : 1 + prefix_len is_ascii_whitespace text ≡ suc (pre
 pub spaces-indent : (n : ℕ) (text rest : List ℕ) → after_spaces n text ≡ Some rest → n ≤ indent text
 spaces-indent zero text rest h = omega arith
 spaces-indent (suc n) [] rest h = absurd (let f : ⊥ = cc in f)
-spaces-indent (suc n) (b ∷ text) rest h = elim (cases_Bool (b == 32)) [
+spaces-indent (suc n) (b ∷ text) rest h = elim (cases_Bool (32 == b)) [
   | inl space ↦ (
-      let more : after_spaces n text ≡ Some rest = rw space at h in
+      let more : after_spaces n text ≡ Some rest = rw space at (sym (spaces-one n b text) ∙ h) in
       let least : n ≤ indent text = spaces-indent n text rest more in
       let long : indent (32 ∷ text) ≡ suc (indent text) = indent-space text in
       let more : suc n ≤ indent (32 ∷ text) = omega arith in
-      subst (λ c. suc n ≤ indent (c ∷ text)) (sym (eqb-true b 32 space)) more)
-  | inr other ↦ absurd (let wrong : None ≡ Some rest = rw other at h in let f : ⊥ = cc in f)
+      subst (λ c. suc n ≤ indent (c ∷ text)) (eqb-true 32 b space) more)
+  | inr other ↦ absurd (let wrong : None ≡ Some rest = rw other at (sym (spaces-one n b text) ∙ h) in let f : ⊥ = cc in f)
 ]
 
 -- the first of some numbers is the least where none is less
@@ -130,7 +133,17 @@ indents-least n (text ∷ texts) h = elim (cases_Bool (is_written text)) [
   | inr empty ↦ rw empty (indents-least n texts (All-tail (IsIndented n) text texts h))
 ]
 
-first-least : (texts : List (List ℕ)) → All (IsIndented (first_indent texts)) texts → common_indent texts ≡ first_indent texts
+abbrev least_indent : List (List ℕ) → ℕ
+least_indent texts = unwrap_or (reduce min (map indent (filter is_written texts))) 0
+
+indents-counted : (texts : List (List ℕ)) → map indent texts ≡ map (prefix_len is_ascii_whitespace) texts
+indents-counted [] = refl
+indents-counted (text ∷ texts) = λ i. length-prefix_len is_ascii_whitespace text i ∷ indents-counted texts i
+
+least-common : (texts : List (List ℕ)) → least_indent texts ≡ common_indent texts
+least-common texts = ap (λ ns. unwrap_or (reduce min ns) 0) (indents-counted (filter is_written texts))
+
+first-least : (texts : List (List ℕ)) → All (IsIndented (first_indent texts)) texts → least_indent texts ≡ first_indent texts
 first-least [] h = refl
 first-least (text ∷ texts) h = elim (cases_Bool (is_written text)) [
   | inl written ↦ (
@@ -150,7 +163,9 @@ said-indented n (m ∷ ms) h =
 -- the least indent of what lent comments say, where none has less than the first
 pub first-common : (comments : List (Bor (List ℕ))) (n : ℕ) → n ≡ first_indent (map (λ (m : Bor (List ℕ)). said m.now) comments) → All (λ (m : Bor (List ℕ)). IsIndented n (said m.now)) comments →
     n ≡ common_indent (map (λ (m : Bor (List ℕ)). said m.now) comments)
-first-common comments n is h = is ∙ sym (first-least (map (λ (m : Bor (List ℕ)). said m.now) comments) (subst (λ k. All (IsIndented k) (map (λ (m : Bor (List ℕ)). said m.now) comments)) is (said-indented n comments h)))
+first-common comments n is h =
+    is ∙ sym (first-least (map (λ (m : Bor (List ℕ)). said m.now) comments) (subst (λ k. All (IsIndented k) (map (λ (m : Bor (List ℕ)). said m.now) comments)) is (said-indented n comments h)))
+    ∙ least-common (map (λ (m : Bor (List ℕ)). said m.now) comments)
 
 -- one comment more
 pub lines-next : (n : ℕ) (comments : List (Bor (List ℕ))) (i : ℕ) (d : Bor (List ℕ)) (old new rest : List ℕ) → i < length comments → IsPushed old new rest → rest ≡ without_spaces n (said (get_or comments i d).now) →

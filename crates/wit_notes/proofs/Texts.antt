@@ -1,6 +1,6 @@
 -- Marks at both ends of texts, spaces in front, and lines.
-use Rattle.std.proofs.Common.{◌≡◌, ◌≢◌, ℕ, zero, suc, ◌-◌, ◌<◌, ◌==◌, ◌&&◌, true, false, List, [], ◌∷◌, ◌++◌, length, take, drop, append-nil, slice_index, Option, Some, None, is_some, IfSome, inl, inr, refl, sym, ap, ◌∙◌, arith, lit<, if◌then◌else◌}
-use Rattle.wit_syntax.proofs.Common.{IsCharBoundary, after_slashes, after_spaces, cases_Bool, codes, docs_text, drop-length, encode_ascii, ended_lines, ends_with, eqb-true, filter_map, flat_map, indent, is_written, joined, lines_of_parts, map, map_map, nat_eq, ne_eqb, rest_after, said, slice_split, take-append-drop, unmarked, without_end, without_last_lines}
+use Rattle.std.proofs.Common.{◌≡◌, ◌≢◌, ℕ, zero, suc, ◌-◌, ◌<◌, ◌==◌, ◌&&◌, true, false, List, [], ◌∷◌, ◌++◌, length, take, drop, append-nil, slice_index, Option, Some, None, is_some, IfSome, inl, inr, refl, sym, ap, ◌∙◌, arith, lit<, if◌then◌else◌, ◌+◌}
+use Rattle.wit_syntax.proofs.Common.{IsCharBoundary, cases_Bool, codes, docs_text, drop-length, encode_ascii, ended_lines, ends_with, eqb-true, filter_map, flat_map, joined, lines_of_parts, map, map_map, nat_eq, ne_eqb, rest_after, slice_split, take-append-drop, unmarked, without_end, without_last_lines, is_ascii_whitespace, length-map, prefix_len}
 use Rattle.std.specs.Prelude.{filter}
 use Rattle.std.specs.Str.Pattern.{CutsPrefixes, CutsSuffixes, IsTrimStartMatches, IsTrimEndMatches, FindsCharPrefix, FindsCharSuffix, FindsTextSuffix, HasCharAt, StripsSuffix}
 use Rattle.std.proofs.lemmas.Str.Pattern.{drop_at_char, ends_text}
@@ -8,6 +8,8 @@ use denote.Ref.{Bor}
 use Rattle.memchr.specs.Find.{IsFirstByte, is_byte}
 use Rattle.wit_notes.specs.Indents.{written_indent}
 use Rattle.wit_refusals.proofs.Scoping.{rest_after-some}
+use Rattle.wit_notes.specs.Texts.{after_slashes, after_spaces, is_written, said}
+use Rattle.std.proofs.lemmas.List.Folds.{length-prefix_len}
 
 -- a text whose end was taken off
 pub without_end-stripped : (n s : List ℕ) (x : Bor (List ℕ)) → StripsSuffix (FindsTextSuffix n) s x.now → x.now ≡ without_end n s
@@ -23,34 +25,52 @@ without_end-kept n s h =
     let e : false ≡ ends_with nat_eq s n = ends_text false n s h in
     rw (← e) refl
 
+-- the text after its slashes, one after another
+abbrev past : List ℕ → List ℕ
+past [] = []
+past (b ∷ text) = if b == 47 then past text else b ∷ text
+
+slashes-past : (text : List ℕ) → after_slashes text ≡ past text
+slashes-past [] = refl
+slashes-past (b ∷ text) = elim (cases_Bool (b == 47)) [
+  | inl slash ↦ (let one : 1 + prefix_len (λ c. c == 47) text ≡ suc (prefix_len (λ c. c == 47) text) = omega arith in rw (slash, one) (slashes-past text))
+  | inr other ↦ rw other refl
+]
+
 -- one slash, and then all, taken off the prefix
-slashes-one : (m : List ℕ) (n : ℕ) → HasCharAt 47 m 0 n → after_slashes m ≡ after_slashes (drop n m)
-slashes-one m n h = let e : m ≡ 47 ∷ drop n m = drop_at_char 47 m 0 n h (lit< tt) in ap after_slashes e
+slashes-one : (m : List ℕ) (n : ℕ) → HasCharAt 47 m 0 n → past m ≡ past (drop n m)
+slashes-one m n h = let e : m ≡ 47 ∷ drop n m = drop_at_char 47 m 0 n h (lit< tt) in ap past e
 
-slashes-cut : (s r : List ℕ) (ns : List ℕ) → CutsPrefixes (FindsCharPrefix 47) s ns r → after_slashes s ≡ after_slashes r
-slashes-cut s r [] h = ap after_slashes (sym h)
-slashes-cut s r (n ∷ ns) h = slashes-cut s h.0 ns h.1 ∙ slashes-one h.0 n h.2 ∙ ap after_slashes (sym h.3)
+slashes-cut : (s r : List ℕ) (ns : List ℕ) → CutsPrefixes (FindsCharPrefix 47) s ns r → past s ≡ past r
+slashes-cut s r [] h = ap past (sym h)
+slashes-cut s r (n ∷ ns) h = slashes-cut s h.0 ns h.1 ∙ slashes-one h.0 n h.2 ∙ ap past (sym h.3)
 
-slashes-none : (r : List ℕ) → ((rest : List ℕ) → r ≢ 47 ∷ rest) → after_slashes r ≡ r
+slashes-none : (r : List ℕ) → ((rest : List ℕ) → r ≢ 47 ∷ rest) → past r ≡ r
 slashes-none [] h = refl
 slashes-none (b ∷ r) h = elim (cases_Bool (b == 47)) [
   | inl slash ↦ absurd (h r (ap (λ c. c ∷ r) (eqb-true b 47 slash)))
   | inr other ↦ rw other refl
 ]
 
-slashes-done : (r : List ℕ) (o : Option ℕ) → FindsCharPrefix 47 r o → IfSome o (λ n. n ≡ 0) → after_slashes r ≡ r
+slashes-done : (r : List ℕ) (o : Option ℕ) → FindsCharPrefix 47 r o → IfSome o (λ n. n ≡ 0) → past r ≡ r
 slashes-done r None h z = slashes-none r (λ rest e. h rest (e ∙ sym (ap (λ x. x ++ rest) (encode_ascii 47 (lit< tt)))))
 slashes-done r (Some n) h z = absurd (let ends = h.ends in omega arith)
 
 pub slashes-trimmed : (s r : List ℕ) → IsTrimStartMatches (FindsCharPrefix 47) s r → r ≡ after_slashes s
-slashes-trimmed s r h = sym (slashes-cut s r h.0.0 h.0.1 ∙ slashes-done r h.1.0 h.1.1 h.1.2)
+slashes-trimmed s r h = sym (slashes-cut s r h.0.0 h.0.1 ∙ slashes-done r h.1.0 h.1.1 h.1.2) ∙ sym (slashes-past s)
+
+pub spaces-one : (n b : ℕ) (text : List ℕ) → after_spaces (suc n) (b ∷ text) ≡ (if 32 == b then after_spaces n text else None)
+spaces-one n b text = elim (cases_Bool (32 == b)) [
+  | inl space ↦ rw space refl
+  | inr other ↦ rw other refl
+]
 
 pub spaces-none : (n : ℕ) (text : List ℕ) → 0 < n → ((rest : List ℕ) → text ≢ 32 ∷ rest) → after_spaces n text ≡ None
 spaces-none zero text lt h = absurd (omega arith)
 spaces-none (suc n) [] lt h = refl
-spaces-none (suc n) (b ∷ text) lt h = elim (cases_Bool (b == 32)) [
-  | inl space ↦ absurd (h text (ap (λ c. c ∷ text) (eqb-true b 32 space)))
-  | inr other ↦ rw other refl
+spaces-none (suc n) (b ∷ text) lt h = elim (cases_Bool (32 == b)) [
+  | inl space ↦ absurd (h text (ap (λ c. c ∷ text) (sym (eqb-true 32 b space))))
+  | inr other ↦ spaces-one n b text ∙ rw other refl
 ]
 
 -- LFs at the end
@@ -115,17 +135,21 @@ lines-many text (Some place) h some = ne_eqb (length text) 0 (λ z. (let high = 
 
 -- a comment that begins with three slashes has no other mark
 pub unmarked-slashes : (comment rest : List ℕ) → rest_after (codes "///") comment ≡ Some rest → after_slashes rest ≡ unmarked comment
-unmarked-slashes comment rest h = sym (ap unmarked (rest_after-some (codes "///") comment rest h))
+unmarked-slashes comment rest h = slashes-past rest ∙ sym (slashes-past (47 ∷ 47 ∷ 47 ∷ rest)) ∙ sym (ap unmarked (rest_after-some (codes "///") comment rest h))
 
 -- the indents of what lent comments say
-pub indents-found : (comments : List (Bor (List ℕ))) → filter_map (λ (m : Bor (List ℕ)). written_indent (said m.now)) comments ≡ map indent (filter is_written (map (λ (m : Bor (List ℕ)). said m.now) comments))
+pub indents-found : (comments : List (Bor (List ℕ))) → filter_map (λ (m : Bor (List ℕ)). written_indent (said m.now)) comments ≡ map (prefix_len is_ascii_whitespace) (filter is_written (map (λ (m : Bor (List ℕ)). said m.now) comments))
 indents-found [] = refl
 indents-found (m ∷ ms) = elim (cases_Bool (is_written (said m.now))) [
-  | inl written ↦ rw written (ap (λ ns. indent (said m.now) ∷ ns) (indents-found ms))
+  | inl written ↦ rw written (λ i. length-prefix_len is_ascii_whitespace (said m.now) i ∷ indents-found ms i)
   | inr empty ↦ rw empty (indents-found ms)
 ]
 
--- the text of lent comments
+-- the text of comments
+docs-some : (texts : List (List ℕ)) → (length texts == 0) ≡ false → docs_text texts ≡ Some (joined (map said texts))
+docs-some texts some = rw some refl
+
 pub docs-joined : (comments : List (Bor (List ℕ))) → (length comments == 0) ≡ false → Some (joined (map (λ (m : Bor (List ℕ)). said m.now) comments)) ≡ docs_text (map (λ (m : Bor (List ℕ)). m.now) comments)
-docs-joined [] some = absurd (let f : ⊥ = cc in f)
-docs-joined (m ∷ ms) some = ap (λ ts. Some (joined ts)) (sym (map_map said (λ (n : Bor (List ℕ)). n.now) (m ∷ ms)))
+docs-joined comments some =
+    ap (λ ts. Some (joined ts)) (sym (map_map said (λ (n : Bor (List ℕ)). n.now) comments))
+    ∙ sym (docs-some (map (λ (n : Bor (List ℕ)). n.now) comments) (ap (λ n. n == 0) (length-map comments (λ (n : Bor (List ℕ)). n.now)) ∙ some))

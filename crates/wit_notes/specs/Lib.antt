@@ -1,3 +1,4 @@
 pub mod Indents
 pub mod BorrowedMetadata
 pub mod PlainComments
+pub mod Texts

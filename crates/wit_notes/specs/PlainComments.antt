@@ -1,8 +1,9 @@
 -- What comments say, written line by line where no CR is in it.
 use Rattle.std.specs.Prelude.{◌≡◌, ◌≤◌, ◌==◌, ℕ, ⊤, Bool, true, false, List, [], ◌∷◌, ◌++◌, if◌then◌else◌, map}
 use Rattle.std.specs.List.{flat_map}
-use Rattle.wit_syntax.specs.Docs.{ended_lines, indent, is_written, said, without_spaces}
+use Rattle.wit_syntax.specs.Docs.{ended_lines, without_spaces}
 use denote.Ref.{Bor}
+use Rattle.wit_notes.specs.Texts.{indent, is_written, said}
 
 -- no byte is a CR
 abbrev pub HasNoReturn : List ℕ → Type 0

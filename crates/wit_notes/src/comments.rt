@@ -3,10 +3,11 @@ ghost use Rattle.std.specs.Prelude.{◌≡◌, ◌++◌, IfNone, IfOk, IfSome, I
 ghost use Rattle.std.specs.List.{All};
 ghost use Rattle.std.specs.Option.{option_copied};
 ghost use Rattle.std.specs.Str.{trim_end};
-ghost use Rattle.wit_syntax.specs.Docs.{after_slashes, after_spaces, common_indent, ended_lines, indent, joined, said, unmarked, without_end, without_last_lines, without_spaces};
+ghost use Rattle.wit_syntax.specs.Docs.{common_indent, ended_lines, joined, unmarked, without_end, without_last_lines, without_spaces};
 ghost use Rattle.wit_syntax.specs.Metadata.{docs_of};
 ghost use Rattle.wit_notes.specs.Indents.{written_indent};
 ghost use Rattle.wit_notes.specs.PlainComments.{IsIndented, IsPlainOf, IsPushed, all_lines, all_said, ends_in_line, first_indent};
+ghost use Rattle.wit_notes.specs.Texts.{after_slashes, after_spaces, indent, said};
 
 use memchr::memchr;
 use std::alloc::{AllocError, Global};

@@ -112,11 +112,11 @@ module _ (p : UnresolvedPackage) (ks : List Key) (types : length p.types ≡ len
   entry_within : (files : List PackageFile) (i : ℕ) (k : Key) (e : TypeDef) → IsEntry (declarations files is ws) (take i ks) k e → IsTypeWithin p e
   entry_within files i (Def s name) e it =
       record {
-        parts = parts_within p ks types (name_exprs s it.1) (kind_of e.kind).parts (all_at_untaken i ks (name_exprs s it.1) (kind_of e.kind).parts it.8);
+        parts = parts_within p ks types (name_exprs s it.1) (kind_of e.kind).1 (all_at_untaken i ks (name_exprs s it.1) (kind_of e.kind).1 it.8);
         owner = subst (IsOwnerWithin p) (sym it.6) (owner_of_places (place_at is s) (place_at ws s) (λ k at. let within = place_within is s k at in omega (arith, within, interfaces)) (λ k at. let within = place_within ws s k at in omega (arith, within, worlds)));
       }
   entry_within files i (Whole form parts) e it = record {
-    parts = parts_within p ks types parts (kind_of e.kind).parts (all_at_untaken i ks parts (kind_of e.kind).parts it.3);
+    parts = parts_within p ks types parts (kind_of e.kind).1 (all_at_untaken i ks parts (kind_of e.kind).1 it.3);
     owner = subst (IsOwnerWithin p) (sym it.1) tt;
   }
 

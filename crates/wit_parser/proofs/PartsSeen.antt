@@ -116,13 +116,13 @@ module _ (files : List PackageFile) (p : UnresolvedPackage) (legal : IsLegal fil
         ap (λ (y : TypeDef). y.name) h.5,
         ap (λ (y : TypeDef). y.span) h.5 ∙ it.0,
         ap (λ (y : TypeDef). y.owner) h.5,
-        ap (λ k. k.form) kind,
-        types_at n (name_exprs s x) (kind_of e.kind).parts it.1 (ap (λ k. k.parts) kind),
+        ap (λ k. k.0) kind,
+        types_at n (name_exprs s x) (kind_of e.kind).1 it.1 (ap (λ k. k.1) kind),
         record { docs = ap (λ (y : TypeDef). y.docs) h.5; stability = ap (λ (y : TypeDef). y.stability) h.5; external_id = ap (λ (y : TypeDef). y.external_id) h.5 },
       )
   entry_is n (Whole form parts) span given e are_present h =
       let kind = ap (λ (y : TypeDef). kind_of y.kind) h.2 ∙ h.1 in
-      (ap (λ (y : TypeDef). y.name) h.2, ap (λ (y : TypeDef). y.owner) h.2, ap (λ k. k.form) kind, types_at n parts (kind_of e.kind).parts are_present (ap (λ k. k.parts) kind), ap (λ (y : TypeDef). y.docs) h.2, ap (λ (y : TypeDef). y.external_id) h.2)
+      (ap (λ (y : TypeDef). y.name) h.2, ap (λ (y : TypeDef). y.owner) h.2, ap (λ k. k.0) kind, types_at n parts (kind_of e.kind).1 are_present (ap (λ k. k.1) kind), ap (λ (y : TypeDef). y.docs) h.2, ap (λ (y : TypeDef). y.external_id) h.2)
 
   span_is : (n : ℕ) (k : Key) (span : Span) (given : Stability) (e : TypeDef) → Stated n k span given e → e.span ≡ span
   span_is n (Def s name) span given e h = ap (λ (y : TypeDef). y.span) h.5
@@ -132,7 +132,7 @@ module _ (files : List PackageFile) (p : UnresolvedPackage) (legal : IsLegal fil
   settled_is n (Def s name) span given e h none = absurd (let named = ap (λ (y : TypeDef). y.name) h.5 in let both : Some name ≡ None = sym named ∙ none in let f : ⊥ = cc in f)
   settled_is n (Whole form parts) span given e h none =
       let kind = ap (λ (y : TypeDef). kind_of y.kind) h.2 ∙ h.1 in
-      ap (λ (y : TypeDef). y.stability) h.2 ∙ ap (λ (ts : List Ty). first_known (given ∷ map (stability_at (take n p.types)) ts)) (sym (ap (λ k. k.parts) kind))
+      ap (λ (y : TypeDef). y.stability) h.2 ∙ ap (λ (ts : List Ty). first_known (given ∷ map (stability_at (take n p.types)) ts)) (sym (ap (λ k. k.1) kind))
 
   -- so it is the list of first occurrences
   pub entries_made : IsOccurrence (declarations files (interface_scopes files m.items) (world_scopes files m.items)) m.seen p.types

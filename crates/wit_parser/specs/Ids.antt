@@ -23,7 +23,7 @@ IsOwnerWithin p owner.None = Unit {0}
 
 -- the ids of a type are such places: those of its parts, of a handle that of its resource, and that of its owner
 pub record IsTypeWithin (p : UnresolvedPackage) (e : TypeDef) : Type 0 where
-  pub parts : AreTypesWithin p (kind_of e.kind).parts
+  pub parts : AreTypesWithin p (kind_of e.kind).1
   pub owner : IsOwnerWithin p e.owner
 
 -- those of a function: that of the resource that it belongs to, and those of the types of its parameters and of its result

@@ -127,13 +127,13 @@ pub use Rattle.wit_syntax.proofs.Unnoted.{unbroken_metadata}
 pub use Rattle.wit_syntax.specs.Address.{Address, ForeignNamed, InlineAt, InterfaceNamed, WorldNamed, is_foreign, package_of, release_of, same_address, same_package, same_version}
 pub use Rattle.wit_syntax.specs.Bodies.{AreBroken, CanBeKey, Inside, IsBrokenBody, IsBrokenForm, IsBrokenList, IsBrokenType, IsDuplicateName, IsEmpty, IsFlagTooMany, IsInvalidKey, IsKey, IsSecond, IsSecondIn, Itself}
 pub use Rattle.wit_syntax.specs.Broken.{AttributedUse, Body, CyclicItem, CyclicType, DefinedTwice, DuplicateItem, DuplicateTopName, ForeignStability, Function, Handle, Headerless, IncludeStability, InterfaceIncluded, IsBroken, IsBrokenItems, IsBrokenNames, IsBrokenScope, IsBrokenUse, IsCyclicEdge, IsDocumented, IsDocumentedTwice, IsLegal, IsLinkedTwice, IsMismatch, IsMissingEdge, IsOtherPackage, IsSamePackage, IsSecondDocs, IsSetterAlone, IsWrongTop, ItemStability, Items, LinkedTwice, LostUse, MissingItem, MissingName, MissingType, MissingUse, Names, Refused, Scope, Setter, Sides, TopUse, UseMetadata, WorldUsed, headers, is_world_at, last_header}
-pub use Rattle.wit_syntax.specs.Docs.{after_slashes, after_spaces, common_indent, docs_text, ended_lines, indent, is_written, joined, said, unmarked, without_end, without_last_lines, without_spaces}
+pub use Rattle.wit_syntax.specs.Docs.{common_indent, docs_text, ended_lines, joined, unmarked, without_end, without_last_lines, without_spaces}
 pub use Rattle.wit_syntax.specs.ExternPart.{extern_paths, inline_uses, item_uses, same_side}
 pub use Rattle.wit_syntax.specs.Fault.{Cyclic, Fault, Missing, as_stated, cyclic_at, fault, fault_in, fault_of, function_as_type, function_used, interface_there, item_twice, item_word, linked_twice, lone_setter, missing_at, missing_type_at, name_twice, name_word, no_resource, param_twice, top_twice, type_word, world_there}
 pub use Rattle.wit_syntax.specs.Foreign.{ForeignVisit, declaration_visits, extern_visits, foreign_at, foreign_interfaces, foreign_items, foreign_packages, foreign_visits, foreign_worlds, part_visits, path_visits, same_item, visited}
 pub use Rattle.wit_syntax.specs.Form.{AliasForm, BorrowForm, EnumForm, FixedLengthListForm, FlagsForm, Form, FutureForm, ListForm, MapForm, Member, OptionForm, OwnForm, RecordForm, ResourceForm, ResultForm, StreamForm, TupleForm, UnknownForm, VariantForm}
 pub use Rattle.wit_syntax.specs.Function.{Constructor, Freestanding, Method, OnSide, Role, SourceFunction, SourceParam, Static, accessor, all_params, all_types, constructor_of, definition_functions, extern_functions, free_function, functions, item_types, name_types, part_functions, resource_function, role_names, self_param, side_function, signature, written_param, written_types}
-pub use Rattle.wit_syntax.specs.Metadata.{AreMetadata, DeprecatedAlone, DeprecatedTwice, IsBrokenMetadata, IsBrokenStability, IsTwice, Metadata, SinceAndUnstable, SinceTwice, UnstableTwice, deprecation, docs_of, first_known, metadata, no_docs, no_metadata, stability_of}
+pub use Rattle.wit_syntax.specs.Metadata.{AreMetadata, DeprecatedAlone, DeprecatedTwice, IsBrokenMetadata, IsBrokenStability, IsTwice, Metadata, SinceAndUnstable, SinceTwice, UnstableTwice, deprecation, docs_of, first_known, metadata, no_docs, stability_of}
 pub use Rattle.wit_syntax.specs.NameEnds.{AtForeign, AtResource, Elsewhere, End, EndsAt, IsNoResource, named_end, shape_end}
 pub use Rattle.wit_syntax.specs.Node.{Head, Leaf, Named, Nothing, Tree, Unnamed, node_map, primitive_type}
 pub use Rattle.wit_syntax.specs.Repeats.{AllDiffer, IsRepeatAt, firsts}

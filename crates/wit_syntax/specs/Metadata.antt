@@ -42,10 +42,6 @@ pub record Metadata : Type 0 where
 abbrev pub metadata : Docs → List Attribute → Metadata
 metadata docs xs = record { docs = docs; stability = stability_of xs; external_id = stated_text ExternalId xs }
 
--- nothing is stated
-abbrev pub no_metadata : Metadata
-no_metadata = record { docs = no_docs; stability = stability.Unknown; external_id = None }
-
 -- these are the metadata
 pub record AreMetadata (n : Metadata) (d : Docs) (s : Stability) (id : Option (List ℕ)) : Type 0 where
   pub docs : d ≡ n.docs

@@ -1,8 +1,8 @@
 use Rattle.std.proofs.Common.{◌≡◌, ◌∙◌, sym, None, lit<}
 use Rattle.std.proofs.lemmas.Str.Pattern.{strip_prefix_char}
-use Rattle.wit_syntax.proofs.Common.{after_spaces}
 use Rattle.wit_notes.proofs.Texts.{spaces-none}
 use Rattle.wit_notes.proofs.comments.after_spaces.Goals as goal
+use Rattle.wit_notes.specs.Texts.{after_spaces}
 
 pub returns-in-None : goal.returns-in-None
 returns-in-None c =

@@ -1,8 +1,8 @@
 use Rattle.std.proofs.Common.{◌≡◌}
 use denote.Text.{Utf8}
 use denote.Shadow.{shadow}
-use Rattle.wit_syntax.proofs.Common.{after_spaces}
 use Rattle.wit_notes.proofs.comments.after_spaces.Given as goal
+use Rattle.wit_notes.specs.Texts.{after_spaces}
 
 abbrev pub invariant-loop-left : goal.invariant-loop-left
 invariant-loop-left l = shadow (Utf8 l.rest) × (after_spaces l.count l.text ≡ after_spaces l.left l.rest)

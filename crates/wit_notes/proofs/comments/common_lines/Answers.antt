@@ -1,10 +1,10 @@
 use Rattle.std.proofs.Common.{◌≡◌, ◌∙◌, ℕ, List, ap, not, false, is_some, map, string_bytes}
 use denote.Ref.{Bor}
 use Rattle.memchr.specs.Find.{IsFirstByte, is_byte}
-use Rattle.wit_syntax.proofs.Common.{said}
 use Rattle.wit_notes.specs.PlainComments.{all_lines}
 use Rattle.wit_notes.proofs.PlainComments.{first-common, no_return-found}
 use Rattle.wit_notes.proofs.comments.common_lines.Goals as goal
+use Rattle.wit_notes.specs.Texts.{said}
 
 pub returns-then-is_none : goal.returns-then-is_none
 returns-then-is_none c =

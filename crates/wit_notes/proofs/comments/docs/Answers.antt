@@ -1,8 +1,9 @@
 use Rattle.std.proofs.Common.{◌≡◌, ℕ, List, ◌∙◌, ◌==◌, ap, sym, false, length, Option, Some}
-use Rattle.wit_syntax.proofs.Common.{Docs, docs_text, joined, map, said}
+use Rattle.wit_syntax.proofs.Common.{Docs, docs_text, joined, map}
 use denote.Ref.{Bor}
 use Rattle.wit_notes.proofs.Texts.{docs-joined}
 use Rattle.wit_notes.proofs.comments.docs.Goals as goal
+use Rattle.wit_notes.specs.Texts.{said}
 
 pub returns : goal.returns
 returns c =

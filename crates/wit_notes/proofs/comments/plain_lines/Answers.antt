@@ -1,9 +1,10 @@
 use Rattle.std.proofs.Common.{◌<◌, ◌∙◌, ℕ, List, [], ap, subst, length, get_or, string_bytes}
 use denote.Ref.{Bor}
-use Rattle.wit_syntax.proofs.Common.{said, without_spaces}
+use Rattle.wit_syntax.proofs.Common.{without_spaces}
 use Rattle.wit_notes.specs.PlainComments.{IsIndented}
 use Rattle.wit_notes.proofs.PlainComments.{indented-next, lines-next}
 use Rattle.wit_notes.proofs.comments.plain_lines.Goals as goal
+use Rattle.wit_notes.specs.Texts.{said}
 
 pub loop-comment-preserved : goal.loop-comment-preserved
 loop-comment-preserved c =

@@ -1,8 +1,8 @@
 use Rattle.std.proofs.Common.{◌≡◌, map, take, string_bytes}
 use Rattle.std.specs.List.{All}
-use Rattle.wit_syntax.proofs.Common.{said}
 use Rattle.wit_notes.specs.PlainComments.{HasNoReturn, IsIndented, all_lines}
 use Rattle.wit_notes.proofs.comments.plain_lines.Given as goal
+use Rattle.wit_notes.specs.Texts.{said}
 
 abbrev pub invariant-loop-comment : goal.invariant-loop-comment
 invariant-loop-comment l = record {
