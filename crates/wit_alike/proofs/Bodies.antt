@@ -1,19 +1,19 @@
 -- Bodies of definitions that are alike: their shapes and their first faults.
 use Rattle.std.proofs.Common.{◌≡◌, ℕ, Bool, true, false, cond, List, [], ◌∷◌, map, Option, Some, None, is_some, codes, refl, ap, ap₂}
-use Rattle.wit_walk.proofs.Common.{AllZip, Both', Case, Enum, EnumCase, EnumForm, Err', Fault, Field, Flag, Flags, FlagsForm, Id, Member, Neither, None', Of, Ok', Plain, Prim, Record, RecordForm, Resource, ResourceFunc, ResultTypes, Row_of-Type, Shape, Some', Span, TypeBody, Variant, VariantForm, Word, all_shapes, body_of, body_types, bytes_eq, case_types, clash, clash_fault, clash_of, docs_text, empty_fault, end_of-Type, fault, fault_in, field_types, head, list_fault, lower_case, member, members_fault, more_of-Type, names_fault, option_map, option_or, row_fault, row_types, shape_of, slice_get, type_fault, written_body, «Type» as Written}
+use Rattle.wit_walk.proofs.Common.{AllZip, Both', Case, Enum, EnumCase, EnumForm, Err', Fault, Field, Flag, Flags, FlagsForm, Id, Member, Neither, None', Of, Ok', Plain, Prim, Record, RecordForm, Resource, ResourceFunc, ResultTypes, Row_of-Type, Shape, Some', Span, TypeBody, Variant, VariantForm, Word, all_shapes, body_of, body_types, bytes_eq, case_types, clash, clash_of, docs_text, empty_fault, end_of-Type, fault, fault_in, field_types, head, list_fault, lower_case, member, members_fault, more_of-Type, names_fault, option_map, option_or, row_fault, row_types, shape_of, slice_get, type_fault, written_body, «Type» as Written, Primitive}
 use Rattle.std.specs.List.{find}
 use Rattle.wit_syntax.specs.Shape.{Body}
 use Rattle.wit_type_tree.specs.declared.types.«Type».TheVariants as written
 use Rattle.wit_grammar.specs.Trees.{Name, Documents, Field as SeenField, Flag as SeenFlag, Case as SeenCase}
 use Rattle.wit_grammar.specs.Seen.{see_body, see_case, see_enum_case, see_field, see_flag, see_resource_func, see_type}
-use Rattle.wit_first.specs.KeyFaults.{can_be_key, is_key, key_fault}
+use Rattle.wit_first.specs.KeyFaults.{is_key, key_fault}
 use Rattle.wit_alike.proofs.Lists.{Both, both_of, both_same, consed, zip_after, zip_at, zip_find, zip_map, zip_of, zip_same}
 use Rattle.wit_alike.proofs.Leaves.{SameId}
 use Rattle.wit_alike.proofs.Types.{SameType, SameResult, SameRow, SameShape, SameShapes, same_shape, type_of}
 
 -- ---- the first fault of a type
 same_is_key : (t u : Written) → SameType t u → is_key t ≡ is_key u
-same_is_key (written.Primitive s p) (written.Primitive t q) h = ap can_be_key h.1
+same_is_key (written.Primitive s p) (written.Primitive t q) h = ap₂ (λ (at : Span) (r : Primitive). is_key (written.Primitive at r)) h.0 h.1
 same_is_key (written.Primitive s p) u h = absurd h
 same_is_key t (written.Primitive s p) h = absurd h
 same_is_key t u h = refl
@@ -167,14 +167,17 @@ same_meaning b c h = absurd h
 abbrev clash_seen : List ℕ → Name → Name → Fault
 clash_seen desc m n = fault_in 25 n.span (clash desc m.text n.text)
 
-same_clash : (desc : List ℕ) (before others : List Id) (a b : Id) → AllZip SameId before others → SameId a b → clash_of (λ (id : Id). lower_case id.name.now) (clash_fault desc) before a ≡ clash_of (λ (id : Id). lower_case id.name.now) (clash_fault desc) others b
+abbrev clash_by : List ℕ → Id → Id → Fault
+clash_by desc earlier later = fault_in 25 later.span (clash desc earlier.name.now later.name.now)
+
+same_clash : (desc : List ℕ) (before others : List Id) (a b : Id) → AllZip SameId before others → SameId a b → clash_of (λ (id : Id). lower_case id.name.now) (clash_by desc) before a ≡ clash_of (λ (id : Id). lower_case id.name.now) (clash_by desc) others b
 same_clash desc before others a b earlier h =
-    both_same SameId (λ (y : Id). clash_fault desc y a) (λ (y : Id). clash_fault desc y b) (λ x y same. ap₂ (λ (m n : Name). clash_seen desc m n) same h)
+    both_same SameId (λ (y : Id). clash_by desc y a) (λ (y : Id). clash_by desc y b) (λ x y same. ap₂ (λ (m n : Name). clash_seen desc m n) same h)
     (find (λ (y : Id). bytes_eq (lower_case y.name.now) (lower_case a.name.now)) before) (find (λ (y : Id). bytes_eq (lower_case y.name.now) (lower_case b.name.now)) others)
     (zip_find SameId (λ (y : Id). bytes_eq (lower_case y.name.now) (lower_case a.name.now)) (λ (y : Id). bytes_eq (lower_case y.name.now) (lower_case b.name.now)) (λ x y same. ap₂ (λ (m n : Name). bytes_eq (lower_case m.text) (lower_case n.text)) same h) before others earlier)
 
 pub same_names_fault : (desc : List ℕ) (xs ys : List Id) → AllZip SameId xs ys → names_fault desc xs ≡ names_fault desc ys
-same_names_fault desc xs ys h = zip_after SameId (clash_of (λ (id : Id). lower_case id.name.now) (clash_fault desc)) (clash_of (λ (id : Id). lower_case id.name.now) (clash_fault desc)) (same_clash desc) [] xs [] ys tt h
+same_names_fault desc xs ys h = zip_after SameId (clash_of (λ (id : Id). lower_case id.name.now) (clash_by desc)) (clash_of (λ (id : Id). lower_case id.name.now) (clash_by desc)) (same_clash desc) [] xs [] ys tt h
 
 same_empty : {A : Type 0} (R : A → A → Type 0) (number : ℕ) (xs ys : List A) (s r : Span) → AllZip R xs ys → s ≡ r → empty_fault number xs s ≡ empty_fault number ys r
 same_empty R number [] [] s r h e = ap (λ (at : Span). Some (fault number at)) e

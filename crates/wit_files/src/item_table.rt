@@ -7,7 +7,7 @@ ghost use Rattle.wit_syntax.specs.ScopeTables.{use_path, include_path, item_row}
 ghost use Rattle.wit_syntax.specs.Fault.{cyclic_at, missing_at, item_word};
 ghost use Rattle.wit_syntax.specs.Repeats.{AllDiffer};
 ghost use Rattle.wit_top_names.specs.Tops.{AreNamed, AreDeclared};
-ghost use Rattle.wit_first.specs.FileFaults.{paths_fault};
+ghost use Rattle.wit_first.specs.Checks.{paths_fault};
 ghost use Rattle.wit_first.specs.First.{Finds, FindsBy, first_in};
 ghost use Rattle.wit_first.specs.OrderFaults.{IsOrderFault};
 ghost use Rattle.wit_top_names.specs.Checks.{AddsEdges, FindsUnnamedIn};

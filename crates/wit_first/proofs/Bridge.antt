@@ -5,11 +5,12 @@ use Rattle.wit_type_tree.specs.declared.leaves.Attribute.TheVariants as attribut
 use Rattle.wit_type_tree.specs.declared.types.Primitive.TheVariants as primitive
 use Rattle.wit_type_tree.specs.declared.types.«Type».TheVariants as written
 use Rattle.wit_type_tree.specs.declared.types.TypeBody.TheVariants as body
-use Rattle.wit_first.specs.AttributeFaults.{number_of, repeat_fault, counted_fault, each_once_fault, kinds_fault, stability_fault, external_fault, metadata_fault}
+use Rattle.wit_first.specs.AttributeFaults.{number_of, counted_fault, kinds_fault, stability_fault, external_fault, metadata_fault}
 use Rattle.wit_first.specs.First.{first_in, first_after, Reports, repeat_of, first_repeat, clash_of}
-use Rattle.wit_first.specs.KeyFaults.{can_be_key, is_key, key_fault}
+use Rattle.wit_first.specs.KeyFaults.{is_key, key_fault}
 use Rattle.wit_first.specs.Laws.{Agrees}
-use Rattle.wit_first.specs.ListFaults.{empty_fault, clash_fault, names_fault, members_fault, flags_fault, list_fault}
+use Rattle.wit_first.specs.ListFaults.{empty_fault, names_fault, members_fault, flags_fault, list_fault}
+use Rattle.wit_first.specs.Checks.{each_once_fault, repeat_fault}
 use Rattle.wit_first.specs.NameFaults.{item_names_fault, top_names_fault, local_names_fault}
 use Rattle.wit_first.proofs.First.{any_some}
 
@@ -301,7 +302,7 @@ clash_differs key as_fault xs none = record {
 pub names_agree : (desc : List ℕ) (names : List Id) → Agrees (names_fault desc names) (IsDuplicateName names)
 names_agree desc names = record {
   broken = clash_broken (λ (id : Id). lower_case id.name.now) (λ (id : Id) (words : List ℕ). fault_in 25 id.span words) (λ (y : Id) (x : Id). clash desc y.name.now x.name.now) names;
-  unbroken = clash_unbroken (λ (id : Id). lower_case id.name.now) (λ (id : Id) (words : List ℕ). fault_in 25 id.span words) (clash_fault desc) names;
+  unbroken = clash_unbroken (λ (id : Id). lower_case id.name.now) (λ (id : Id) (words : List ℕ). fault_in 25 id.span words) (λ (earlier : Id) (later : Id). fault_in 25 later.span (clash desc earlier.name.now later.name.now)) names;
 }
 
 -- lists that are empty
@@ -374,24 +375,24 @@ pub list_agrees : (b : TypeBody) → Agrees (list_fault b) (IsBrokenList b)
 list_agrees b = record { broken = list_broken b; unbroken = list_unbroken b }
 
 -- the key of a map
-can_match : (p : Primitive) → ((can_be_key p ≡ true) × CanBeKey p) ⊎ ((can_be_key p ≡ false) × (CanBeKey p → ⊥))
-can_match primitive.Bool = inl (refl, tt)
-can_match primitive.U8 = inl (refl, tt)
-can_match primitive.U16 = inl (refl, tt)
-can_match primitive.U32 = inl (refl, tt)
-can_match primitive.U64 = inl (refl, tt)
-can_match primitive.S8 = inl (refl, tt)
-can_match primitive.S16 = inl (refl, tt)
-can_match primitive.S32 = inl (refl, tt)
-can_match primitive.S64 = inl (refl, tt)
-can_match primitive.F32 = inr (refl, λ h. h)
-can_match primitive.F64 = inr (refl, λ h. h)
-can_match primitive.Char = inl (refl, tt)
-can_match primitive.String = inl (refl, tt)
-can_match primitive.ErrorContext = inr (refl, λ h. h)
+can_match : (span : Span) (p : Primitive) → ((is_key (written.Primitive span p) ≡ true) × CanBeKey p) ⊎ ((is_key (written.Primitive span p) ≡ false) × (CanBeKey p → ⊥))
+can_match span primitive.Bool = inl (refl, tt)
+can_match span primitive.U8 = inl (refl, tt)
+can_match span primitive.U16 = inl (refl, tt)
+can_match span primitive.U32 = inl (refl, tt)
+can_match span primitive.U64 = inl (refl, tt)
+can_match span primitive.S8 = inl (refl, tt)
+can_match span primitive.S16 = inl (refl, tt)
+can_match span primitive.S32 = inl (refl, tt)
+can_match span primitive.S64 = inl (refl, tt)
+can_match span primitive.F32 = inr (refl, λ h. h)
+can_match span primitive.F64 = inr (refl, λ h. h)
+can_match span primitive.Char = inl (refl, tt)
+can_match span primitive.String = inl (refl, tt)
+can_match span primitive.ErrorContext = inr (refl, λ h. h)
 
 key_match : (t : Written) → ((is_key t ≡ true) × IsKey t) ⊎ ((is_key t ≡ false) × (IsKey t → ⊥))
-key_match (written.Primitive span p) = can_match p
+key_match (written.Primitive span p) = can_match span p
 key_match (written.Name id) = inr (refl, λ h. h)
 key_match (written.List' span p t) = inr (refl, λ h. h)
 key_match (written.FixedLengthList' span p t size) = inr (refl, λ h. h)

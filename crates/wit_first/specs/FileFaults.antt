@@ -23,13 +23,9 @@ abbrev pub unnamed_fault : List Item → List TopName → UsePath → Option Fau
 unnamed_fault is top (path.Id id) = if is_none (find (λ t. bytes_eq (top_text t) id.name.now) top) then lost_fault is (Local id) else None
 unnamed_fault is top (path.Package p id) = None
 
--- of the paths of an item to those that have to come before it
-abbrev pub paths_fault : List Item → Item → Option Fault
-paths_fault is w = first_in (unnamed_fault is w.top) (needed_paths w)
-
--- of a file: a name at its top repeats, and then such a path; and of files
+-- of a file: a name at its top repeats, and then such a path of an item to those that have to come before it; and of files
 abbrev pub file_fault : List Item → PackageFile → Option Fault
-file_fault is file = option_or (top_names_fault file) (first_in (paths_fault is) (file_items file))
+file_fault is file = option_or (top_names_fault file) (first_in (λ (w : Item). first_in (unnamed_fault is w.top) (needed_paths w)) (file_items file))
 
 abbrev pub files_fault : List PackageFile → Option Fault
 files_fault files = first_in (file_fault (all_items files)) files

@@ -1,22 +1,17 @@
 -- The first fault of the key of a map: E26.
 use Rattle.std.specs.Prelude.{Bool, true, false, if◌then◌else◌, Option, None, Some}
 use Rattle.wit_values.specs.declared.span.Span.{Span}
-use Rattle.wit_type_tree.specs.declared.types.Primitive.{Primitive}
 use Rattle.wit_type_tree.specs.declared.types.Primitive.TheVariants as primitive
 use Rattle.wit_type_tree.specs.declared.types.«Type».{«Type» as Written}
 use Rattle.wit_type_tree.specs.declared.types.«Type».TheVariants as written
 use Rattle.wit_syntax.specs.Fault.{Fault, fault}
 
 -- a map may have keys of a primitive type, but of no float and no context of errors
-abbrev pub can_be_key : Primitive → Bool
-can_be_key primitive.F32 = false
-can_be_key primitive.F64 = false
-can_be_key primitive.ErrorContext = false
-can_be_key _ = true
-
--- a map may have keys of a type, as it is written
 abbrev pub is_key : Written → Bool
-is_key (written.Primitive span p) = can_be_key p
+is_key (written.Primitive span primitive.F32) = false
+is_key (written.Primitive span primitive.F64) = false
+is_key (written.Primitive span primitive.ErrorContext) = false
+is_key (written.Primitive span p) = true
 is_key _ = false
 
 -- the key of a map is written as another type

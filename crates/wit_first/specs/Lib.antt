@@ -10,3 +10,4 @@ pub mod OrderFaults
 pub mod UseFaults
 pub mod HeaderFaults
 pub mod Laws
+pub mod Checks

@@ -19,13 +19,9 @@ abbrev pub empty_fault : {X : Type 0} → ℕ → List X → Span → Option Fau
 empty_fault number [] span = Some (fault number span)
 empty_fault number (x ∷ xs) span = None
 
--- a name is an earlier one, once case is folded: `desc` says what they are names of
-abbrev pub clash_fault : List ℕ → Id → Id → Fault
-clash_fault desc earlier later = fault_in 25 later.span (clash desc earlier.name.now later.name.now)
-
--- the first name that is
+-- the first name that is an earlier one, once case is folded: `desc` says what they are names of
 abbrev pub names_fault : List ℕ → List Id → Option Fault
-names_fault desc names = first_after (clash_of (λ (id : Id). lower_case id.name.now) (clash_fault desc)) [] names
+names_fault desc names = first_after (clash_of (λ (id : Id). lower_case id.name.now) (λ earlier later. fault_in 25 later.span (clash desc earlier.name.now later.name.now))) [] names
 
 -- the first fault of fields or cases: there is none of them, and then a name that repeats
 abbrev pub members_fault : {X : Type 0} → ℕ → List ℕ → (X → Id) → Span → List X → Option Fault

@@ -1,8 +1,7 @@
 use Rattle.std.proofs.Common.{◌≡◌, ℕ, List, Some, inl, inr, ap, sym, subst, ◌∙◌, take}
-use Rattle.wit_syntax.proofs.Common.{AllDiffer, Id, IsRepeatAt, clash, lower_case, map, map_at, slice_get, slice_get-get_or, slice_get_within}
+use Rattle.wit_syntax.proofs.Common.{AllDiffer, Id, IsRepeatAt, clash, lower_case, map, map_at, slice_get, slice_get-get_or, slice_get_within, fault_in}
 use Rattle.std.specs.Borrow.{Bor}
 use Rattle.wit_first.proofs.Clashes.{no_clashes, clash_first}
-use Rattle.wit_first.specs.ListFaults.{clash_fault}
 use Rattle.wit_refusals.proofs.Cases.{names-folded}
 use Rattle.wit_refusals.proofs.unique_names.check_unique_names.Goals as goal
 
@@ -22,11 +21,11 @@ returns-in-Some c =
     let before : slice_get names first ≡ Some earlier = slice_get-get_or names first earlier (slice_get_within names first e.0 e.1) ∙ ap Some (sym c.index-names-first.is) in
     elim (c.refuse_in.ensures (clash c.args.desc.now earlier.name.now later.name.now) c.clash-words.ensures) [
       | inl memory ↦ inl memory
-      | inr says ↦ inr (clash_first (λ (id : Id). lower_case id.name.now) (clash_fault c.args.desc.now) names first second earlier later r d before at ∙ ap Some (sym says))
+      | inr says ↦ inr (clash_first (λ (id : Id). lower_case id.name.now) (λ (earlier : Id) (later : Id). fault_in 25 later.span (clash c.args.desc.now earlier.name.now later.name.now)) names first second earlier later r d before at ∙ ap Some (sym says))
     ]
 
 pub returns : goal.returns
 returns c =
     let names = c.args.names.now in
     let keys = ap (map (λ (t : Bor (List ℕ)). lower_case t.now)) c.deref.ensures.value ∙ names-folded c.in_ok-texts.texts.items names c.in_ok-texts.ensures in
-    no_clashes (λ (id : Id). lower_case id.name.now) (clash_fault c.args.desc.now) names (subst AllDiffer keys (rw c.in-None.is at c.in_ok-first.ensures.none))
+    no_clashes (λ (id : Id). lower_case id.name.now) (λ (earlier : Id) (later : Id). fault_in 25 later.span (clash c.args.desc.now earlier.name.now later.name.now)) names (subst AllDiffer keys (rw c.in-None.is at c.in_ok-first.ensures.none))
