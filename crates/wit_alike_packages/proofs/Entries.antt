@@ -1,6 +1,6 @@
 -- The interfaces and worlds of items that are alike are equal.
 use Rattle.std.proofs.Common.{◌≡◌, ℕ, List, [], ◌∷◌, ◌++◌, map, Option, Some, None, refl, ap, ap₂, ◌∙◌}
-use Rattle.wit_arena.proofs.Common.{Address, AllZip, Constructor, Def, Docs, Exported, Expr, Extern, ExternalId, Freestanding, FuncForm, Function, FunctionKind, Id, Imported, Include, Interface, Item, Key, Link, Metadata, Method, OnSide, Param, Role, ScopeName, Shape, SideFunction, SideInline, SideItem, SideLink, SourceFunction, SourceParam, Span, Stability, Static, TopName, UsePath, WorldInclude, WorldItem, WorldKey, WorldNamed, WorldSide, about, address, all_params, declared_metadata, docs_of, entries_on, expr_of, function_in, function_of, functions, include_in, includes, inline_entry, inline_items, interface, kinds_of, leads, link_item, link_key, link_span, local_id, local_name, name_imports, name_places, names_in_turn, no_docs, option_map, own_interface, own_world, path_id, path_scope, placed, renamed, role_kind, role_side, scope_place, settled, side_entries, side_items, stability_of, stated_text, target_scope, type_of, world, world_entries}
+use Rattle.wit_arena.proofs.Common.{Address, AllZip, Constructor, Def, Docs, Exported, Expr, Extern, ExternalId, Freestanding, FuncForm, Function, FunctionKind, Id, Imported, Include, Interface, Item, Key, Link, Metadata, Method, OnSide, Param, Role, ScopeName, Shape, SideFunction, SideInline, SideItem, SideLink, SourceFunction, SourceParam, Span, Stability, Static, TopName, UsePath, WorldInclude, WorldItem, WorldKey, WorldNamed, WorldSide, about, address, all_params, declared_metadata, docs_of, entries_on, expr_of, function_in, function_of, functions, include_in, includes, inline_entry, inline_items, interface, kinds_of, leads, link_item, link_key, local_id, local_name, name_imports, name_places, names_in_turn, no_docs, option_map, own_interface, own_world, path_id, path_scope, placed, renamed, role_kind, role_side, scope_place, settled, side_entries, side_items, stability_of, stated_text, target_scope, type_of, world, world_entries, unwrap_or}
 use Rattle.wit_tree.specs.declared.tree.IncludeName.{IncludeName as Renaming}
 use Rattle.wit_types.specs.declared.types.«Type».{«Type» as Ty}
 use Rattle.wit_functions.specs.declared.function.FunctionKind.TheVariants as kind
@@ -113,6 +113,9 @@ same_link_key None None h place = refl
 same_link_key None (Some b) h place = absurd (let wrong : ⊥ = cc in wrong)
 same_link_key (Some a) None h place = absurd (let wrong : ⊥ = cc in wrong)
 same_link_key (Some a) (Some b) h place = (let same : SameId a b = cc in ap key.Name (same_text a b same))
+
+abbrev link_span : Option Id → UsePath → Span
+link_span name path = (unwrap_or name (path_id path)).span
 
 same_link_span : (o p : Option Id) (a b : UsePath) → option_map see_name o ≡ option_map see_name p → SamePath a b → link_span o a ≡ link_span p b
 same_link_span None None a b h paths = same_span (path_id a) (path_id b) (same_path_id a b paths)

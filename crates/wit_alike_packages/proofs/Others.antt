@@ -1,6 +1,6 @@
 -- What alike files name of other packages, and what they require of them.
 use Rattle.std.proofs.Common.{◌≡◌, ℕ, ◌+◌, Bool, not, cond, List, [], ◌∷◌, ◌++◌, map, length, Bor, Option, Some, None, refl, ap, ap₂, sym, ◌∙◌, subst}
-use Rattle.wit_arena.proofs.Common.{Address, AllZip, AreRequired, AstItem, AtForeign, AtResource, Contains, Docs, EndsAt, ForeignUse, ForeignVisit, HandleRequires, Id, Item, Key, PackageFile, PackageName, Span, Stability, Word, address, at_contains, contains_at, dep, docs_of, filter, first_docs, first_foreign_uses, foreign_entry, foreign_interface, foreign_interfaces, foreign_items, foreign_packages, foreign_place, foreign_visits, foreign_world, foreign_worlds, headers, if◌then◌else◌, interface, interface_scopes, length-map, name_places, own_interfaces, package_of, prefix_len, same_address, same_item, same_package, scope, shape_end, slice_get, stability_of, visited, world, world_scopes, worlds_of, ◌==◌, metadata, no_docs}
+use Rattle.wit_arena.proofs.Common.{Address, AllZip, AreRequired, AstItem, AtForeign, AtResource, Contains, Docs, EndsAt, ForeignUse, ForeignVisit, HandleRequires, Id, Item, Key, PackageFile, PackageName, Span, Stability, Word, address, at_contains, contains_at, dep, docs_of, filter, first_docs, first_foreign_uses, foreign_entry, foreign_interface, foreign_interfaces, foreign_items, foreign_packages, foreign_visits, foreign_world, foreign_worlds, headers, if◌then◌else◌, interface, interface_scopes, length-map, name_places, own_interfaces, package_of, prefix_len, same_address, same_item, same_package, scope, shape_end, slice_get, stability_of, visited, world, world_scopes, worlds_of, ◌==◌, metadata, no_docs, position_or_len}
 use Rattle.wit_walk.proofs.Common.{End}
 use Rattle.wit_tree.specs.declared.tree.PackageName.{PackageName as Header}
 use Rattle.wit_model.specs.declared.ast_item.AstItem.TheVariants as entry
@@ -96,7 +96,7 @@ module _ (files others : List PackageFile) (h : AllZip SameFile files others) wh
       (λ x y z w one two. ap₂ same_package (same_package_of x.of z.of one.of) (same_package_of y.of w.of two.of)) (foreign_visits files) (foreign_visits others) (same_visits files others h)
 
   -- which of these an item is
-  same_foreign_place : (us vs : List ForeignVisit) → AllZip SameVisit us vs → (v w : ForeignVisit) → SameVisit v w → foreign_place us v ≡ foreign_place vs w
+  same_foreign_place : (us vs : List ForeignVisit) → AllZip SameVisit us vs → (v w : ForeignVisit) → SameVisit v w → position_or_len (λ (y : ForeignVisit). same_item y v) us ≡ position_or_len (λ (y : ForeignVisit). same_item y w) vs
   same_foreign_place us vs there v w same =
       zip_prefix SameVisit (λ (u : ForeignVisit). not (same_item u v)) (λ (u : ForeignVisit). not (same_item u w))
       (λ x y one. ap not (ap₂ same_address (same_visited x y one) (same_visited v w same))) us vs there
@@ -108,7 +108,7 @@ module _ (files others : List PackageFile) (h : AllZip SameFile files others) wh
   same_foreign_entry v w same =
       let world_place = same_foreign_place (foreign_worlds files) (foreign_worlds others) same_foreign_worlds v w same in
       let interface_place = same_foreign_place (foreign_interfaces files) (foreign_interfaces others) same_foreign_interfaces v w same in
-      ap (λ (world : Bool). entry_by world (foreign_place (foreign_worlds files) v) (foreign_place (foreign_interfaces files) v)) same.wants_world
+      ap (λ (world : Bool). entry_by world (position_or_len (λ (y : ForeignVisit). same_item y v) (foreign_worlds files)) (position_or_len (λ (y : ForeignVisit). same_item y v) (foreign_interfaces files))) same.wants_world
       ∙ ap₂ (λ (n m : ℕ). entry_by w.wants_world n m) world_place interface_place
 
   abbrev stabilities : List PackageFile → ForeignVisit → List Stability

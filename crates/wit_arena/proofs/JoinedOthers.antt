@@ -1,6 +1,6 @@
 -- Files that declare the same name the same of other packages, and require the same of them.
 use Rattle.std.proofs.Common.{◌≡◌, ℕ, not, List, Option, Some, None, ap, ◌∙◌}
-use Rattle.wit_arena.proofs.Names.{Address, AreAlike, AreRequired, AstItem, AtForeign, AtResource, ForeignUse, ForeignVisit, HandleRequires, Id, Key, PackageFile, PackageName, Span, Stability, UnresolvedPackage, filter, firsts, foreign_interfaces, foreign_place, foreign_uses_alike, foreign_worlds, if◌then◌else◌, map, package_of, same_address, same_foreign_use, same_item, same_package, stability_of, visited, visits_same}
+use Rattle.wit_arena.proofs.Names.{Address, AreAlike, AreRequired, AstItem, AtForeign, AtResource, ForeignUse, ForeignVisit, HandleRequires, Id, Key, PackageFile, PackageName, Span, Stability, UnresolvedPackage, filter, firsts, foreign_interfaces, foreign_uses_alike, foreign_worlds, if◌then◌else◌, map, package_of, same_address, same_foreign_use, same_item, same_package, stability_of, visited, visits_same, position_or_len}
 use Rattle.wit_model.specs.declared.ast_item.AstItem.TheVariants as entry
 use Rattle.wit_syntax.proofs.JoinedLegal.{ends_onward}
 use Rattle.wit_arena.proofs.PackageIfDone.{NamesOthers}
@@ -20,7 +20,7 @@ abbrev packages_by : List ForeignVisit → List ForeignVisit
 packages_by vs = firsts (λ a b. same_package (package_of a.of) (package_of b.of)) vs
 
 abbrev entry_by : List ForeignVisit → ForeignVisit → AstItem
-entry_by vs v = if v.wants_world then entry.World (foreign_place (worlds_by vs) v) else entry.Interface (foreign_place (interfaces_by vs) v)
+entry_by vs v = if v.wants_world then entry.World (position_or_len (λ (y : ForeignVisit). same_item y v) (worlds_by vs)) else entry.Interface (position_or_len (λ (y : ForeignVisit). same_item y v) (interfaces_by vs))
 
 abbrev item_by : List ForeignVisit → ForeignVisit → List ℕ × (AstItem × List Stability)
 item_by vs v = (v.id.name.now, (entry_by vs v, map (λ u. stability_of u.attributes) (filter (λ u. same_address (visited u) (visited v)) vs)))

@@ -21,6 +21,6 @@ pub use Rattle.wit_arena.specs.Occurrences.{End, Expr, Exprs, More, Of, Prim, Us
 pub use Rattle.wit_arena.specs.Faithful.{HasArena, HasType, IsAnonymousForm, IsFaithful, IsMadeOf, IsRoot, LiesBelow, OfFunction, OfName, node_parts}
 pub use Rattle.wit_arena.specs.Made.{IsEntryOf, Makes, entries_on, entry, foreign_interface, foreign_world, function_in, include_in, interface, interface_scopes, interface_turn, item_turns, name_imports, name_places, names_in_turn, own_interface, own_interfaces, own_world, role_kind, scope_place, side_entries, turns_of_world, turns_on_sides, type_of, types_of, world, world_entries, world_scopes}
 pub use Rattle.wit_arena.specs.OneByOne.{OneByOne}
-pub use Rattle.wit_arena.specs.SourceFunctions.{AreSideItems, HasSide, inline_entry, link_item, link_key, link_span, put_on, settled, AreFunctions, IsFunction, IsKind, IsParam, by_name, freestanding_names, function_item, kinds_of, placed_functions}
+pub use Rattle.wit_arena.specs.SourceFunctions.{AreSideItems, HasSide, inline_entry, link_item, link_key, put_on, settled, AreFunctions, IsFunction, IsKind, IsParam, by_name, freestanding_names, function_item, kinds_of, placed_functions}
 pub use Rattle.wit_arena.specs.UnfoldedTypes.{At, IsBelow, IsForeignWorld, IsInterface, IsWorld, dep_items, entry_head, entry_node, foreign_owner, function_types, functions_of, import_types, inline_owner, interface_at, interface_functions, interface_items, interfaces_from, is_interface_item, item_functions, keyed, named_interface, named_world, names_of, owner_of, package_node, package_tree, same_entry, world_functions, world_interfaces, world_types}
-pub use Rattle.wit_arena.specs.Whole.{AreIncludes, AreRequired, HandleRequires, HasTypes, IsForeignInterface, IsInclude, Turned, all_occurrences, declarations, dep, first_docs, foreign_entry, foreign_place, foreign_use_occurrence, functions_at, owner_at, place_at, renamed, turn_handles, turn_occurrences, type_imports}
+pub use Rattle.wit_arena.specs.Whole.{AreIncludes, AreRequired, HandleRequires, HasTypes, IsForeignInterface, IsInclude, Turned, all_occurrences, declarations, dep, first_docs, foreign_entry, foreign_use_occurrence, functions_at, owner_at, place_at, renamed, turn_handles, turn_occurrences, type_imports}

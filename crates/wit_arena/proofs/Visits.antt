@@ -1,6 +1,6 @@
 -- The items of other packages, at the places of their first visits.
 use Rattle.std.proofs.Common.{◌≡◌, ℕ, zero, ◌+◌, Bool, true, false, not, cond, List, [], ◌++◌, length, Option, Some, None, ◌⊎◌, inl, inr, refl, sym, ap, ◌∙◌, Contains, ◌≤◌, suc, ◌∷◌, arith, eqb-true, eq-eqb}
-use Rattle.wit_arena.proofs.Names.{Address, AllDiffer, Attribute, Exported, ExternPart, Foreign, ForeignNamed, ForeignVisit, Id, Imported, Item, Local, PackageFile, PackageName, Part, TheInterface, TheWorld, TopName, UsePart, UsePath, WorldSide, address, all_items, at_back, at_contains, at_part, at_prefix, at_side, bytes_eq, cases_Bool, contains_at, declaration_visits, declared_items, differ_at, differ_join, extern_paths, extern_visits, file_items, find, find-only, find_at, firsts_differ, firsts_has, flat_map, flat_map_at, flat_map_has, foreign_at, foreign_interfaces, foreign_items, foreign_visits, foreign_worlds, inline_uses, is_foreign, is_world_at, kept_at, kept_differ, kept_has, leads, map, map_at, not-true, option_map, option_map_or, package_of, part_uses, part_visits, parts, path_visits, same_address, same_address-equal, same_address-from, same_item, side_itself, slice_get, top_name, top_names, top_text, use_path, use_paths, uses, visited, walk, AstItem, Stability, UnresolvedPackage, dep, dep_items, filter, find_passes, find_some, firsts_at, foreign_entry, foreign_owner, foreign_packages, foreign_place, if◌then◌else◌, same_entry, same_package, same_package-equal, same_package-from, slice_get-map, slice_get_within}
+use Rattle.wit_arena.proofs.Names.{Address, AllDiffer, Attribute, Exported, ExternPart, Foreign, ForeignNamed, ForeignVisit, Id, Imported, Item, Local, PackageFile, PackageName, Part, TheInterface, TheWorld, TopName, UsePart, UsePath, WorldSide, address, all_items, at_back, at_contains, at_part, at_prefix, at_side, bytes_eq, cases_Bool, contains_at, declaration_visits, declared_items, differ_at, differ_join, extern_paths, extern_visits, file_items, find, find-only, find_at, firsts_differ, firsts_has, flat_map, flat_map_at, flat_map_has, foreign_at, foreign_interfaces, foreign_items, foreign_visits, foreign_worlds, inline_uses, is_foreign, is_world_at, kept_at, kept_differ, kept_has, leads, map, map_at, not-true, option_map, option_map_or, package_of, part_uses, part_visits, parts, path_visits, same_address, same_address-equal, same_address-from, same_item, side_itself, slice_get, top_name, top_names, top_text, use_path, use_paths, uses, visited, walk, AstItem, Stability, UnresolvedPackage, dep, dep_items, filter, find_passes, find_some, firsts_at, foreign_entry, foreign_owner, foreign_packages, if◌then◌else◌, same_entry, same_package, same_package-equal, same_package-from, slice_get-map, slice_get_within, position_or_len}
 use Rattle.wit_syntax.proofs.Common.{AstItem as WrittenItem, Use}
 use Rattle.wit_arena.proofs.OneKind.{same_some}
 use Rattle.wit_arena.proofs.Interfaces.{AreAddresses, own_address, prefix_len-only}
@@ -233,7 +233,7 @@ same_entry-equal (entry.World i) (entry.World j) h = ap entry.World (eqb-true i 
 same_entry-equal _ _ h = absurd (let f : ⊥ = cc in f)
 
 -- a visit comes after as many as its place says
-foreign_place-at : (vs : List ForeignVisit) (t : ℕ) (v : ForeignVisit) → AllDiffer (map visited vs) → slice_get vs t ≡ Some v → foreign_place vs v ≡ t
+foreign_place-at : (vs : List ForeignVisit) (t : ℕ) (v : ForeignVisit) → AllDiffer (map visited vs) → slice_get vs t ≡ Some v → position_or_len (λ (y : ForeignVisit). same_item y v) vs ≡ t
 foreign_place-at vs t v differ at = prefix_len-only (λ (u : ForeignVisit). same_item u v) vs t v at (same_address-from (visited v) (visited v) refl) (λ i u at_u same. differ_at visited vs differ i t u v at_u at (same_address-equal (visited u) (visited v) same))
 
 -- nothing is found where nothing passes
@@ -246,7 +246,7 @@ none_found p (x ∷ xs) none = elim (cases_Bool (p x)) [
 
 module _ (files : List PackageFile) where
   abbrev entry_by : ForeignVisit → Bool → AstItem
-  entry_by v world = if world then entry.World (foreign_place (foreign_worlds files) v) else entry.Interface (foreign_place (foreign_interfaces files) v)
+  entry_by v world = if world then entry.World (position_or_len (λ (y : ForeignVisit). same_item y v) (foreign_worlds files)) else entry.Interface (position_or_len (λ (y : ForeignVisit). same_item y v) (foreign_interfaces files))
 
   -- the entry of an interface at a place, and of a world
   pub entry_of_interface : (t : ℕ) (v : ForeignVisit) → slice_get (foreign_interfaces files) t ≡ Some v → foreign_entry files v ≡ entry.Interface t

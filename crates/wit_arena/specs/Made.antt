@@ -8,7 +8,7 @@ use Rattle.wit_functions.specs.declared.function.FunctionKind.TheVariants as kin
 use Rattle.wit_model.specs.declared.world.WorldKey.TheVariants as key
 use Rattle.wit_model.specs.declared.world.WorldItem.TheVariants as item
 use Rattle.wit_arena.specs.Kind.{kind_of}
-use Rattle.wit_arena.specs.Occurrences.{Expr, Prim, Use, Of, Exprs, End, More, expr_of, name_exprs, Key, Def, Whole, Occurrence, keys, stability_at}
+use Rattle.wit_arena.specs.Occurrences.{Expr, Prim, Use, Of, Exprs, End, More, expr_of, name_exprs, Key, Def, Whole, Occurrence, stability_at}
 use Rattle.wit_arena.specs.SourceFunctions.{kinds_of, link_item, inline_entry, settled}
 use Rattle.wit_arena.specs.Whole.{Turned, turn_handles, all_occurrences, AreRequired, place_at, owner_at, dep, renamed, first_docs}
 
@@ -179,4 +179,4 @@ pub record Makes (files : List PackageFile) (p : UnresolvedPackage) : Type 0 whe
   pub interfaces : p.interfaces ≡ map (foreign_interface files id) (foreign_interfaces files) ++ map (own_interface id order) (own_interfaces items)
   pub worlds : p.worlds ≡ map foreign_world (foreign_worlds files) ++ map (own_world id order (interface_scopes files items) (world_scopes files items)) (worlds_of items)
   -- the types of other packages that must be resources: those at which names in handles end, of all interfaces and then of all worlds
-  pub required : AreRequired files (keys seen) (flat_map turn_handles (item_turns order items)) p.required_resource_types
+  pub required : AreRequired files (map (λ (m : Occurrence). m.key) seen) (flat_map turn_handles (item_turns order items)) p.required_resource_types

@@ -1,6 +1,6 @@
 -- What the functions of a package say, each a written one, whose types are at the places of their expressions; and what is on the sides of a world, after types.
-use Rattle.std.specs.Prelude.{◌≡◌, ℕ, List, [], ◌∷◌, map, Some, slice_get, codes, Option, if◌then◌else◌, ◌++◌}
-use Rattle.wit_arena.specs.Names.{Address, AreMetadata, Constructor, Extern, ExternalId, Freestanding, Function, FunctionKind, Id, Include, Item, Link, Method, OnSide, Param, Role, Shape, SideFunction, SideInline, SideItem, SideLink, SourceFunction, SourceParam, Span, Static, TopName, UsePath, WorldItem, WorldKey, WorldSide, all_params, docs_of, function_of, includes, metadata, no_docs, option_map_or, option_to_list, path_id, path_scope, placed, role_side, same_side, side_items, stability_of, stated_text, «Type» as Ty}
+use Rattle.std.specs.Prelude.{◌≡◌, ℕ, List, [], ◌∷◌, map, Some, slice_get, codes, if◌then◌else◌, ◌++◌, Option}
+use Rattle.wit_arena.specs.Names.{Address, AreMetadata, Constructor, Extern, ExternalId, Freestanding, Function, FunctionKind, Id, Include, Item, Link, Method, OnSide, Param, Role, Shape, SideFunction, SideInline, SideItem, SideLink, SourceFunction, SourceParam, Static, TopName, WorldItem, WorldKey, WorldSide, all_params, docs_of, function_of, includes, metadata, no_docs, option_map_or, option_to_list, path_id, path_scope, placed, role_side, same_side, side_items, stability_of, stated_text, «Type» as Ty, unwrap_or}
 use Rattle.wit_names.specs.Prefix.{rest_after}
 use Rattle.wit_type_tree.specs.declared.types.FuncForm.{FuncForm}
 use Rattle.wit_arena.specs.Occurrences.{expr_of, Key, Def, IsAt}
@@ -72,13 +72,9 @@ function_item f = (key.Name f.name, item.Function f)
 abbrev pub link_key : Option Id → ℕ → WorldKey
 link_key name place = option_map_or (λ (id : Id). key.Name id.name.now) name (key.Interface place)
 
--- it is where its name does, or else its path
-abbrev pub link_span : Option Id → UsePath → Span
-link_span name path = option_map_or (λ (id : Id). id.span) name (path_id path).span
-
--- an interface that is imported or exported, at its place, with what is stated of it there
+-- an interface that is imported or exported, at its place, with what is stated of it there; it is where its name is, or else its path
 abbrev pub link_item : Link → ℕ → WorldKey × WorldItem
-link_item link place = (link_key link.name place, item.Interface place (stability_of link.attributes) (stated_text ExternalId link.attributes) (docs_of link.docs) (link_span link.name link.path))
+link_item link place = (link_key link.name place, item.Interface place (stability_of link.attributes) (stated_text ExternalId link.attributes) (docs_of link.docs) (unwrap_or link.name (path_id link.path)).span)
 
 -- an interface that is written there, at its place: what is stated of it is stated of the interface, but for the name that it has elsewhere
 abbrev pub inline_entry : Extern → Id → ℕ → WorldKey × WorldItem

@@ -1,6 +1,6 @@
 -- The theorem: what a resolved package is.
-use Rattle.std.specs.Prelude.{if◌then◌else◌, ◌≡◌, ◌==◌, ℕ, not, List, [], ◌∷◌, ◌++◌, length, map, Option, Some, None, slice_get, position}
-use Rattle.wit_arena.specs.Names.{Address, AllZip, AstItem, AtForeign, AtResource, EndsAt, ForeignUse, ForeignVisit, Id, Include, Interface, Item, PackageFile, PackageName, ScopeName, SourceFunction, Span, Stability, TopName, TypeOwner, WorldInclude, WorldItem, WorldKey, WorldNamed, address, all_handles, all_scopes, all_types, docs_of, filter, filter_map, flat_map, foreign_interfaces, foreign_items, foreign_uses, foreign_visits, foreign_worlds, functions as item_functions, includes, item_at, leads, local_id, local_name, no_docs, option_map, option_map_or, option_or, package_of, path_id, prefix_len, same_address, same_item, same_package, scope, stability_of, target_scope, unwrap_or, visited, metadata}
+use Rattle.std.specs.Prelude.{if◌then◌else◌, ◌≡◌, ◌==◌, ℕ, List, [], ◌∷◌, ◌++◌, length, map, Option, Some, None, slice_get, position}
+use Rattle.wit_arena.specs.Names.{Address, AllZip, AstItem, AtForeign, AtResource, EndsAt, ForeignUse, ForeignVisit, Id, Include, Interface, Item, PackageFile, PackageName, ScopeName, SourceFunction, Span, Stability, TopName, TypeOwner, WorldInclude, WorldItem, WorldKey, WorldNamed, address, all_handles, all_scopes, all_types, docs_of, filter, filter_map, flat_map, foreign_interfaces, foreign_items, foreign_uses, foreign_visits, foreign_worlds, functions as item_functions, includes, item_at, leads, local_id, local_name, no_docs, option_map, option_map_or, option_or, package_of, path_id, same_address, same_item, same_package, scope, stability_of, target_scope, unwrap_or, visited, metadata, position_or_len}
 use Rattle.wit_tree.specs.declared.tree.PackageName.{PackageName as Header}
 use Rattle.wit_tree.specs.declared.tree.IncludeName.{IncludeName as Renaming}
 use Rattle.wit_model.specs.declared.ast_item.AstItem.TheVariants as entry
@@ -83,13 +83,9 @@ all_occurrences files ts = map foreign_use_occurrence (foreign_uses files) ++ fl
 abbrev pub IsForeignInterface : List PackageFile → List Key → ForeignVisit → Interface → Type 0
 IsForeignInterface files ks v i = IsInterface None v.id.span (metadata no_docs []) i × HasTypes ks (record { address = visited v; names = scope files (visited v); functions = [] }) i.types × (i.functions ≡ [])
 
--- how many of these come before the first that is the item
-abbrev pub foreign_place : List ForeignVisit → ForeignVisit → ℕ
-foreign_place vs v = prefix_len (λ u. not (same_item u v)) vs
-
--- the entry of an item of another package: the arenas begin with these
+-- the entry of an item of another package, with its place among those: the arenas begin with these
 abbrev pub foreign_entry : List PackageFile → ForeignVisit → AstItem
-foreign_entry files v = if v.wants_world then entry.World (foreign_place (foreign_worlds files) v) else entry.Interface (foreign_place (foreign_interfaces files) v)
+foreign_entry files v = if v.wants_world then entry.World (position_or_len (λ u. same_item u v) (foreign_worlds files)) else entry.Interface (position_or_len (λ u. same_item u v) (foreign_interfaces files))
 
 -- a package with its items: each by its name, with its entry and the stability of each of its visits
 abbrev pub dep : List PackageFile → ForeignVisit → PackageName × List (List ℕ × (AstItem × List Stability))

@@ -1,8 +1,7 @@
 -- The table of the items of visits, with a visit more.
 use Rattle.std.proofs.Common.{◌≡◌, ℕ, Bool, true, false, cond, not, ◌&&◌, List, [], ◌∷◌, ◌++◌, Option, Some, None, length, map, nat_eq, if◌then◌else◌, refl, sym, ap, ◌∙◌}
-use Rattle.wit_syntax.proofs.Common.{ForeignVisit, PackageName, Stability, and_parts, append-nil, bytes_eq, filter, filter-append, is_some, list_any, lookup, map-append, name_equal, name_itself, package_of, pointwise, same_address, same_item, same_package, same_package-equal, same_package-itself, unwrap_or, visited}
+use Rattle.wit_syntax.proofs.Common.{ForeignVisit, PackageName, Stability, and_parts, append-nil, bytes_eq, filter, filter-append, is_some, list_any, lookup, map-append, name_equal, name_itself, package_of, pointwise, same_address, same_item, same_package, same_package-equal, same_package-itself, unwrap_or, visited, position_or_len}
 use Rattle.wit_model.specs.declared.ast_item.AstItem.{AstItem}
-use Rattle.wit_arena.specs.Whole.{foreign_place}
 use Rattle.wit_model.specs.declared.ast_item.AstItem.TheVariants as entry
 use Rattle.wit_foreign.specs.Kept.{Visited, Items, item_more, row_more, table_more, items_of, interfaces_in, worlds_in, packages_of, entry_in, visit_stability, item_in, row_in, table_in}
 use Rattle.wit_foreign.proofs.Same.{same_package-flip, name-flip}
@@ -36,8 +35,8 @@ kind-more : (t : ForeignVisit → Bool) (vs : List ForeignVisit) (x : ForeignVis
 kind-more t vs x = ap (filter t) (items_of-more vs x) ∙ filter-append t (items_of vs) (new_one (is_known vs x) x)
 
 -- the place of an item that is there stays
-place_stays : (t : ForeignVisit → Bool) (vs : List ForeignVisit) (x u : ForeignVisit) → list_any (λ w. same_item w u) (filter t (items_of vs)) ≡ true → foreign_place (filter t (items_of (more vs x))) u ≡ foreign_place (filter t (items_of vs)) u
-place_stays t vs x u found = ap (λ l. foreign_place l u) (kind-more t vs x) ∙ prefix_len-found (λ w. same_item w u) (filter t (items_of vs)) (filter t (new_one (is_known vs x) x)) found
+place_stays : (t : ForeignVisit → Bool) (vs : List ForeignVisit) (x u : ForeignVisit) → list_any (λ w. same_item w u) (filter t (items_of vs)) ≡ true → position_or_len (λ (y : ForeignVisit). same_item y u) (filter t (items_of (more vs x))) ≡ position_or_len (λ (y : ForeignVisit). same_item y u) (filter t (items_of vs))
+place_stays t vs x u found = ap (λ l. position_or_len (λ (y : ForeignVisit). same_item y u) l) (kind-more t vs x) ∙ prefix_len-found (λ w. same_item w u) (filter t (items_of vs)) (filter t (new_one (is_known vs x) x)) found
 
 abbrev no_world : ForeignVisit → Bool
 no_world v = not v.wants_world
@@ -46,8 +45,8 @@ entry_stays : (vs : List ForeignVisit) (x u : ForeignVisit) → (u.wants_world �
 entry_stays vs x u world interface = go u.wants_world refl
   where
     go : (b : Bool) → u.wants_world ≡ b → entry_in (more vs x) u ≡ entry_in vs u
-    go true e = ap (λ b. if b then entry.World (foreign_place (worlds_in (more vs x)) u) else entry.Interface (foreign_place (interfaces_in (more vs x)) u)) e ∙ (ap entry.World (place_stays (λ (v : ForeignVisit). v.wants_world) vs x u (world e)) ∙ sym (ap (λ b. if b then entry.World (foreign_place (worlds_in vs) u) else entry.Interface (foreign_place (interfaces_in vs) u)) e))
-    go false e = ap (λ b. if b then entry.World (foreign_place (worlds_in (more vs x)) u) else entry.Interface (foreign_place (interfaces_in (more vs x)) u)) e ∙ (ap entry.Interface (place_stays no_world vs x u (interface (ap not e))) ∙ sym (ap (λ b. if b then entry.World (foreign_place (worlds_in vs) u) else entry.Interface (foreign_place (interfaces_in vs) u)) e))
+    go true e = ap (λ b. if b then entry.World (position_or_len (λ (y : ForeignVisit). same_item y u) (worlds_in (more vs x))) else entry.Interface (position_or_len (λ (y : ForeignVisit). same_item y u) (interfaces_in (more vs x)))) e ∙ (ap entry.World (place_stays (λ (v : ForeignVisit). v.wants_world) vs x u (world e)) ∙ sym (ap (λ b. if b then entry.World (position_or_len (λ (y : ForeignVisit). same_item y u) (worlds_in vs)) else entry.Interface (position_or_len (λ (y : ForeignVisit). same_item y u) (interfaces_in vs))) e))
+    go false e = ap (λ b. if b then entry.World (position_or_len (λ (y : ForeignVisit). same_item y u) (worlds_in (more vs x))) else entry.Interface (position_or_len (λ (y : ForeignVisit). same_item y u) (interfaces_in (more vs x)))) e ∙ (ap entry.Interface (place_stays no_world vs x u (interface (ap not e))) ∙ sym (ap (λ b. if b then entry.World (position_or_len (λ (y : ForeignVisit). same_item y u) (worlds_in vs)) else entry.Interface (position_or_len (λ (y : ForeignVisit). same_item y u) (interfaces_in vs))) e))
 
 entries_stay : (vs : List ForeignVisit) (x : ForeignVisit) → Each (λ u. entry_in (more vs x) u ≡ entry_in vs u) (items_of vs)
 entries_stay vs x = each_map (λ u. (u.wants_world ≡ true → list_any (λ w. same_item w u) (worlds_in vs) ≡ true) × (no_world u ≡ true → list_any (λ w. same_item w u) (interfaces_in vs) ≡ true)) (λ u. entry_in (more vs x) u ≡ entry_in vs u) (items_of vs) (λ u h. entry_stays vs x u h.0 h.1) (each_both (λ u. u.wants_world ≡ true → list_any (λ w. same_item w u) (worlds_in vs) ≡ true) (λ u. no_world u ≡ true → list_any (λ w. same_item w u) (interfaces_in vs) ≡ true) (items_of vs) (each_found same_item item_itself (λ (v : ForeignVisit). v.wants_world) (items_of vs)) (each_found same_item item_itself no_world (items_of vs)))
@@ -80,11 +79,11 @@ lost : (vs : List ForeignVisit) (x : ForeignVisit) → is_known vs x ≡ false �
 lost vs x new = each_lost (λ y. same_item y x) vs new
 
 -- a new item comes after those of its kind
-place_new : (t : ForeignVisit → Bool) (vs : List ForeignVisit) (x : ForeignVisit) → t x ≡ true → is_known vs x ≡ false → foreign_place (filter t (items_of (more vs x))) x ≡ length (filter t (items_of vs))
+place_new : (t : ForeignVisit → Bool) (vs : List ForeignVisit) (x : ForeignVisit) → t x ≡ true → is_known vs x ≡ false → position_or_len (λ (y : ForeignVisit). same_item y x) (filter t (items_of (more vs x))) ≡ length (filter t (items_of vs))
 place_new t vs x is new =
     let one : filter t (new_one (is_known vs x) x) ≡ x ∷ [] = ap (λ b. filter t (new_one b x)) new ∙ ap (λ b. cond b (x ∷ []) []) is in
     let far : Each (λ y. same_item y x ≡ false) (filter t (items_of vs)) = each_filter (λ y. same_item y x ≡ false) t (items_of vs) (each_firsts (λ y. same_item y x ≡ false) same_item vs (lost vs x new)) in
-    ap (λ l. foreign_place l x) (kind-more t vs x ∙ ap (λ l. filter t (items_of vs) ++ l) one) ∙ prefix_len-next (λ w. same_item w x) (filter t (items_of vs)) x far (item_itself x)
+    ap (λ l. position_or_len (λ (y : ForeignVisit). same_item y x) l) (kind-more t vs x ∙ ap (λ l. filter t (items_of vs) ++ l) one) ∙ prefix_len-next (λ w. same_item w x) (filter t (items_of vs)) x far (item_itself x)
 
 -- the entry that the item of a visit gets if it is new
 abbrev pub entry_next : List ForeignVisit → ForeignVisit → AstItem
@@ -94,8 +93,8 @@ entry_in-new : (vs : List ForeignVisit) (x : ForeignVisit) → is_known vs x ≡
 entry_in-new vs x new = go x.wants_world refl
   where
     go : (b : Bool) → x.wants_world ≡ b → entry_in (more vs x) x ≡ entry_next vs x
-    go true e = ap (λ b. if b then entry.World (foreign_place (worlds_in (more vs x)) x) else entry.Interface (foreign_place (interfaces_in (more vs x)) x)) e ∙ (ap entry.World (place_new (λ (v : ForeignVisit). v.wants_world) vs x e new) ∙ sym (ap (λ b. if b then entry.World (length (worlds_in vs)) else entry.Interface (length (interfaces_in vs))) e))
-    go false e = ap (λ b. if b then entry.World (foreign_place (worlds_in (more vs x)) x) else entry.Interface (foreign_place (interfaces_in (more vs x)) x)) e ∙ (ap entry.Interface (place_new no_world vs x (ap not e) new) ∙ sym (ap (λ b. if b then entry.World (length (worlds_in vs)) else entry.Interface (length (interfaces_in vs))) e))
+    go true e = ap (λ b. if b then entry.World (position_or_len (λ (y : ForeignVisit). same_item y x) (worlds_in (more vs x))) else entry.Interface (position_or_len (λ (y : ForeignVisit). same_item y x) (interfaces_in (more vs x)))) e ∙ (ap entry.World (place_new (λ (v : ForeignVisit). v.wants_world) vs x e new) ∙ sym (ap (λ b. if b then entry.World (length (worlds_in vs)) else entry.Interface (length (interfaces_in vs))) e))
+    go false e = ap (λ b. if b then entry.World (position_or_len (λ (y : ForeignVisit). same_item y x) (worlds_in (more vs x))) else entry.Interface (position_or_len (λ (y : ForeignVisit). same_item y x) (interfaces_in (more vs x)))) e ∙ (ap entry.Interface (place_new no_world vs x (ap not e) new) ∙ sym (ap (λ b. if b then entry.World (length (worlds_in vs)) else entry.Interface (length (interfaces_in vs))) e))
 
 item_in-new : (vs : List ForeignVisit) (x : ForeignVisit) → is_known vs x ≡ false → item_in (more vs x) x ≡ item_more None (entry_next vs x) (visit_stability x)
 item_in-new vs x new =

@@ -1,6 +1,6 @@
 -- The table of other packages' items, as it grows visit by visit.
 use Rattle.std.specs.Prelude.{ℕ, not, List, [], ◌∷◌, ◌++◌, map, Option, Some, None, nat_eq, if◌then◌else◌}
-use Rattle.std.specs.List.{filter}
+use Rattle.std.specs.List.{filter, position_or_len}
 use Rattle.std.specs.Map.{lookup}
 use Rattle.std.specs.Option.{unwrap_or}
 use Rattle.std.specs.Cmp.Lexicographic.{pointwise}
@@ -12,7 +12,6 @@ use Rattle.wit_syntax.specs.Address.{same_package, same_address, package_of}
 use Rattle.wit_syntax.specs.Metadata.{stability_of}
 use Rattle.wit_syntax.specs.Repeats.{firsts}
 use Rattle.wit_syntax.specs.Foreign.{ForeignVisit, visited, same_item}
-use Rattle.wit_arena.specs.Whole.{foreign_place}
 use Rattle.wit_model.specs.declared.ast_item.AstItem.TheVariants as entry
 
 abbrev pub Visited : Type 0
@@ -49,7 +48,7 @@ packages_of vs = firsts (λ a b. same_package (package_of a.of) (package_of b.of
 
 -- the entry of an item of visits
 abbrev pub entry_in : List ForeignVisit → ForeignVisit → AstItem
-entry_in vs v = if v.wants_world then entry.World (foreign_place (worlds_in vs) v) else entry.Interface (foreign_place (interfaces_in vs) v)
+entry_in vs v = if v.wants_world then entry.World (position_or_len (λ (y : ForeignVisit). same_item y v) (worlds_in vs)) else entry.Interface (position_or_len (λ (y : ForeignVisit). same_item y v) (interfaces_in vs))
 
 -- the stability that the attributes of a visit say
 abbrev pub visit_stability : ForeignVisit → Stability

@@ -1,6 +1,6 @@
 -- What comes before the arenas, with one item more, and with one name more.
 use Rattle.std.proofs.Common.{◌≡◌, ℕ, zero, suc, ◌+◌, ◌<◌, Bool, true, false, not, cond, if◌then◌else◌, List, [], ◌∷◌, ◌++◌, length, Some, None, inl, inr, nat_eq, refl, sym, ap, ◌∙◌, subst, arith, append_assoc, add-zero}
-use Rattle.wit_items.proofs.Common.{Address, AllDiffer, AstItem, ForeignUse, ForeignVisit, Names, after_one, append-nil, at_prefix, cases_Bool, differ_at, filter, filter-append, foreign_place, insert_entry, kept_at, lookup, map, name_itself, pointwise, same_address, same_address-equal, same_address-from, same_address-itself, same_item, slice_get, slice_get_within, slice_set, visited}
+use Rattle.wit_items.proofs.Common.{Address, AllDiffer, AstItem, ForeignUse, ForeignVisit, Names, after_one, append-nil, at_prefix, cases_Bool, differ_at, filter, filter-append, insert_entry, kept_at, lookup, map, name_itself, pointwise, same_address, same_address-equal, same_address-from, same_address-itself, same_item, slice_get, slice_get_within, slice_set, visited, position_or_len}
 use Rattle.wit_arena.proofs.OneMade.{map_same}
 use Rattle.wit_model.specs.declared.ast_item.AstItem.TheVariants as entry
 use Rattle.wit_front.specs.ForeignPrefix.{interfaces_among, worlds_among, entry_after, entries_after, used_from}
@@ -129,13 +129,13 @@ abbrev pub IsNoneOf : List ForeignVisit → ForeignVisit → Type 0
 IsNoneOf us v = (i : ℕ) (u : ForeignVisit) → slice_get us i ≡ Some u → same_item u v ≡ false
 
 -- the place of an item after others
-foreign_place-seam : (us : List ForeignVisit) (v : ForeignVisit) (vs : List ForeignVisit) → IsNoneOf us v → foreign_place (us ++ v ∷ vs) v ≡ length us
+foreign_place-seam : (us : List ForeignVisit) (v : ForeignVisit) (vs : List ForeignVisit) → IsNoneOf us v → position_or_len (λ (y : ForeignVisit). same_item y v) (us ++ v ∷ vs) ≡ length us
 foreign_place-seam [] v vs none = (let same : same_item v v ≡ true = same_address-itself (visited v) in rw same refl)
 foreign_place-seam (u ∷ us) v vs none = (let other = none 0 u refl in rw other (ap (λ (n : ℕ). 1 + n) (foreign_place-seam us v vs (λ i x at. none (suc i) x at)) ∙ (omega arith)))
 
 -- the entry of an item among others
 abbrev pub entry_among : List ForeignVisit → ForeignVisit → AstItem
-entry_among vs v = if v.wants_world then entry.World (foreign_place (worlds_among vs) v) else entry.Interface (foreign_place (interfaces_among vs) v)
+entry_among vs v = if v.wants_world then entry.World (position_or_len (λ (y : ForeignVisit). same_item y v) (worlds_among vs)) else entry.Interface (position_or_len (λ (y : ForeignVisit). same_item y v) (interfaces_among vs))
 
 module _ (us : List ForeignVisit) (v : ForeignVisit) (vs : List ForeignVisit) (differ : AllDiffer (map visited (us ++ v ∷ vs))) where
   -- no item before it is it
@@ -163,13 +163,13 @@ module _ (us : List ForeignVisit) (v : ForeignVisit) (vs : List ForeignVisit) (d
       elim (cases_Bool v.wants_world) [
         | inl hit ↦ (
             let whole : worlds_among all ≡ worlds_among us ++ v ∷ worlds_among vs = filter-append (λ (v : ForeignVisit). v.wants_world) us (v ∷ vs) ∙ ap (λ (b : Bool). worlds_among us ++ cond b (v ∷ worlds_among vs) (worlds_among vs)) hit in
-            let place : foreign_place (worlds_among all) v ≡ w = ap (λ (l : List ForeignVisit). foreign_place l v) whole ∙ foreign_place-seam (worlds_among us) v (worlds_among vs) (none_before (λ (v : ForeignVisit). v.wants_world)) in
-            ap (λ (b : Bool). if b then entry.World w else entry.Interface i) hit ∙ ap entry.World (sym place) ∙ sym (ap (λ (b : Bool). if b then entry.World (foreign_place (worlds_among all) v) else entry.Interface (foreign_place (interfaces_among all) v)) hit))
+            let place : position_or_len (λ (y : ForeignVisit). same_item y v) (worlds_among all) ≡ w = ap (λ (l : List ForeignVisit). position_or_len (λ (y : ForeignVisit). same_item y v) l) whole ∙ foreign_place-seam (worlds_among us) v (worlds_among vs) (none_before (λ (v : ForeignVisit). v.wants_world)) in
+            ap (λ (b : Bool). if b then entry.World w else entry.Interface i) hit ∙ ap entry.World (sym place) ∙ sym (ap (λ (b : Bool). if b then entry.World (position_or_len (λ (y : ForeignVisit). same_item y v) (worlds_among all)) else entry.Interface (position_or_len (λ (y : ForeignVisit). same_item y v) (interfaces_among all))) hit))
         | inr miss ↦ (
             let test = λ (u : ForeignVisit). not u.wants_world in
             let whole : interfaces_among all ≡ interfaces_among us ++ v ∷ interfaces_among vs = filter-append test us (v ∷ vs) ∙ ap (λ (b : Bool). interfaces_among us ++ cond (not b) (v ∷ interfaces_among vs) (interfaces_among vs)) miss in
-            let place : foreign_place (interfaces_among all) v ≡ i = ap (λ (l : List ForeignVisit). foreign_place l v) whole ∙ foreign_place-seam (interfaces_among us) v (interfaces_among vs) (none_before test) in
-            ap (λ (b : Bool). if b then entry.World w else entry.Interface i) miss ∙ ap entry.Interface (sym place) ∙ sym (ap (λ (b : Bool). if b then entry.World (foreign_place (worlds_among all) v) else entry.Interface (foreign_place (interfaces_among all) v)) miss))
+            let place : position_or_len (λ (y : ForeignVisit). same_item y v) (interfaces_among all) ≡ i = ap (λ (l : List ForeignVisit). position_or_len (λ (y : ForeignVisit). same_item y v) l) whole ∙ foreign_place-seam (interfaces_among us) v (interfaces_among vs) (none_before test) in
+            ap (λ (b : Bool). if b then entry.World w else entry.Interface i) miss ∙ ap entry.Interface (sym place) ∙ sym (ap (λ (b : Bool). if b then entry.World (position_or_len (λ (y : ForeignVisit). same_item y v) (worlds_among all)) else entry.Interface (position_or_len (λ (y : ForeignVisit). same_item y v) (interfaces_among all))) miss))
       ]
 
 -- how many there are, with one more

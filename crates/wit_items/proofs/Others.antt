@@ -2,7 +2,7 @@
 use Rattle.std.proofs.Common.{◌≡◌, ℕ, ◌<◌, Bool, List, [], ◌∷◌, length, Option, Some, None, inl, inr, refl, sym, ap, ◌∙◌, arith, Bor, zero, suc, ◌+◌, ◌≤◌, true, false, not, cond}
 use Rattle.std.specs.Slice.{IsItemAt}
 use Rattle.std.proofs.lemmas.List.Folds.{find_at as find_here}
-use Rattle.wit_arena.proofs.Common.{Id, Item, Local, PackageFile, Row, Target, all_items, bytes_eq, cases_Bool, find, is_world, is_world_at, item_name, item_named, item_row, item_rows, item_word, length-map, ltb-false, ltb-true, map, map_at, missing_at, name_cases, nat_lt, option_copied, option_map, place_of, position, position-Some, position_or_len, slice_get, slice_get_past, slice_get_read, target, Address, AstItem, Attribute, Contains, DefinitionPart, Extern, ExternPart, Foreign, ForeignNamed, ForeignVisit, FunctionPart, IncludePart, IsVisited, Names, PackageName, Part, UsePart, UsePath, World, WorldNamed, at_back, at_contains, at_side, at_split, env_of, extern_paths, extern_visits, find_at, find_passes, find_some, flat_map, flat_map_at, flat_map_has, foreign_at, foreign_entry, foreign_interfaces, foreign_items, foreign_place, foreign_worlds, inline_uses, kept_has, leads, leads_visited, part_use_at, part_visits, parts, path_among, path_visited, path_visits, same_address, same_address-equal, same_address-from, same_item, side_has, side_itself, slice_get-map, target_scope, use_path, visit_listed, visited, walk, worlds_at}
+use Rattle.wit_arena.proofs.Common.{Id, Item, Local, PackageFile, Row, Target, all_items, bytes_eq, cases_Bool, find, is_world, is_world_at, item_name, item_named, item_row, item_rows, item_word, length-map, ltb-false, ltb-true, map, map_at, missing_at, name_cases, nat_lt, option_copied, option_map, place_of, position, position-Some, position_or_len, slice_get, slice_get_past, slice_get_read, target, Address, AstItem, Attribute, Contains, DefinitionPart, Extern, ExternPart, Foreign, ForeignNamed, ForeignVisit, FunctionPart, IncludePart, IsVisited, Names, PackageName, Part, UsePart, UsePath, World, WorldNamed, at_back, at_contains, at_side, at_split, env_of, extern_paths, extern_visits, find_at, find_passes, find_some, flat_map, flat_map_at, flat_map_has, foreign_at, foreign_entry, foreign_interfaces, foreign_items, foreign_worlds, inline_uses, kept_has, leads, leads_visited, part_use_at, part_visits, parts, path_among, path_visited, path_visits, same_address, same_address-equal, same_address-from, same_item, side_has, side_itself, slice_get-map, target_scope, use_path, visit_listed, visited, walk, worlds_at}
 use Rattle.wit_first.specs.FileFaults.{lost_fault}
 use Rattle.wit_first.specs.UseFaults.{reached_fault}
 use Rattle.wit_first.proofs.FileFaults.{lost_at}
@@ -132,17 +132,17 @@ entry_missing files (Foreign p id) r found other =
     ap (option_map (foreign_entry files)) (sym (find_no_position (is_at s) (foreign_items files) none))
 
 -- the address of an item is at its place
-pub place_listed : (vs : List ForeignVisit) (j : ℕ) (v : ForeignVisit) → slice_get vs j ≡ Some v → slice_get (map visited vs) (foreign_place vs v) ≡ Some (visited v)
+pub place_listed : (vs : List ForeignVisit) (j : ℕ) (v : ForeignVisit) → slice_get vs j ≡ Some v → slice_get (map visited vs) (position_or_len (λ (y : ForeignVisit). same_item y v) vs) ≡ Some (visited v)
 place_listed [] j v at = absurd (let f : ⊥ = cc in f)
 place_listed (u ∷ us) j v at = elim (cases_Bool (same_item u v)) [
-  | inl same ↦ ap (λ (b : Bool). slice_get (map visited (u ∷ us)) (cond (not b) (1 + foreign_place us v) 0)) same ∙ ap Some (same_address-equal (visited u) (visited v) same)
-  | inr other ↦ ap (λ (b : Bool). slice_get (map visited (u ∷ us)) (cond (not b) (1 + foreign_place us v) 0)) other ∙ ap (slice_get (map visited (u ∷ us))) (one_more (foreign_place us v)) ∙ rest_after j at other (λ i here. place_listed us i v here)
+  | inl same ↦ ap (λ (b : Bool). slice_get (map visited (u ∷ us)) (cond (not b) (1 + position_or_len (λ (y : ForeignVisit). same_item y v) us) 0)) same ∙ ap Some (same_address-equal (visited u) (visited v) same)
+  | inr other ↦ ap (λ (b : Bool). slice_get (map visited (u ∷ us)) (cond (not b) (1 + position_or_len (λ (y : ForeignVisit). same_item y v) us) 0)) other ∙ ap (slice_get (map visited (u ∷ us))) (one_more (position_or_len (λ (y : ForeignVisit). same_item y v) us)) ∙ rest_after j at other (λ i here. place_listed us i v here)
 ]
   where
     one_more : (n : ℕ) → 1 + n ≡ suc n
     one_more n = omega arith
 
-    rest_after : (i : ℕ) → slice_get (u ∷ us) i ≡ Some v → same_item u v ≡ false → ((k : ℕ) → slice_get us k ≡ Some v → slice_get (map visited us) (foreign_place us v) ≡ Some (visited v)) → slice_get (map visited us) (foreign_place us v) ≡ Some (visited v)
+    rest_after : (i : ℕ) → slice_get (u ∷ us) i ≡ Some v → same_item u v ≡ false → ((k : ℕ) → slice_get us k ≡ Some v → slice_get (map visited us) (position_or_len (λ (y : ForeignVisit). same_item y v) us) ≡ Some (visited v)) → slice_get (map visited us) (position_or_len (λ (y : ForeignVisit). same_item y v) us) ≡ Some (visited v)
     rest_after zero here other rest = absurd (
         let one : u ≡ v = cc in
         let wrong : true ≡ false = sym (same_address-from (visited u) (visited v) (ap visited one)) ∙ other in
@@ -156,23 +156,23 @@ found_item files s v h =
     let k = find_at (is_at s) (foreign_items files) v h in
     (k.0, k.1, same_address-equal (visited v) s (find_passes (is_at s) (foreign_items files) v h))
 
-interface_place : (files : List PackageFile) (s : Address) (v : ForeignVisit) → foreign_at files s ≡ Some v → v.wants_world ≡ false → slice_get (map visited (foreign_interfaces files)) (foreign_place (foreign_interfaces files) v) ≡ Some s
+interface_place : (files : List PackageFile) (s : Address) (v : ForeignVisit) → foreign_at files s ≡ Some v → v.wants_world ≡ false → slice_get (map visited (foreign_interfaces files)) (position_or_len (λ (y : ForeignVisit). same_item y v) (foreign_interfaces files)) ≡ Some s
 interface_place files s v h sort =
     let it = found_item files s v h in
     let k = kept_has (λ u. not u.wants_world) (foreign_items files) it.0 v (ap not sort) it.1 in
     place_listed (foreign_interfaces files) k.0 v k.1 ∙ ap Some it.2
 
-world_place : (files : List PackageFile) (s : Address) (v : ForeignVisit) → foreign_at files s ≡ Some v → v.wants_world ≡ true → slice_get (map visited (foreign_worlds files)) (foreign_place (foreign_worlds files) v) ≡ Some s
+world_place : (files : List PackageFile) (s : Address) (v : ForeignVisit) → foreign_at files s ≡ Some v → v.wants_world ≡ true → slice_get (map visited (foreign_worlds files)) (position_or_len (λ (y : ForeignVisit). same_item y v) (foreign_worlds files)) ≡ Some s
 world_place files s v h sort =
     let it = found_item files s v h in
     let k = kept_has (λ (v : ForeignVisit). v.wants_world) (foreign_items files) it.0 v sort it.1 in
     place_listed (foreign_worlds files) k.0 v k.1 ∙ ap Some it.2
 
-entry_interface : (files : List PackageFile) (v : ForeignVisit) → v.wants_world ≡ false → foreign_entry files v ≡ entry.Interface (foreign_place (foreign_interfaces files) v)
-entry_interface files v sort = ap (λ (b : Bool). cond b (entry.World (foreign_place (foreign_worlds files) v)) (entry.Interface (foreign_place (foreign_interfaces files) v))) sort
+entry_interface : (files : List PackageFile) (v : ForeignVisit) → v.wants_world ≡ false → foreign_entry files v ≡ entry.Interface (position_or_len (λ (y : ForeignVisit). same_item y v) (foreign_interfaces files))
+entry_interface files v sort = ap (λ (b : Bool). cond b (entry.World (position_or_len (λ (y : ForeignVisit). same_item y v) (foreign_worlds files))) (entry.Interface (position_or_len (λ (y : ForeignVisit). same_item y v) (foreign_interfaces files)))) sort
 
-entry_world : (files : List PackageFile) (v : ForeignVisit) → v.wants_world ≡ true → foreign_entry files v ≡ entry.World (foreign_place (foreign_worlds files) v)
-entry_world files v sort = ap (λ (b : Bool). cond b (entry.World (foreign_place (foreign_worlds files) v)) (entry.Interface (foreign_place (foreign_interfaces files) v))) sort
+entry_world : (files : List PackageFile) (v : ForeignVisit) → v.wants_world ≡ true → foreign_entry files v ≡ entry.World (position_or_len (λ (y : ForeignVisit). same_item y v) (foreign_worlds files))
+entry_world files v sort = ap (λ (b : Bool). cond b (entry.World (position_or_len (λ (y : ForeignVisit). same_item y v) (foreign_worlds files))) (entry.Interface (position_or_len (λ (y : ForeignVisit). same_item y v) (foreign_interfaces files)))) sort
 
 -- where an interface is where a path leads, the path leads to an interface, whose address is at that place
 pub interface_found : (files : List PackageFile) (p : PackageName) (id : Id) (i : ℕ) → entry_at files (Foreign p id) ≡ Some (entry.Interface i) → (is_world_at files (Foreign p id) ≡ Some false) × (slice_get (map visited (foreign_interfaces files)) i ≡ Some (ForeignNamed p id.name.now))
@@ -182,12 +182,12 @@ interface_found files p id i h = of_entry (foreign_at files (named p id)) refl h
     of_entry None found is = absurd (let f : ⊥ = cc in f)
     of_entry (Some v) found is = elim (cases_Bool v.wants_world) [
       | inl world ↦ absurd (
-          let wrong : Some (entry.World (foreign_place (foreign_worlds files) v)) ≡ Some (entry.Interface i) = ap Some (sym (entry_world files v world)) ∙ is in
+          let wrong : Some (entry.World (position_or_len (λ (y : ForeignVisit). same_item y v) (foreign_worlds files))) ≡ Some (entry.Interface i) = ap Some (sym (entry_world files v world)) ∙ is in
           let f : ⊥ = cc in
           f)
       | inr sort ↦ (
-          let both : Some (entry.Interface (foreign_place (foreign_interfaces files) v)) ≡ Some (entry.Interface i) = ap Some (sym (entry_interface files v sort)) ∙ is in
-          let place : foreign_place (foreign_interfaces files) v ≡ i = cc in
+          let both : Some (entry.Interface (position_or_len (λ (y : ForeignVisit). same_item y v) (foreign_interfaces files))) ≡ Some (entry.Interface i) = ap Some (sym (entry_interface files v sort)) ∙ is in
+          let place : position_or_len (λ (y : ForeignVisit). same_item y v) (foreign_interfaces files) ≡ i = cc in
           (ap (option_map (λ (v : ForeignVisit). v.wants_world)) found ∙ ap Some sort, ap (slice_get (map visited (foreign_interfaces files))) (sym place) ∙ interface_place files (named p id) v found sort))
     ]
 
@@ -195,7 +195,7 @@ interface_found files p id i h = of_entry (foreign_at files (named p id)) refl h
 pub interface_missing : (files : List PackageFile) (p : PackageName) (id : Id) (v : ForeignVisit) → foreign_at files (ForeignNamed p id.name.now) ≡ Some v → ((i : ℕ) → entry_at files (Foreign p id) ≡ Some (entry.Interface i) → ⊥) → is_world_at files (Foreign p id) ≡ Some true
 interface_missing files p id v found other = elim (cases_Bool v.wants_world) [
   | inl world ↦ ap (option_map (λ (v : ForeignVisit). v.wants_world)) found ∙ ap Some world
-  | inr sort ↦ absurd (other (foreign_place (foreign_interfaces files) v) (ap (option_map (foreign_entry files)) found ∙ ap Some (entry_interface files v sort)))
+  | inr sort ↦ absurd (other (position_or_len (λ (y : ForeignVisit). same_item y v) (foreign_interfaces files)) (ap (option_map (foreign_entry files)) found ∙ ap Some (entry_interface files v sort)))
 ]
 
 -- the address of a world that is where a path leads
@@ -213,8 +213,8 @@ world_found files by_name ws (Foreign p id) w present enough h = of_entry (forei
     of_entry None found is = absurd (let f : ⊥ = cc in f)
     of_entry (Some v) found is = elim (cases_Bool v.wants_world) [
       | inl world ↦ (
-          let both : Some (foreign_place (foreign_worlds files) v) ≡ Some w = ap (λ e. world_entry (Some e)) (sym (entry_world files v world)) ∙ is in
-          let place : foreign_place (foreign_worlds files) v ≡ w = cc in
+          let both : Some (position_or_len (λ (y : ForeignVisit). same_item y v) (foreign_worlds files)) ≡ Some w = ap (λ e. world_entry (Some e)) (sym (entry_world files v world)) ∙ is in
+          let place : position_or_len (λ (y : ForeignVisit). same_item y v) (foreign_worlds files) ≡ w = cc in
           prefix (map visited (foreign_worlds files)) ws w (named p id) enough (ap (slice_get (map visited (foreign_worlds files))) (sym place) ∙ world_place files (named p id) v found world))
       | inr sort ↦ absurd (
           let wrong : None ≡ Some w = ap (λ e. world_entry (Some e)) (sym (entry_interface files v sort)) ∙ is in
@@ -229,7 +229,7 @@ world_missing files by_name (Foreign p id) found h =
     let v = found p id refl in
     elim (cases_Bool v.0.wants_world) [
       | inl world ↦ absurd (
-          let wrong : Some (foreign_place (foreign_worlds files) v.0) ≡ None = ap (λ e. world_entry (Some e)) (sym (entry_world files v.0 world)) ∙ ap (λ o. world_entry (option_map (foreign_entry files) o)) (sym v.1) ∙ h in
+          let wrong : Some (position_or_len (λ (y : ForeignVisit). same_item y v.0) (foreign_worlds files)) ≡ None = ap (λ e. world_entry (Some e)) (sym (entry_world files v.0 world)) ∙ ap (λ o. world_entry (option_map (foreign_entry files) o)) (sym v.1) ∙ h in
           let f : ⊥ = cc in
           f)
       | inr sort ↦ ap (option_map (λ (v : ForeignVisit). v.wants_world)) v.1 ∙ ap Some sort

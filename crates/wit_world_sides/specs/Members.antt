@@ -1,6 +1,6 @@
 -- What a world has on its sides, with the names and the interfaces there, while one after another is put there, and its first fault: E43, E44 and E17.
-use Rattle.std.specs.Prelude.{◌≡◌, Bool, List, if◌then◌else◌, ℕ, true, false, [], ◌∷◌, Some, slice_get, ◌++◌, Option, codes, map, ◌&&◌, nat_eq, None, is_none}
-use Rattle.wit_arena.specs.Common.{AllDiffer, Exported, Fault, Function, Id, Imported, Include, Link, SideItem, SideLink, Span, WorldItem, WorldKey, WorldSide, extern_link, flat_map, function_of, insert_entry, item_side, items_on, link_item, linked_twice, list_any, option_map_or, option_or, path_id, put_on, same_side, settled}
+use Rattle.std.specs.Prelude.{◌≡◌, Bool, List, if◌then◌else◌, ℕ, true, false, [], ◌∷◌, Some, slice_get, ◌++◌, Option, codes, map, ◌&&◌, nat_eq, None, is_none, unwrap_or}
+use Rattle.wit_arena.specs.Common.{AllDiffer, Exported, Fault, Function, Id, Imported, Include, Link, SideItem, SideLink, Span, WorldItem, WorldKey, WorldSide, extern_link, flat_map, function_of, insert_entry, item_side, items_on, link_item, linked_twice, list_any, option_map_or, option_or, path_id, put_on, same_side, settled, UsePath}
 use Rattle.wit_model.specs.contracts.world.WorldKeyPartialEq.TheImpl.{eq-value as key_test}
 use Rattle.wit_world_sides.specs.declared.sides.WorldSides.{WorldSides}
 use Rattle.wit_walk.specs.Members.{Sorted, item_sorted, crossed, is_extern}
@@ -14,6 +14,10 @@ use Rattle.wit_first.specs.First.{first_in, repeat_of}
 use Rattle.wit_sides.specs.declared.sides.Sides.{Sides}
 use Rattle.wit_model.specs.declared.world.WorldKey.TheVariants as key
 use Rattle.wit_model.specs.declared.world.WorldItem.TheVariants as item
+
+-- where an interface is: where the name of its own is, or else its path
+abbrev pub link_span : Option Id → UsePath → Span
+link_span name path = (unwrap_or name (path_id path)).span
 
 -- whether there is no include
 abbrev pub none_of : List Include → Bool

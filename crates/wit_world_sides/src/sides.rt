@@ -9,9 +9,9 @@ ghost use Rattle.wit_model.specs.contracts.world.WorldKeyPartialEq.TheImpl.{eq-v
 ghost use Rattle.wit_syntax.specs.Metadata.{stability_of};
 ghost use Rattle.wit_syntax.specs.Repeats.{AllDiffer};
 ghost use Rattle.wit_syntax.specs.Source.{local_id};
-ghost use Rattle.wit_arena.specs.SourceFunctions.{inline_entry, link_item, link_span as the_link_span};
+ghost use Rattle.wit_arena.specs.SourceFunctions.{inline_entry, link_item};
 ghost use Rattle.wit_arena.specs.Whole.{type_imports as the_imports};
-ghost use Rattle.wit_world_sides.specs.Members.{path_link, entries_of, inserted_on};
+ghost use Rattle.wit_world_sides.specs.Members.{path_link, entries_of, inserted_on, link_span as the_link_span};
 
 use crate::members::PathExtern;
 use std::alloc::{AllocError, Global};
