@@ -1,6 +1,6 @@
 -- Types as expressions, without spans, each name with the scope that it is in; and the arena of types as the list of first occurrences.
 use Rattle.std.specs.Prelude.{ℕ, List, ◌≡◌, [], ◌∷◌, ◌++◌, length, map, take, Some, None, ◌⊎◌, slice_get}
-use Rattle.wit_arena.specs.Names.{Address, AllDiffer, AreMetadata, Form, ScopeName, Shape, Shapes, SourceFunction, Span, Stability, TypeDef, TypeDefKind, TypeOwner, Unknown, about_name, first_known, flat_map, local_name, no_docs, option_map_or, primitive_type, signature, unwrap_or, «Type» as Ty}
+use Rattle.wit_arena.specs.Names.{Address, AllDiffer, AreMetadata, Form, ScopeName, Shape, Shapes, Span, Stability, TypeDef, TypeDefKind, TypeOwner, Unknown, about_name, first_known, local_name, no_docs, option_map_or, primitive_type, unwrap_or, «Type» as Ty}
 use Rattle.wit_type_tree.specs.declared.types.Primitive.{Primitive}
 use Rattle.wit_arena.specs.Kind.{kind_of}
 use Rattle.wit_syntax.specs.Shape as shape
@@ -67,10 +67,6 @@ abbrev mutual
 -- what occurs in a name of a scope: its parts, and then itself; the original of a used name occurred before
 abbrev pub name_occurrences : Address → ScopeName → List Occurrence
 name_occurrences s x = shapes_occurrences (unwrap_or (about_name x).from s) (about_name x).metadata.stability (about_name x).body.parts ++ record { key = Def s (local_name x); span = (about_name x).span; given = (about_name x).metadata.stability } ∷ []
-
--- what occurs in functions: of each in its parameters, and then in its result; they are in no definition
-abbrev pub all_function_occurrences : Address → List SourceFunction → List Occurrence
-all_function_occurrences s fns = flat_map (λ (fn : SourceFunction). flat_map (shape_occurrences s Unknown) (signature fn)) fns
 
 abbrev pub IsSeen : List Key → Key → Type 0
 IsSeen ks k = (i : ℕ) × (slice_get ks i ≡ Some k)

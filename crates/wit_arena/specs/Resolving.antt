@@ -1,18 +1,26 @@
 -- What resolving does: to the arena of types, from whatever occurred before, and to those of interfaces and worlds.
 use Rattle.std.specs.Prelude.{◌≡◌, ℕ, List, [], ◌∷◌, ◌++◌, length, map, Option, Some, None, ◌⊎◌, slice_get, nat_eq, IsSome, ◌+◌}
-use Rattle.wit_arena.specs.Names.{Address, AreDistinct, Exported, ForeignUse, Function, Id, Imported, Interface, InterfaceNamed, IsOrder, Item, Metadata, PackageFile, Param, ScopeName, Shape, Shapes, SideFunction, SideInline, SideItem, SideLink, SourceFunction, SourceParam, Span, Stability, TypeDef, TypeDefKind, TypeOwner, Type_, Unknown, Used, World, WorldNamed, about, address, all_handles, all_types, declared_metadata, first_foreign_uses, flat_map, foreign_interfaces, foreign_worlds, functions as item_functions, in_turn, includes, inline_items, insert_entry, local_name, local_names, lookup, metadata, name_types, no_docs, pointwise, rows_of, scope_names, side_items, unwrap_or, visited, written_types, «Type» as Ty}
+use Rattle.wit_arena.specs.Names.{Address, AreDistinct, Exported, ForeignUse, Function, Id, Imported, Interface, InterfaceNamed, IsOrder, Item, Metadata, PackageFile, Param, ScopeName, Shape, Shapes, SideFunction, SideInline, SideItem, SideLink, SourceFunction, SourceParam, Span, Stability, TypeDef, TypeDefKind, TypeOwner, Type_, Unknown, Used, World, WorldNamed, about, address, all_handles, all_types, declared_metadata, first_foreign_uses, flat_map, foreign_interfaces, foreign_worlds, functions as item_functions, in_turn, includes, inline_items, insert_entry, local_name, local_names, lookup, metadata, name_types, no_docs, pointwise, rows_of, scope_names, side_items, unwrap_or, visited, written_types, «Type» as Ty, signature, stability_of}
 use Rattle.wit_type_tree.specs.declared.leaves.Attribute.{Attribute}
 use Rattle.wit_tree.specs.declared.tree.UseName.{UseName}
-use Rattle.wit_arena.specs.Occurrences.{Expr, Prim, Use, Of, Exprs, End, More, exprs_of, Key, Def, Whole, Occurrence, keys, IsSeen, Collects, AreAt, Decls, IsOccurrence, name_occurrences, all_function_occurrences, settled, shape_occurrences}
+use Rattle.wit_arena.specs.Occurrences.{Expr, Prim, Use, Of, Exprs, End, More, exprs_of, Key, Def, Whole, Occurrence, keys, IsSeen, Collects, AreAt, Decls, IsOccurrence, name_occurrences, settled, shape_occurrences}
 use Rattle.wit_arena.specs.UnfoldedTypes.{At, IsInterface, IsWorld, IsForeignWorld}
 use Rattle.wit_arena.specs.SourceFunctions.{AreFunctions, freestanding_names, placed_functions, HasSide}
 use Rattle.wit_arena.specs.Kind.{IsResource, IsUnknown as IsUnknownEntry, entry_end}
 use Rattle.wit_types.specs.declared.types.TypeDefKind.TheVariants.{Unknown as UnknownKind}
 use Rattle.wit_arena.specs.OneByOne.{OneByOne}
-use Rattle.wit_arena.specs.Whole.{owner_at, foreign_use_occurrence, IsForeignInterface, type_imports, AreIncludes}
+use Rattle.wit_arena.specs.Whole.{owner_at, IsForeignInterface, type_imports, AreIncludes}
 use Rattle.wit_types.specs.declared.types.«Type».TheVariants as type
 use Rattle.wit_types.specs.declared.types.TypeOwner.TheVariants as owner
 use Rattle.wit_syntax.specs.Shape as shape
+
+-- what occurs in functions: of each in its parameters, and then in its result
+abbrev pub all_function_occurrences : Address → List SourceFunction → List Occurrence
+all_function_occurrences s fns = flat_map (λ (fn : SourceFunction). flat_map (shape_occurrences s Unknown) (signature fn)) fns
+
+-- a name of another package, where it is used
+abbrev pub foreign_use_occurrence : ForeignUse → Occurrence
+foreign_use_occurrence t = record { key = Def t.from t.id.name.now; span = t.id.span; given = stability_of t.attributes }
 
 -- what the names of a scope mean
 abbrev pub Env : Type 0

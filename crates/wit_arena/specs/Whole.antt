@@ -1,6 +1,6 @@
 -- The theorem: what a resolved package is.
 use Rattle.std.specs.Prelude.{if◌then◌else◌, ◌≡◌, ◌==◌, ℕ, List, [], ◌∷◌, ◌++◌, length, map, Option, Some, None, slice_get, position}
-use Rattle.wit_arena.specs.Names.{Address, AllZip, AstItem, AtForeign, AtResource, EndsAt, ForeignUse, ForeignVisit, Id, Include, Interface, Item, PackageFile, PackageName, ScopeName, SourceFunction, Span, Stability, TopName, TypeOwner, WorldInclude, WorldItem, WorldKey, WorldNamed, address, all_handles, all_scopes, all_types, docs_of, filter, filter_map, flat_map, foreign_interfaces, foreign_items, foreign_uses, foreign_visits, foreign_worlds, functions as item_functions, includes, item_at, leads, local_id, local_name, no_docs, option_map, option_map_or, option_or, package_of, path_id, same_address, same_item, same_package, scope, stability_of, target_scope, unwrap_or, visited, metadata, position_or_len}
+use Rattle.wit_arena.specs.Names.{Address, AllZip, AstItem, AtForeign, AtResource, EndsAt, ForeignUse, ForeignVisit, Id, Include, Interface, Item, PackageFile, PackageName, ScopeName, SourceFunction, Span, Stability, TopName, TypeOwner, WorldInclude, WorldItem, WorldKey, WorldNamed, address, all_handles, all_scopes, all_types, docs_of, filter, filter_map, flat_map, foreign_interfaces, foreign_items, foreign_uses, foreign_visits, foreign_worlds, functions as item_functions, includes, item_at, leads, local_id, local_name, no_docs, option_map, option_map_or, option_or, package_of, path_id, same_address, same_item, same_package, scope, stability_of, target_scope, unwrap_or, visited, metadata, position_or_len, signature, Unknown}
 use Rattle.wit_tree.specs.declared.tree.PackageName.{PackageName as Header}
 use Rattle.wit_tree.specs.declared.tree.IncludeName.{IncludeName as Renaming}
 use Rattle.wit_model.specs.declared.ast_item.AstItem.TheVariants as entry
@@ -9,7 +9,7 @@ use Rattle.wit_model.specs.declared.world.WorldKey.TheVariants as key
 use Rattle.wit_model.specs.declared.world.WorldItem.TheVariants.{Type_}
 use Rattle.wit_types.specs.declared.types.TypeOwner.TheVariants as owner
 use Rattle.wit_types.specs.declared.docs.Docs.{Docs}
-use Rattle.wit_arena.specs.Occurrences.{Key, Def, Occurrence, name_occurrences, all_function_occurrences, Decls}
+use Rattle.wit_arena.specs.Occurrences.{Key, Def, Occurrence, name_occurrences, Decls, shape_occurrences}
 use Rattle.wit_arena.specs.OneByOne.{OneByOne}
 use Rattle.wit_arena.specs.UnfoldedTypes.{IsInterface}
 
@@ -19,9 +19,9 @@ pub record Turned : Type 0 where
   pub names : List ScopeName
   pub functions : List SourceFunction
 
--- what occurs in a scope: in its names, and then in its functions
+-- what occurs in a scope: in its names, and then in its functions, of each in its parameters and then in its result
 abbrev pub turn_occurrences : Turned → List Occurrence
-turn_occurrences t = flat_map (name_occurrences t.address) t.names ++ all_function_occurrences t.address t.functions
+turn_occurrences t = flat_map (name_occurrences t.address) t.names ++ flat_map (λ (fn : SourceFunction). flat_map (shape_occurrences t.address Unknown) (signature fn)) t.functions
 
 -- the place of an address among these
 abbrev pub place_at : List Address → Address → Option ℕ
@@ -71,13 +71,9 @@ HandleRequires files ks h (Some r) = (s : Address) × (name : List ℕ) × EndsA
 abbrev pub AreRequired : List PackageFile → List Key → List (Address × Id) → List (ℕ × Span) → Type 0
 AreRequired files ks hs rs = (each : List (Option (ℕ × Span))) × AllZip (HandleRequires files ks) hs each × (rs ≡ filter_map (λ r. r) each)
 
--- a name that is taken from another package, where it is used
-abbrev pub foreign_use_occurrence : ForeignUse → Occurrence
-foreign_use_occurrence t = record { key = Def t.from t.id.name.now; span = t.id.span; given = stability_of t.attributes }
-
--- what occurs in files: first what they take from other packages, then what is in these scopes
+-- what occurs in files: first the names that are used from other packages, then what is in these scopes
 abbrev pub all_occurrences : List PackageFile → List Turned → List Occurrence
-all_occurrences files ts = map foreign_use_occurrence (foreign_uses files) ++ flat_map turn_occurrences ts
+all_occurrences files ts = map (λ (t : ForeignUse). record { key = Def t.from t.id.name.now; span = t.id.span; given = stability_of t.attributes }) (foreign_uses files) ++ flat_map turn_occurrences ts
 
 -- an interface of another package, where a path first leads to it, with the names that are taken from it
 abbrev pub IsForeignInterface : List PackageFile → List Key → ForeignVisit → Interface → Type 0
