@@ -63,7 +63,7 @@ function_in id s fn = record {
 abbrev pub interface : Option (List ℕ) → List (List ℕ × ℕ) → List (List ℕ × Function) → Metadata → Span → Interface
 interface name types functions n span = record { name = name; types = types; functions = functions; docs = n.docs; stability = n.stability; «package» = None; span = span; clone_of = None }
 
--- an interface of another package, where a path first leads to it, with the names that are taken from it
+-- an interface of another package, where a path first leads to it, with the names that are used from it
 abbrev pub foreign_interface : List PackageFile → (Key → ℕ) → ForeignVisit → Interface
 foreign_interface files id v = interface None (name_places id (visited v) (scope files (visited v))) [] (metadata no_docs []) v.id.span
 

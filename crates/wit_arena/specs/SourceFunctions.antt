@@ -74,7 +74,7 @@ link_key name place = option_map_or (λ (id : Id). key.Name id.name.now) name (k
 
 -- an interface that is imported or exported, at its place, with what is stated of it there; it is where its name is, or else its path
 abbrev pub link_item : Link → ℕ → WorldKey × WorldItem
-link_item link place = (link_key link.name place, item.Interface place (stability_of link.attributes) (stated_text ExternalId link.attributes) (docs_of link.docs) (unwrap_or link.name (path_id link.path)).span)
+link_item l place = (link_key l.name place, item.Interface place (stability_of l.attributes) (stated_text ExternalId l.attributes) (docs_of l.docs) (unwrap_or l.name (path_id l.path)).span)
 
 -- an interface that is written there, at its place: what is stated of it is stated of the interface, but for the name that it has elsewhere
 abbrev pub inline_entry : Extern → Id → ℕ → WorldKey × WorldItem

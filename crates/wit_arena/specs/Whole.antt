@@ -75,13 +75,13 @@ AreRequired files ks hs rs = (each : List (Option (ℕ × Span))) × AllZip (Han
 abbrev pub all_occurrences : List PackageFile → List Turned → List Occurrence
 all_occurrences files ts = map (λ (t : ForeignUse). record { key = Def t.from t.id.name.now; span = t.id.span; given = stability_of t.attributes }) (foreign_uses files) ++ flat_map turn_occurrences ts
 
--- an interface of another package, where a path first leads to it, with the names that are taken from it
+-- an interface of another package, where a path first leads to it, with the names that are used from it
 abbrev pub IsForeignInterface : List PackageFile → List Key → ForeignVisit → Interface → Type 0
 IsForeignInterface files ks v i = IsInterface None v.id.span (metadata no_docs []) i × HasTypes ks (record { address = visited v; names = scope files (visited v); functions = [] }) i.types × (i.functions ≡ [])
 
 -- the entry of an item of another package, with its place among those: the arenas begin with these
 abbrev pub foreign_entry : List PackageFile → ForeignVisit → AstItem
-foreign_entry files v = if v.wants_world then entry.World (position_or_len (λ u. same_item u v) (foreign_worlds files)) else entry.Interface (position_or_len (λ u. same_item u v) (foreign_interfaces files))
+foreign_entry fs v = if v.wants_world then entry.World (position_or_len (λ u. same_item u v) (foreign_worlds fs)) else entry.Interface (position_or_len (λ u. same_item u v) (foreign_interfaces fs))
 
 -- a package with its items: each by its name, with its entry and the stability of each of its visits
 abbrev pub dep : List PackageFile → ForeignVisit → PackageName × List (List ℕ × (AstItem × List Stability))

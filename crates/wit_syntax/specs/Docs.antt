@@ -15,7 +15,7 @@ without_end end text = if ends_with nat_eq text end then take (length text - len
 -- a comment without its marks: after a prefix `/**` the text without a `*/` at its end, without that prefix after all slashes; `/**/` is
 -- empty
 abbrev pub unmarked : List ℕ → List ℕ
-unmarked comment = if pointwise nat_eq comment (codes "/**/") then [] else option_map_or (without_end (codes "*/")) (rest_after (codes "/**") comment) (drop (prefix_len (λ b. b == 47) comment) comment)
+unmarked text = if pointwise nat_eq text (codes "/**/") then [] else option_map_or (without_end (codes "*/")) (rest_after (codes "/**") text) (drop (prefix_len (λ b. b == 47) text) text)
 
 -- the fewest bytes of ASCII white space that a text begins with, of those that are not empty; 0 where all are
 abbrev pub common_indent : List (List ℕ) → ℕ
