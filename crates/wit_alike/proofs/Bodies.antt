@@ -1,6 +1,6 @@
 -- Bodies of definitions that are alike: their shapes and their first faults.
 use Rattle.std.proofs.Common.{◌≡◌, ℕ, Bool, true, false, cond, List, [], ◌∷◌, map, Option, Some, None, is_some, codes, refl, ap, ap₂}
-use Rattle.wit_walk.proofs.Common.{AllZip, Both', Case, Enum, EnumCase, EnumForm, Err', Fault, Field, Flag, Flags, FlagsForm, Id, Member, Neither, None', Of, Ok', Plain, Prim, Record, RecordForm, Resource, ResourceFunc, ResultTypes, Row_of-Type, Shape, Some', Span, TypeBody, Variant, VariantForm, Word, all_shapes, body_of, body_types, bytes_eq, case_types, clash, clash_of, docs_text, empty_fault, end_of-Type, fault, fault_in, field_types, head, list_fault, lower_case, member, members_fault, more_of-Type, names_fault, option_map, option_or, row_fault, row_types, shape_of, slice_get, type_fault, written_body, «Type» as Written, Primitive}
+use Rattle.wit_walk.proofs.Common.{AllZip, Both', Case, Enum, EnumCase, EnumForm, Err', Fault, Field, Flag, Flags, FlagsForm, Id, Member, Neither, None', Of, Ok', Plain, Prim, Record, RecordForm, Resource, ResourceFunc, ResultTypes, Row_of-Type, Shape, Some', Span, TypeBody, Variant, VariantForm, Word, all_shapes, body_of, body_types, bytes_eq, case_types, clash, clash_of, docs_text, empty_fault, end_of-Type, fault, fault_in, field_types, head, list_fault, lower_case, member, members_fault, more_of-Type, names_fault, option_map, option_or, row_fault, shape_of, slice_get, type_fault, «Type» as Written, Primitive}
 use Rattle.std.specs.List.{find}
 use Rattle.wit_syntax.specs.Shape.{Body}
 use Rattle.wit_type_tree.specs.declared.types.«Type».TheVariants as written
@@ -21,11 +21,6 @@ same_is_key t u h = refl
 same_key : (t u : Written) (s r : Span) → SameType t u → s ≡ r → key_fault t s ≡ key_fault u r
 same_key t u s r h e = ap₂ (λ (b : Bool) (at : Span). cond b None (Some (fault 26 at))) (same_is_key t u h) e
 
-same_empty_row : {m n : _} (number : ℕ) (ts : Row_of-Type m) (us : Row_of-Type n) (s r : Span) → SameRow ts us → s ≡ r → empty_fault number (row_types ts) s ≡ empty_fault number (row_types us) r
-same_empty_row number end_of-Type end_of-Type s r h e = ap (λ (at : Span). Some (fault number at)) e
-same_empty_row number (more_of-Type t ts) (more_of-Type u us) s r h e = refl
-same_empty_row number ts us s r h e = absurd h
-
 module _ (word handle other also : Id → Option Fault) (words : (a b : Id) → SameId a b → word a ≡ other b) (handles : (a b : Id) → SameId a b → handle a ≡ also b) where
   mutual
     pub same_type_fault : (t u : Written) → SameType t u → type_fault word handle t ≡ type_fault other also u
@@ -36,7 +31,7 @@ module _ (word handle other also : Id → Option Fault) (words : (a b : Id) → 
     same_type_fault (written.Map' s p k q v) (written.Map' r o l n w) h = ap₂ option_or (same_type_fault k l h.1) (ap₂ option_or (same_type_fault v w h.2) (same_key k l s r h.1 h.0))
     same_type_fault (written.Option' s p t) (written.Option' r q u) h = same_type_fault t u h.1
     same_type_fault (written.Result s of) (written.Result r by) h = same_outcome_fault s r of by h.1
-    same_type_fault (written.Tuple' s x ts) (written.Tuple' r y us) h = ap₂ option_or (same_empty_row 22 ts us s r h.1 h.0) (same_row_fault ts us h.1)
+    same_type_fault (written.Tuple' s x ts) (written.Tuple' r y us) h = same_row_fault (Some (fault 22 s)) (Some (fault 22 r)) ts us (ap (λ (at : Span). Some (fault 22 at)) h.0) h.1
     same_type_fault (written.Future' s None') (written.Future' r None') h = refl
     same_type_fault (written.Future' s (Some' p t)) (written.Future' r (Some' q u)) h = same_type_fault t u h.1
     same_type_fault (written.Future' s None') (written.Future' r (Some' q u)) h = absurd h.1
@@ -56,10 +51,10 @@ module _ (word handle other also : Id → Option Fault) (words : (a b : Id) → 
     same_outcome_fault s r (Both' p t q u) (Both' x v y w) h = ap₂ option_or (same_type_fault t v h.0) (same_type_fault u w h.1)
     same_outcome_fault s r of by h = absurd h
 
-    same_row_fault : {m n : _} (ts : Row_of-Type m) (us : Row_of-Type n) → SameRow ts us → row_fault word handle ts ≡ row_fault other also us
-    same_row_fault end_of-Type end_of-Type h = refl
-    same_row_fault (more_of-Type t ts) (more_of-Type u us) h = ap₂ option_or (same_type_fault t u h.0) (same_row_fault ts us h.1)
-    same_row_fault ts us h = absurd h
+    same_row_fault : {m n : _} (o p : Option Fault) (ts : Row_of-Type m) (us : Row_of-Type n) → o ≡ p → SameRow ts us → row_fault word handle o ts ≡ row_fault other also p us
+    same_row_fault o p end_of-Type end_of-Type e h = e
+    same_row_fault o p (more_of-Type t ts) (more_of-Type u us) e h = ap₂ option_or (same_type_fault t u h.0) (same_row_fault None None ts us refl h.1)
+    same_row_fault o p ts us e h = absurd h
 
 -- ---- bodies
 abbrev pub SameBody : TypeBody → TypeBody → Type 0
@@ -140,7 +135,7 @@ same_head (Word a) (Word b) h = (refl, (h, tt))
 same_head (Of s f xs) (Of r g ys) h = (h.1, h.2)
 same_head x y h = absurd h
 
-same_written_body : (t u : Written) → SameType t u → SameMeaning (written_body t) (written_body u)
+same_written_body : (t u : Written) → SameType t u → SameMeaning (body_of (Plain t)) (body_of (Plain u))
 same_written_body (written.Own s a) (written.Own r b) h = (refl, (h.1, tt))
 same_written_body (written.Own s a) u h = absurd h
 same_written_body t (written.Own r b) h = absurd h

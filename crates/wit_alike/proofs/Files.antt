@@ -1,6 +1,7 @@
 -- The first faults of the names, the tops and the uses of alike files.
 use Rattle.std.proofs.Common.{◌≡◌, ℕ, Bool, true, false, cond, List, [], ◌∷◌, Option, Some, None, is_none, refl, ap, ap₂, ◌∙◌, ◌++◌, codes}
-use Rattle.wit_walk.proofs.Common.{AllZip, AstItem, Attribute, Extern, Fault, Foreign, ForeignVisit, Id, Item, Local, Missing, PackageFile, Part, Span, Target, TopName, ToplevelUse, Use, UsePart, UsePath, about, all_items, all_uses_fault, around, bytes_eq, fault, fault_in, file_fault, file_items, files_fault, find, first_in, first_repeat, foreign_visits, inline_uses, is_world_at, item_name, item_named, item_names_fault, item_twice, item_uses_fault, item_word, leads, lost_fault, missing_at, needed_paths, option_or, own_uses, parts, path_fault, path_id, paths_fault, reached_fault, repeat_of, stability_fault, top_fault, top_names, top_names_fault, top_text, top_twice, tops_fault, unnamed_fault, walk}
+use Rattle.wit_walk.proofs.Common.{AllZip, AstItem, Attribute, Fault, Foreign, ForeignVisit, Id, Item, Local, Missing, PackageFile, Span, Target, TopName, ToplevelUse, Use, UsePath, about, all_items, all_uses_fault, bytes_eq, fault, fault_in, file_fault, file_items, files_fault, find, first_in, first_repeat, foreign_visits, is_world_at, item_name, item_named, item_names_fault, item_twice, item_uses_fault, item_word, leads, lost_fault, missing_at, needed_paths, option_or, path_fault, path_id, paths_fault, reached_fault, repeat_of, stability_fault, top_fault, top_names, top_names_fault, top_text, top_twice, tops_fault, unnamed_fault}
+use Rattle.wit_syntax.proofs.Common.{all_uses}
 use Rattle.wit_tree.specs.declared.tree.AstItem.TheVariants as ast
 use Rattle.wit_tree.specs.declared.tree.UsePath.TheVariants as path
 use Rattle.wit_grammar.specs.Trees.{TopUse}
@@ -9,9 +10,8 @@ use Rattle.wit_first.specs.UseFaults.{use_fault}
 use Rattle.wit_alike.proofs.Lists.{Both, zip_after, zip_any, zip_find, zip_first, zip_of}
 use Rattle.wit_alike.proofs.Leaves.{SameId, SameAttributes, by_name, same_metadata, same_stability, same_text}
 use Rattle.wit_alike.proofs.Paths.{SamePath, SameTarget, SameTop, SameAst, path_of, same_leads, same_path_id}
-use Rattle.wit_alike.proofs.Items.{SameFile, SameItem, SamePart, same_all_items, same_file_items, same_item_id, same_item_name, same_item_named, same_parts, same_top_names, same_walk}
-use Rattle.wit_alike.proofs.Functions.{extern_kind}
-use Rattle.wit_alike.proofs.Foreign.{SameUse, SameVisit, same_inline_uses, same_visits, same_world_at, use_attributes, use_from}
+use Rattle.wit_alike.proofs.Items.{SameFile, SameItem, same_all_items, same_file_items, same_item_id, same_item_name, same_item_named, same_top_names}
+use Rattle.wit_alike.proofs.Foreign.{SameUse, SameVisit, same_item_uses, same_visits, same_world_at, use_attributes, use_from}
 use Rattle.wit_alike.proofs.Scopes.{same_needed_paths}
 
 -- ---- items that repeat
@@ -31,7 +31,7 @@ module _ (files others : List PackageFile) (h : AllZip SameFile files others) wh
   pub same_item_names : item_names_fault files ≡ item_names_fault others
   same_item_names =
       zip_first_repeat SameItem item_name item_name (λ (i : Item). item_twice (about i.declared).id) (λ (i : Item). item_twice (about i.declared).id) same_item_name
-      (λ i j same. by_name (λ (text : List ℕ) (span : Span). fault_in 5 span (around (codes "duplicate item named ") text [])) (about i.declared).id (about j.declared).id (same_item_id i j same)) (all_items files) (all_items others) (same_all_items files others h)
+      (λ i j same. by_name (λ (text : List ℕ) (span : Span). fault_in 5 span (codes "duplicate item named `" ++ (text ++ codes "`"))) (about i.declared).id (about j.declared).id (same_item_id i j same)) (all_items files) (all_items others) (same_all_items files others h)
 
   pub same_visits_fault : first_in (λ (v : ForeignVisit). stability_fault v.attributes) (foreign_visits files) ≡ first_in (λ (v : ForeignVisit). stability_fault v.attributes) (foreign_visits others)
   same_visits_fault = zip_first SameVisit (λ (v : ForeignVisit). stability_fault v.attributes) (λ (v : ForeignVisit). stability_fault v.attributes) (λ v w same. same_stability v.attributes w.attributes same.attributes) (foreign_visits files) (foreign_visits others) (same_visits files others h)
@@ -39,7 +39,7 @@ module _ (files others : List PackageFile) (h : AllZip SameFile files others) wh
 same_top_fault : (f g : PackageFile) → SameFile f g → top_names_fault f ≡ top_names_fault g
 same_top_fault f g h =
     zip_first_repeat SameTop top_text top_text (λ (n : TopName). top_twice n.id) (λ (n : TopName). top_twice n.id) (λ t u same. same_text t.id u.id same.0)
-    (λ t u same. by_name (λ (text : List ℕ) (span : Span). fault_in 6 span (around (codes "duplicate name ") text (codes " in this file"))) t.id u.id same.0) (top_names f) (top_names g) (same_top_names f g h)
+    (λ t u same. by_name (λ (text : List ℕ) (span : Span). fault_in 6 span (codes "duplicate name `" ++ (text ++ codes "` in this file"))) t.id u.id same.0) (top_names f) (top_names g) (same_top_names f g h)
 
 -- ---- paths
 gone : (number : ℕ) (a b : Id) (o p : Option Item) → Both SameItem o p → SameId a b → cond (is_none o) (Some (missing_at number item_word a)) None ≡ cond (is_none p) (Some (missing_at number item_word b)) None
@@ -103,12 +103,6 @@ same_reached o p a b f g e h same = ap (λ (x : Option Bool). reached_fault x a 
     by_reach (Some true) = ap Some (by_name (λ (text : List ℕ) (span : Span). fault_in 10 span (codes "name `" ++ (text ++ codes "` is defined as a world, not an interface"))) a b h)
     by_reach (Some false) = refl
 
-same_own_uses : (p q : Part) → SamePart p q → AllZip SameUse (own_uses p) (own_uses q)
-same_own_uses (UsePart u) (UsePart t) h = (h, tt)
-same_own_uses (UsePart u) q h = absurd h
-same_own_uses p (UsePart t) h = absurd h
-same_own_uses p q h = tt
-
 module _ (files others : List PackageFile) (h : AllZip SameFile files others) where
   pub same_files_fault : files_fault files ≡ files_fault others
   same_files_fault = zip_first SameFile (file_fault (all_items files)) (file_fault (all_items others)) (same_file_fault (all_items files) (all_items others) (same_all_items files others h)) files others h
@@ -126,9 +120,7 @@ module _ (files others : List PackageFile) (h : AllZip SameFile files others) wh
   same_use_fault top other tops u t same = ap₂ option_or (same_metadata u.attributes.items t.attributes.items (use_attributes u t same)) (same_path_fault top other tops u.from t.from (use_from u t same))
 
   same_item_uses_fault : (i j : Item) → SameItem i j → item_uses_fault files i ≡ item_uses_fault others j
-  same_item_uses_fault i j same =
-      zip_first SameUse (use_fault files i.top) (use_fault others j.top) (same_use_fault i.top j.top same.0) (walk own_uses (λ (x : Extern). inline_uses x.kind) (parts i)) (walk own_uses (λ (x : Extern). inline_uses x.kind) (parts j))
-      (same_walk SameUse own_uses own_uses (λ (x : Extern). inline_uses x.kind) (λ (x : Extern). inline_uses x.kind) same_own_uses (λ x y one. same_inline_uses x.kind y.kind (extern_kind x y one)) (parts i) (parts j) (same_parts i j same))
+  same_item_uses_fault i j same = zip_first SameUse (use_fault files i.top) (use_fault others j.top) (same_use_fault i.top j.top same.0) (all_uses i) (all_uses j) (same_item_uses i j same)
 
   pub same_all_uses : all_uses_fault files ≡ all_uses_fault others
   same_all_uses = zip_first SameItem (item_uses_fault files) (item_uses_fault others) same_item_uses_fault (all_items files) (all_items others) (same_all_items files others h)

@@ -1,16 +1,16 @@
 -- What alike files name of other packages, and the names of their scopes.
 use Rattle.std.proofs.Common.{◌≡◌, Bool, true, false, not, ◌&&◌, List, [], ◌∷◌, ◌++◌, length, Option, Some, None, refl, ap, ap₂}
-use Rattle.wit_walk.proofs.Common.{Address, AllZip, AstItem, Attribute, DefinitionPart, Extern, ExternKind, ExternPart, Foreign, ForeignName, ForeignNamed, ForeignUse, ForeignVisit, FunctionPart, Include, IncludePart, InlineAt, InterfaceItem, InterfaceNamed, Item, Local, PackageFile, Part, SideItem, Target, TheInterface, TheWorld, TopName, Use, UseName, UsePart, UsePath, WorldNamed, about, all_items, all_scopes, bytes_eq, declaration_visits, extern_paths, extern_visits, filter, first_foreign_uses, firsts, flat_map, foreign_at, foreign_items, foreign_uses, foreign_visits, inline_after, inline_item, inline_items, inline_uses, is_foreign, is_interface, is_world, is_world_at, item_at, item_named, item_side, item_uses, items_on, option_map_or, part_foreign_uses, part_visits, parts, path_scope, path_visits, same_address, same_foreign_use, same_item, scope, scope_names, side_items, use_foreign_uses, use_of_foreign, used_names, visited, walk}
+use Rattle.wit_walk.proofs.Common.{Address, AllZip, AstItem, Attribute, DefinitionPart, Extern, ExternKind, ExternPart, Foreign, ForeignName, ForeignNamed, ForeignUse, ForeignVisit, FunctionPart, Include, IncludePart, InlineAt, InterfaceNamed, Item, Local, PackageFile, Part, SideItem, Target, TheInterface, TheWorld, Use, UseName, UsePart, UsePath, WorldNamed, about, all_items, all_scopes, bytes_eq, declaration_visits, extern_paths, extern_visits, filter, first_foreign_uses, firsts, flat_map, foreign_at, foreign_items, foreign_uses, foreign_visits, inline_after, inline_item, inline_items, inline_uses, is_interface, is_world, is_world_at, item_at, item_named, item_side, items_on, option_map_or, part_visits, parts, path_visits, same_address, same_foreign_use, same_item, scope, scope_names, side_items, use_of_foreign, used_names, visited}
+use Rattle.wit_syntax.proofs.Common.{all_uses, foreign_names, interface_part, leads, map, own_uses}
 use Rattle.wit_tree.specs.declared.tree.AstItem.TheVariants as ast
 use Rattle.wit_tree.specs.declared.tree.ExternKind.TheVariants as extern
-use Rattle.wit_tree.specs.declared.tree.InterfaceItem.TheVariants as interface_item
 use Rattle.wit_tree.specs.declared.tree.UsePath.TheVariants as path
 use Rattle.wit_grammar.specs.Trees.{Use as SeenUse, UsedName, TopUse, Include as SeenInclude, Extern as SeenExtern}
-use Rattle.wit_grammar.specs.Seen.{see_attribute, see_extern, see_include, see_item, see_use, see_used}
+use Rattle.wit_grammar.specs.Seen.{see_attribute, see_extern, see_include, see_use, see_used}
 use Rattle.wit_alike.proofs.Lists.{Both, both_same, zip_append, zip_filter, zip_find, zip_flat, zip_map, zip_of}
 use Rattle.wit_alike.proofs.Leaves.{SameId, SameAttributes, same_text}
-use Rattle.wit_alike.proofs.Paths.{SameHeader, SamePath, SameTarget, SameTop, SameAst, path_of, same_package_of, same_path_scope}
-use Rattle.wit_alike.proofs.Items.{SameFile, SameItem, SamePart, SameName, same_all_items, same_item_at, same_item_named, same_is_world, same_parts, same_scope_names, same_walk}
+use Rattle.wit_alike.proofs.Paths.{SameHeader, SamePath, SameTarget, SameAst, path_of, same_leads, same_package_of}
+use Rattle.wit_alike.proofs.Items.{SameFile, SameItem, SamePart, SameName, same_all_items, same_interface_parts, same_item_at, same_item_named, same_is_world, same_parts, same_scope_names, same_walk}
 use Rattle.wit_alike.proofs.Functions.{SameKind, SameSide, extern_kind, same_count, same_inline_item, same_item_side, same_side_items}
 
 abbrev pub SameUse : Use → Use → Type 0
@@ -29,14 +29,14 @@ pub include_from : (i j : Include) → see_include i ≡ see_include j → SameP
 include_from i j h = path_of i.from j.from (ap (λ (x : SeenInclude). x.from) h)
 
 -- ---- uses that are written in imports and exports, and their paths
-same_item_uses : (a b : InterfaceItem) → see_item a ≡ see_item b → AllZip SameUse (item_uses a) (item_uses b)
-same_item_uses (interface_item.TypeDef d) (interface_item.TypeDef e) h = tt
-same_item_uses (interface_item.Use u) (interface_item.Use t) h = (let same : see_use u ≡ see_use t = cc in (same, tt))
-same_item_uses (interface_item.Func f) (interface_item.Func g) h = tt
-same_item_uses a b h = absurd (let wrong : ⊥ = cc in wrong)
+pub same_own_uses : (p q : Part) → SamePart p q → AllZip SameUse (own_uses p) (own_uses q)
+same_own_uses (UsePart u) (UsePart t) h = (h, tt)
+same_own_uses (UsePart u) q h = absurd h
+same_own_uses p (UsePart t) h = absurd h
+same_own_uses p q h = tt
 
 pub same_inline_uses : (k l : ExternKind) → SameKind k l → AllZip SameUse (inline_uses k) (inline_uses l)
-same_inline_uses (extern.Interface n is) (extern.Interface m js) h = zip_flat (λ (a b : InterfaceItem). see_item a ≡ see_item b) SameUse item_uses item_uses same_item_uses is.items js.items h.1
+same_inline_uses (extern.Interface n is) (extern.Interface m js) h = zip_flat SamePart SameUse own_uses own_uses same_own_uses (map interface_part is.items) (map interface_part js.items) (same_interface_parts is.items js.items h.1)
 same_inline_uses (extern.Interface n is) l h = absurd h
 same_inline_uses k (extern.Interface m js) h = absurd h
 same_inline_uses k l h = tt
@@ -125,29 +125,21 @@ pub record SameForeignUse (t u : ForeignUse) : Type 0 where
   pub attributes : SameAttributes t.attributes u.attributes
   pub id : SameId t.id u.id
 
-same_use_foreign : (top other : List TopName) → AllZip SameTop top other → (u t : Use) → SameUse u t → AllZip SameForeignUse (use_foreign_uses top u) (use_foreign_uses other t)
-same_use_foreign top other tops u t h =
-    zip_map (λ (n m : UseName). see_used n ≡ see_used m) SameForeignUse (use_of_foreign (path_scope top u.from) u.attributes.items) (use_of_foreign (path_scope other t.from) t.attributes.items)
-    (λ n m same. record { from = same_path_scope top other u.from t.from tops (use_from u t h); attributes = use_attributes u t h; id = ap (λ (x : UsedName). x.name) same }) u.names.items t.names.items
+same_foreign_names : (u t : Use) → SameUse u t → (a b : Target) → SameTarget a b → AllZip SameForeignUse (foreign_names u a) (foreign_names t b)
+same_foreign_names u t h (Local a) (Local b) same = tt
+same_foreign_names u t h (Foreign p a) (Foreign q b) same =
+    zip_map (λ (n m : UseName). see_used n ≡ see_used m) SameForeignUse (use_of_foreign (ForeignNamed p a.name.now) u.attributes.items) (use_of_foreign (ForeignNamed q b.name.now) t.attributes.items)
+    (λ n m one. record { from = ap₂ ForeignNamed same.0 (same_text a b same.1); attributes = use_attributes u t h; id = ap (λ (x : UsedName). x.name) one }) u.names.items t.names.items
     (zip_of see_used u.names.items t.names.items (ap (λ (x : SeenUse). x.names) h))
+same_foreign_names u t h a b same = absurd same
 
-same_part_foreign : (top other : List TopName) → AllZip SameTop top other → (p q : Part) → SamePart p q → AllZip SameForeignUse (part_foreign_uses top p) (part_foreign_uses other q)
-same_part_foreign top other tops (UsePart u) (UsePart t) h = same_use_foreign top other tops u t h
-same_part_foreign top other tops (UsePart u) q h = absurd h
-same_part_foreign top other tops p (UsePart t) h = absurd h
-same_part_foreign top other tops p q h = tt
+pub same_item_uses : (i j : Item) → SameItem i j → AllZip SameUse (all_uses i) (all_uses j)
+same_item_uses i j h = same_walk SameUse own_uses own_uses (λ (x : Extern). inline_uses x.kind) (λ (x : Extern). inline_uses x.kind) same_own_uses (λ x y one. same_inline_uses x.kind y.kind (extern_kind x y one)) (parts i) (parts j) (same_parts i j h)
 
-abbrev item_foreign : Item → List ForeignUse
-item_foreign i = filter (λ t. is_foreign t.from) (walk (part_foreign_uses i.top) (λ (x : Extern). flat_map (use_foreign_uses i.top) (inline_uses x.kind)) (parts i))
-
-same_item_foreign : (i j : Item) → SameItem i j → AllZip SameForeignUse (item_foreign i) (item_foreign j)
+same_item_foreign : (i j : Item) → SameItem i j → AllZip SameForeignUse (flat_map (λ (u : Use). foreign_names u (leads i.top u.from)) (all_uses i)) (flat_map (λ (u : Use). foreign_names u (leads j.top u.from)) (all_uses j))
 same_item_foreign i j h =
-    let externs : (x y : Extern) → see_extern x ≡ see_extern y → AllZip SameForeignUse (flat_map (use_foreign_uses i.top) (inline_uses x.kind)) (flat_map (use_foreign_uses j.top) (inline_uses y.kind)) =
-    λ x y same. zip_flat SameUse SameForeignUse (use_foreign_uses i.top) (use_foreign_uses j.top) (same_use_foreign i.top j.top h.0) (inline_uses x.kind) (inline_uses y.kind) (same_inline_uses x.kind y.kind (extern_kind x y same)) in
-    let all = same_walk SameForeignUse (part_foreign_uses i.top) (part_foreign_uses j.top) (λ (x : Extern). flat_map (use_foreign_uses i.top) (inline_uses x.kind)) (λ (x : Extern). flat_map (use_foreign_uses j.top) (inline_uses x.kind))
-    (same_part_foreign i.top j.top h.0) externs (parts i) (parts j) (same_parts i j h) in
-    zip_filter SameForeignUse (λ (t : ForeignUse). is_foreign t.from) (λ (t : ForeignUse). is_foreign t.from) (λ t u same. ap is_foreign same.from)
-    (walk (part_foreign_uses i.top) (λ (x : Extern). flat_map (use_foreign_uses i.top) (inline_uses x.kind)) (parts i)) (walk (part_foreign_uses j.top) (λ (x : Extern). flat_map (use_foreign_uses j.top) (inline_uses x.kind)) (parts j)) all
+    zip_flat SameUse SameForeignUse (λ (u : Use). foreign_names u (leads i.top u.from)) (λ (u : Use). foreign_names u (leads j.top u.from))
+    (λ u t one. same_foreign_names u t one (leads i.top u.from) (leads j.top t.from) (same_leads i.top j.top u.from t.from h.0 (use_from u t one))) (all_uses i) (all_uses j) (same_item_uses i j h)
 
 -- ---- interfaces that are written in items
 same_inline_after : (i j : Item) (before xs others ys : List SideItem) → SameItem i j → AllZip SameSide before others → AllZip SameSide xs ys → AllZip SameItem (inline_after i before xs) (inline_after j others ys)
@@ -169,7 +161,7 @@ same_with_inline i j h = (h, same_inline_items i j h)
 
 module _ (files others : List PackageFile) (h : AllZip SameFile files others) where
   pub same_foreign_uses : AllZip SameForeignUse (foreign_uses files) (foreign_uses others)
-  same_foreign_uses = zip_flat SameItem SameForeignUse item_foreign item_foreign same_item_foreign (all_items files) (all_items others) (same_all_items files others h)
+  same_foreign_uses = zip_flat SameItem SameForeignUse (λ (i : Item). flat_map (λ (u : Use). foreign_names u (leads i.top u.from)) (all_uses i)) (λ (i : Item). flat_map (λ (u : Use). foreign_names u (leads i.top u.from)) (all_uses i)) same_item_foreign (all_items files) (all_items others) (same_all_items files others h)
 
   pub same_first_uses : AllZip SameForeignUse (first_foreign_uses files) (first_foreign_uses others)
   same_first_uses = zip_firsts SameForeignUse same_foreign_use

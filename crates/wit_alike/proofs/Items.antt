@@ -43,7 +43,7 @@ same_world_part (world_item.Include i) (world_item.Include j) h = cc
 same_world_part (world_item.Extern x) (world_item.Extern y) h = cc
 same_world_part a b h = absurd (let f : ⊥ = cc in f)
 
-same_interface_parts : (is js : List InterfaceItem) → AllZip (λ (a b : InterfaceItem). see_item a ≡ see_item b) is js → AllZip SamePart (map interface_part is) (map interface_part js)
+pub same_interface_parts : (is js : List InterfaceItem) → AllZip (λ (a b : InterfaceItem). see_item a ≡ see_item b) is js → AllZip SamePart (map interface_part is) (map interface_part js)
 same_interface_parts is js h = zip_map (λ (a b : InterfaceItem). see_item a ≡ see_item b) SamePart interface_part interface_part same_interface_part is js h
 
 same_world_parts : (is js : List WorldItem) → AllZip (λ (a b : WorldItem). see_world_item a ≡ see_world_item b) is js → AllZip SamePart (map world_part is) (map world_part js)

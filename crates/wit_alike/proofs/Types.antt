@@ -1,6 +1,6 @@
 -- Written types that are alike, and their shapes.
-use Rattle.std.proofs.Common.{◌≡◌, Bool, true, false, Option, Some, None, is_some, refl, ap, ap₂, sym, ◌∙◌}
-use Rattle.wit_walk.proofs.Common.{AllZip, Both', Err', FixedLengthListForm, Held-Type-Future-1, More, Neither, None', Of, Ok', Prim, Primitive, ResultForm, ResultTypes, Row_of-Type, Shape, Shapes, Some', Span, Word, all_words, end_of-Type, err_type, more_of-Type, ok_of, ok_span, ok_type, option_map_or, result_shapes, row_shapes, shape_of, type_span, words, «Type» as Written, ⊤}
+use Rattle.std.proofs.Common.{◌≡◌, Bool, true, false, Option, Some, None, refl, ap, sym, ◌∙◌}
+use Rattle.wit_walk.proofs.Common.{AllZip, Both', Err', FixedLengthListForm, Held-Type-Future-1, More, Neither, None', Of, Ok', Prim, Primitive, ResultTypes, Row_of-Type, Shape, Shapes, Some', Span, Word, all_words, end_of-Type, more_of-Type, ok_of, ok_span, ok_type, option_map_or, row_shapes, shape_of, type_span, words, «Type» as Written, ⊤}
 use Rattle.wit_syntax.specs.Shape.{End}
 use Rattle.wit_type_tree.specs.declared.types.«Type».TheVariants as written
 use Rattle.wit_grammar.specs.Trees.{Name, Ty, result}
@@ -101,20 +101,6 @@ abbrev mutual
   SameShapes (More x xs) (More y ys) = SameShape x y × SameShapes xs ys
   SameShapes xs ys = ⊥
 
-same_ok : (of other : ResultTypes) → SameResult of other → is_some (ok_type of) ≡ is_some (ok_type other)
-same_ok Neither Neither h = refl
-same_ok (Ok' p t) (Ok' q u) h = refl
-same_ok (Err' p t) (Err' q u) h = refl
-same_ok (Both' p t q u) (Both' r v s w) h = refl
-same_ok of other h = absurd h
-
-same_err : (of other : ResultTypes) → SameResult of other → is_some (err_type of) ≡ is_some (err_type other)
-same_err Neither Neither h = refl
-same_err (Ok' p t) (Ok' q u) h = refl
-same_err (Err' p t) (Err' q u) h = refl
-same_err (Both' p t q u) (Both' r v s w) h = refl
-same_err of other h = absurd h
-
 mutual
   pub same_shape : (t u : Written) → SameType t u → SameShape (shape_of t) (shape_of u)
   same_shape (written.Primitive s p) (written.Primitive t q) h = h.1
@@ -123,7 +109,11 @@ mutual
   same_shape (written.FixedLengthList' s p t n) (written.FixedLengthList' r q u m) h = (h.0, ap FixedLengthListForm h.2, (same_shape t u h.1, tt))
   same_shape (written.Map' s p k q v) (written.Map' r o l n w) h = (h.0, refl, (same_shape k l h.1, (same_shape v w h.2, tt)))
   same_shape (written.Option' s p t) (written.Option' r q u) h = (h.0, refl, (same_shape t u h.1, tt))
-  same_shape (written.Result s of) (written.Result r other) h = (h.0, ap₂ ResultForm (same_ok of other h.1) (same_err of other h.1), same_results of other h.1)
+  same_shape (written.Result s Neither) (written.Result r Neither) h = (h.0, refl, tt)
+  same_shape (written.Result s (Ok' p t)) (written.Result r (Ok' q u)) h = (h.0, refl, (same_shape t u h.1, tt))
+  same_shape (written.Result s (Err' p t)) (written.Result r (Err' q u)) h = (h.0, refl, (same_shape t u h.1, tt))
+  same_shape (written.Result s (Both' p t q u)) (written.Result r (Both' n v m w)) h = (h.0, refl, (same_shape t v h.1.0, (same_shape u w h.1.1, tt)))
+  same_shape (written.Result s of) (written.Result r other) h = absurd h.1
   same_shape (written.Tuple' s x ts) (written.Tuple' r y us) h = (h.0, refl, same_shapes ts us h.1)
   same_shape (written.Future' s None') (written.Future' r None') h = (h.0, refl, tt)
   same_shape (written.Future' s (Some' p t)) (written.Future' r (Some' q u)) h = (h.0, refl, (same_shape t u h.1, tt))
@@ -136,13 +126,6 @@ mutual
   same_shape (written.Own s a) (written.Own r b) h = h.1
   same_shape (written.Borrow s a) (written.Borrow r b) h = (h.0, refl, (h.1, tt))
   same_shape t u h = absurd h
-
-  pub same_results : (of other : ResultTypes) → SameResult of other → SameShapes (result_shapes of) (result_shapes other)
-  same_results Neither Neither h = tt
-  same_results (Ok' p t) (Ok' q u) h = (same_shape t u h, tt)
-  same_results (Err' p t) (Err' q u) h = (same_shape t u h, tt)
-  same_results (Both' p t q u) (Both' r v s w) h = (same_shape t v h.0, (same_shape u w h.1, tt))
-  same_results of other h = absurd h
 
   pub same_shapes : {m n : _} (ts : Row_of-Type m) (us : Row_of-Type n) → SameRow ts us → SameShapes (row_shapes ts) (row_shapes us)
   same_shapes end_of-Type end_of-Type h = tt

@@ -1,6 +1,6 @@
 -- Where names end: entries of the arena end where the trees of their names do.
 use Rattle.std.proofs.Common.{◌≡◌, ℕ, zero, suc, ◌<◌, List, [], ◌∷◌, ◌++◌, length, Option, Some, None, ◌⊎◌, inl, inr, refl, sym, ap, ◌∙◌, subst, arith}
-use Rattle.wit_arena.proofs.Names.{Address, AliasForm, AreAt, AreDistinct, AtForeign, AtResource, Decls, Def, Defined, Elsewhere, EndsAt, EntryEnd, ForeignName, Form, Id, IsKeyed, IsOther, IsResource, IsUnknown, Key, None', PackageFile, Plain, Primitive, ResourceForm, ScopeName, Shape, Shapes, TypeBody, TypeDef, TypeOwner, UnknownForm, Used, Word, about_name, at_prefix, at_within, body_of, drop, entry_end, exprs_of, found_end, kind_end, kind_of, length-take-le, local_name, meaning, meant_end, name_exprs, named_end, part_end, primitive_type, scope, shape_end, slice_get, slice_get_within, take, take-append-drop, take-append-le, unwrap_or, written_body, «Type» as Written}
+use Rattle.wit_arena.proofs.Names.{Address, AliasForm, AreAt, AreDistinct, AtForeign, AtResource, Decls, Def, Defined, Elsewhere, EndsAt, EntryEnd, ForeignName, Form, Id, IsKeyed, IsOther, IsResource, IsUnknown, Key, Neither, None', PackageFile, Plain, Primitive, ResourceForm, ScopeName, Shape, Shapes, TypeBody, TypeDef, TypeOwner, UnknownForm, Used, Word, about_name, at_prefix, at_within, body_of, drop, entry_end, exprs_of, found_end, kind_end, kind_of, length-take-le, local_name, meaning, meant_end, name_exprs, named_end, part_end, primitive_type, scope, shape_end, slice_get, slice_get_within, take, take-append-drop, take-append-le, unwrap_or, «Type» as Written}
 use Rattle.wit_syntax.proofs.Common.{End, More, Prim, one}
 use Rattle.wit_type_tree.specs.declared.types.Primitive.TheVariants as primitive
 use Rattle.wit_type_tree.specs.declared.types.«Type».TheVariants as written
@@ -60,9 +60,10 @@ entry_end-more n es more i e known h = entry_end-same n es more i (entry_end-wit
 abbrev IsWord : Shapes → Type 0
 IsWord xs = ((p : Primitive) × (xs ≡ one (Prim p))) ⊎ ((id : Id) × (xs ≡ one (Word id)))
 
-alias_written : (t : Written) → (written_body t).form ≡ AliasForm → IsWord (written_body t).parts
+alias_written : (t : Written) → (body_of (Plain t)).form ≡ AliasForm → IsWord (body_of (Plain t)).parts
 alias_written (written.Primitive span p) h = inl (p, refl)
 alias_written (written.Name id) h = inr (id, refl)
+alias_written (written.Result span Neither) h = cc
 alias_written (written.Future' span None') h = cc
 alias_written (written.Stream' span None') h = cc
 alias_written _ h = cc

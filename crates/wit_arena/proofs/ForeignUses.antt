@@ -1,8 +1,8 @@
 -- The names that items use from other packages, where each is first used.
-use Rattle.std.proofs.Common.{◌≡◌, ℕ, zero, Bool, true, cond, List, [], ◌∷◌, ◌++◌, Some, Contains, inl, inr, refl, sym, ap, ◌∙◌, subst, append_assoc, ◌<◌, false, take, drop, Option, None, ◌⊎◌, arith}
-use Rattle.wit_arena.proofs.Names.{Address, AllDiffer, AreDistinct, Collects, Def, Exported, Extern, ExternPart, Foreign, ForeignName, ForeignUse, ForeignVisit, Id, Imported, InterfaceNamed, Item, Key, Local, Occurrence, PackageFile, PackageName, Part, ScopeName, Target, TopName, UseName, UsePart, WorldSide, all_items, and_from, and_parts, append-nil, at_contains, at_prefix, at_side, both_ways, bytes_eq, cases_Bool, differ_at, differ_by, filter, first_foreign_uses, firsts, firsts-more, firsts_at, firsts_differ, firsts_has, flat_map, flat_map_at, flat_map_has, foreign_interfaces, foreign_use_occurrence, foreign_uses, inline_uses, is_foreign, item_foreign_uses, kept_at, kept_differ, kept_has, keys, leads, local_name, map, map-append, map_at, map_map, name_equal, name_itself, option_map, part_foreign_uses, part_uses, parts, path_scope, same_address, same_address-equal, same_address-from, same_foreign_use, same_side, side_itself, slice_get, slice_get-map, target_scope, use_foreign_uses, use_of_foreign, used_names, uses, visited, walk, Attribute, ForeignNamed, IsOrder, Row, UsePath, Used, all_scopes, at_within, contains_at, filter-append, find_at, find_passes, if◌then◌else◌, in_order, in_order-append, include_paths, inline_items, is_world, is_world_at, item_name, item_named, item_row, item_row_at, item_rows, local_target, named_found, needed-paths, needed_paths, place_of-Some, scope_names, slice_get_within, take-append-drop, target, use_paths, with_uses}
-use Rattle.wit_syntax.proofs.Common.{Use}
-use Rattle.wit_arena.proofs.Visits.{side_has, side_at, part_use_at, use_at, used_interface_visit, AreUsableUses, use_path_at}
+use Rattle.std.proofs.Common.{◌≡◌, ℕ, Bool, true, List, [], ◌∷◌, ◌++◌, Some, Contains, inl, inr, refl, sym, ap, ◌∙◌, subst, append_assoc, ◌<◌, false, take, drop, Option, None, ◌⊎◌, arith}
+use Rattle.wit_arena.proofs.Names.{Address, AllDiffer, AreDistinct, Collects, Def, Foreign, ForeignName, ForeignUse, ForeignVisit, Id, InterfaceNamed, Item, Key, Local, Occurrence, PackageFile, PackageName, ScopeName, Target, TopName, UseName, UsePart, all_items, and_from, and_parts, append-nil, at_contains, at_prefix, both_ways, bytes_eq, differ_at, differ_by, filter, first_foreign_uses, firsts, firsts-more, firsts_at, firsts_differ, firsts_has, flat_map, flat_map_at, flat_map_has, foreign_interfaces, foreign_use_occurrence, foreign_uses, is_foreign, item_foreign_uses, kept_at, kept_differ, kept_has, keys, leads, local_name, map, map-append, map_at, map_map, name_equal, name_itself, option_map, parts, path_scope, same_address, same_address-equal, same_address-from, same_foreign_use, slice_get, slice_get-map, target_scope, use_foreign_uses, use_of_foreign, used_names, uses, visited, Attribute, ForeignNamed, IsOrder, Row, UsePath, Used, all_scopes, at_within, contains_at, filter-append, find_at, find_passes, if◌then◌else◌, in_order, in_order-append, include_paths, inline_items, is_world, is_world_at, item_name, item_named, item_row, item_row_at, item_rows, local_target, named_found, needed-paths, needed_paths, place_of-Some, scope_names, slice_get_within, take-append-drop, target, use_paths, with_uses}
+use Rattle.wit_syntax.proofs.Common.{Use, all_uses, all_uses_among, all_uses_has, foreign_uses-filtered}
+use Rattle.wit_arena.proofs.Visits.{use_at, used_interface_visit, AreUsableUses, use_path_at}
 use Rattle.wit_arena.proofs.OneKind.{same_some}
 use Rattle.wit_arena.proofs.Itemizing.{used_part, length-item_rows}
 use Rattle.wit_arena.proofs.Scoping.{row_before}
@@ -59,59 +59,21 @@ pub record IsUsedAt (files : List PackageFile) (t : ForeignUse) : Type 0 where
 
 pub used_at : (files : List PackageFile) (k : ℕ) (t : ForeignUse) → slice_get (foreign_uses files) k ≡ Some t → IsUsedAt files t
 used_at files k t at =
-    let w = flat_map_at item_foreign_uses (all_items files) k t at in
-    let top = w.1.top in
-    let ps = parts w.1 in
-    let kept = kept_at (λ (x : ForeignUse). is_foreign x.from) (walk (part_foreign_uses top) (λ (x : Extern). flat_map (use_foreign_uses top) (inline_uses x.kind)) ps) w.3.0 t w.3.1 in
-    elim (side_at (flat_map (part_foreign_uses top) ps) (λ side. flat_map (at_side (λ (x : Extern). flat_map (use_foreign_uses top) (inline_uses x.kind)) side) ps) kept.0 t kept.1) [
-      | inl own ↦ (let m = flat_map_at (part_foreign_uses top) ps own.0 t own.1 in of_part w.0 w.1 w.2 m.0 m.1 m.2 m.3.0 m.3.1 kept.2)
-      | inr inside ↦ (let m = flat_map_at (at_side (λ (x : Extern). flat_map (use_foreign_uses top) (inline_uses x.kind)) inside.0) ps inside.1 t inside.2 in of_side inside.0 w.0 w.1 w.2 m.0 m.1 m.2 m.3.0 m.3.1 kept.2)
-    ]
-  where
-    of_use : (p : ℕ) (w : Item) → slice_get (all_items files) p ≡ Some w → (u : Use) → Contains (uses w) u → (j : ℕ) → slice_get (use_foreign_uses w.top u) j ≡ Some t → is_foreign t.from ≡ true → IsUsedAt files t
-    of_use p w here u among j is foreign =
-        let n = map_at (use_of_foreign (path_scope w.top u.from) u.attributes.items) u.names.items j t is in
-        record { place = p; item = w; at = here; part = u; among = among; name = n.0; is = sym n.2; foreign = foreign }
-
-    of_part : (p : ℕ) (w : Item) → slice_get (all_items files) p ≡ Some w → (m : ℕ) (part : Part) → slice_get (parts w) m ≡ Some part → (j : ℕ) → slice_get (part_foreign_uses w.top part) j ≡ Some t → is_foreign t.from ≡ true → IsUsedAt files t
-    of_part p w here m (UsePart u) there j is foreign = of_use p w here u (use_at w m u there) j is foreign
-    of_part p w here m _ there j is foreign = absurd (let f : ⊥ = cc in f)
-
-    none_used : (j : ℕ) → slice_get [] j ≡ Some t → IsUsedAt files t
-    none_used j is = absurd (let f : ⊥ = cc in f)
-
-    of_side : (side : WorldSide) (p : ℕ) (w : Item) → slice_get (all_items files) p ≡ Some w → (m : ℕ) (part : Part) → slice_get (parts w) m ≡ Some part → (j : ℕ) → slice_get (at_side (λ (x : Extern). flat_map (use_foreign_uses w.top) (inline_uses x.kind)) side part) j ≡ Some t → is_foreign t.from ≡ true → IsUsedAt files t
-    of_side side p w here m (ExternPart x) there j is foreign = elim (cases_Bool (same_side side x.side)) [
-      | inl hit ↦ (
-          let among : slice_get (flat_map (use_foreign_uses w.top) (inline_uses x.kind)) j ≡ Some t = rw hit at is in
-          let u = flat_map_at (use_foreign_uses w.top) (inline_uses x.kind) j t among in
-          of_use p w here u.1 (part_use_at w m (ExternPart x) u.0 u.1 there u.2) u.3.0 u.3.1 foreign)
-      | inr miss ↦ none_used j (rw miss at is)
-    ]
-    of_side side p w here m _ there j is foreign = absurd (let f : ⊥ = cc in f)
-
--- what a `use` of a part takes is among what is taken in an item
-foreign_use_in : (top : List TopName) (ps : List Part) (m : ℕ) (x : Part) (i : ℕ) (u : Use) (j : ℕ) (t : ForeignUse) → slice_get ps m ≡ Some x → slice_get (part_uses x) i ≡ Some u → slice_get (use_foreign_uses top u) j ≡ Some t → (k : ℕ) × (slice_get (walk (part_foreign_uses top) (λ (x : Extern). flat_map (use_foreign_uses top) (inline_uses x.kind)) ps) k ≡ Some t)
-foreign_use_in top ps m (UsePart y) zero u j t part at takes =
-    let inner = flat_map_has (part_foreign_uses top) ps m j (UsePart y) t part (ap (λ (z : Use). slice_get (use_foreign_uses top z) j) (same_some at) ∙ takes) in
-    (inner.0, at_prefix (flat_map (part_foreign_uses top) ps) (flat_map (at_side (λ (x : Extern). flat_map (use_foreign_uses top) (inline_uses x.kind)) Imported) ps ++ flat_map (at_side (λ (x : Extern). flat_map (use_foreign_uses top) (inline_uses x.kind)) Exported) ps) inner.0 t inner.1)
-foreign_use_in top ps m (ExternPart x) i u j t part at takes =
-    let own = flat_map_has (use_foreign_uses top) (inline_uses x.kind) i j u t at takes in
-    let here : slice_get (at_side (λ (x : Extern). flat_map (use_foreign_uses top) (inline_uses x.kind)) x.side (ExternPart x)) own.0 ≡ Some t = ap (λ (b : Bool). slice_get (cond b (flat_map (use_foreign_uses top) (inline_uses x.kind)) []) own.0) (side_itself x.side) ∙ own.1 in
-    let on_side = flat_map_has (at_side (λ (x : Extern). flat_map (use_foreign_uses top) (inline_uses x.kind)) x.side) ps m own.0 (ExternPart x) t part here in
-    side_has (flat_map (part_foreign_uses top) ps) (λ side. flat_map (at_side (λ (x : Extern). flat_map (use_foreign_uses top) (inline_uses x.kind)) side) ps) x.side on_side.0 t on_side.1
-foreign_use_in top ps m _ i u j t part at takes = absurd (let f : ⊥ = cc in f)
+    let w = flat_map_at item_foreign_uses (all_items files) k t (ap (λ (l : List ForeignUse). slice_get l k) (sym (foreign_uses-filtered files)) ∙ at) in
+    let kept = kept_at (λ (x : ForeignUse). is_foreign x.from) (flat_map (use_foreign_uses w.1.top) (all_uses w.1)) w.3.0 t w.3.1 in
+    let u = flat_map_at (use_foreign_uses w.1.top) (all_uses w.1) kept.0 t kept.1 in
+    let n = map_at (use_of_foreign (path_scope w.1.top u.1.from) u.1.attributes.items) u.1.names.items u.3.0 t u.3.1 in
+    record { place = w.0; item = w.1; at = w.2; part = u.1; among = all_uses_among w.1 u.1 (contains_at (all_uses w.1) u.0 u.1 u.2); name = n.0; is = sym n.2; foreign = kept.2 }
 
 -- what is used from another package is taken
 pub foreign_use_has : (files : List PackageFile) (q : ℕ) (w : Item) (u : Use) (j : ℕ) (n : UseName) → slice_get (all_items files) q ≡ Some w → Contains (uses w) u → slice_get u.names.items j ≡ Some n → is_foreign (path_scope w.top u.from) ≡ true → (k : ℕ) × (slice_get (foreign_uses files) k ≡ Some (use_of_foreign (path_scope w.top u.from) u.attributes.items n))
 foreign_use_has files q w u j n at among name foreign =
-    let s = path_scope w.top u.from in
-    let xs = u.attributes.items in
-    let i = at_contains (uses w) u among in
-    let x = flat_map_at part_uses (parts w) i.0 u i.1 in
-    let inner = foreign_use_in w.top (parts w) x.0 x.1 x.3.0 u j (use_of_foreign s xs n) x.2 x.3.1 (slice_get-map (use_of_foreign s xs) u.names.items j ∙ ap (option_map (use_of_foreign s xs)) name) in
-    let kept = kept_has (λ (y : ForeignUse). is_foreign y.from) (walk (part_foreign_uses w.top) (λ (x : Extern). flat_map (use_foreign_uses w.top) (inline_uses x.kind)) (parts w)) inner.0 (use_of_foreign s xs n) foreign inner.1 in
-    flat_map_has item_foreign_uses (all_items files) q kept.0 w (use_of_foreign s xs n) at kept.1
+    let one = use_of_foreign (path_scope w.top u.from) u.attributes.items in
+    let i = at_contains (all_uses w) u (all_uses_has w u among) in
+    let inner = flat_map_has (use_foreign_uses w.top) (all_uses w) i.0 j u (one n) i.1 (slice_get-map one u.names.items j ∙ ap (option_map one) name) in
+    let kept = kept_has (λ (y : ForeignUse). is_foreign y.from) (flat_map (use_foreign_uses w.top) (all_uses w)) inner.0 (one n) foreign inner.1 in
+    let there = flat_map_has item_foreign_uses (all_items files) q kept.0 w (one n) at kept.1 in
+    (there.0, ap (λ (l : List ForeignUse). slice_get l there.0) (foreign_uses-filtered files) ∙ there.1)
 
 -- a scope of another package is used where a path leads there
 pub foreign_target : (t : Target) → is_foreign (target_scope InterfaceNamed t) ≡ true → (p : PackageName) × (id : Id) × (t ≡ Foreign p id)

@@ -1,6 +1,6 @@
 -- What occurs in a type without a name: forms that an unnamed type can have.
 use Rattle.std.proofs.Common.{◌≡◌, ℕ, zero, suc, List, [], ◌∷◌, map, Option, Some, None, inl, inr, subst}
-use Rattle.wit_arena.proofs.Names.{Address, Both', Defined, DefinitionPart, Err', Exprs, ExternPart, Form, FunctionPart, Id, IsAnonymousForm, Item, Neither, None', Ok', PackageFile, Part, Plain, Record, ResourceFunc, ResultTypes, Row_of-Type, ScopeName, Shape, Shapes, Some', SourceFunction, SourceParam, TypeBody, UnknownForm, Variant, Whole, Word, all_params, all_scopes, all_seen, all_shapes, at_split, body_of, case_types, definition_functions, end_of-Type, expr_of, exprs_of, extern_at, field_types, flat_map_at, functions, functions_at, head, item_at, map_at, more_of-Type, name_exprs, option_map, option_map_or, option_to_list, part_functions, parts, resource_function, result_shapes, row_shapes, seen, self_param, shape_of, signature, slice_get, written_body, written_param, «Type» as Written}
+use Rattle.wit_arena.proofs.Names.{Address, Both', Defined, DefinitionPart, Err', Exprs, ExternPart, Form, FunctionPart, Id, IsAnonymousForm, Item, Neither, None', Ok', PackageFile, Part, Plain, Record, ResourceFunc, Row_of-Type, ScopeName, Shape, Shapes, Some', SourceFunction, SourceParam, TypeBody, UnknownForm, Variant, Whole, Word, all_params, all_scopes, all_seen, all_shapes, at_split, body_of, case_types, definition_functions, end_of-Type, expr_of, exprs_of, extern_at, field_types, flat_map_at, functions, functions_at, head, item_at, map_at, more_of-Type, name_exprs, option_map, option_map_or, option_to_list, part_functions, parts, resource_function, row_shapes, seen, self_param, shape_of, signature, slice_get, written_param, «Type» as Written}
 use Rattle.wit_syntax.proofs.Common.{Param}
 use Rattle.wit_type_tree.specs.declared.types.TypeBody.TheVariants as body
 use Rattle.wit_type_tree.specs.declared.types.ResourceFunc.TheVariants as resource
@@ -28,19 +28,16 @@ mutual
   written_anonymous (written.FixedLengthList' span p t size) = (tt, (written_anonymous t, tt))
   written_anonymous (written.Map' span p key q value) = (tt, (written_anonymous key, (written_anonymous value, tt)))
   written_anonymous (written.Option' span p t) = (tt, (written_anonymous t, tt))
-  written_anonymous (written.Result span of) = (tt, result_anonymous of)
+  written_anonymous (written.Result span Neither) = (tt, tt)
+  written_anonymous (written.Result span (Ok' p t)) = (tt, (written_anonymous t, tt))
+  written_anonymous (written.Result span (Err' p t)) = (tt, (written_anonymous t, tt))
+  written_anonymous (written.Result span (Both' p t q u)) = (tt, (written_anonymous t, (written_anonymous u, tt)))
   written_anonymous (written.Tuple' span shape ts) = (tt, row_anonymous ts)
   written_anonymous (written.Future' span None') = (tt, tt)
   written_anonymous (written.Future' span (Some' p t)) = (tt, (written_anonymous t, tt))
   written_anonymous (written.Stream' span None') = (tt, tt)
   written_anonymous (written.Stream' span (Some' p t)) = (tt, (written_anonymous t, tt))
   written_anonymous _ = tt
-
-  result_anonymous : (of : ResultTypes) → AllAnonymous (result_shapes of)
-  result_anonymous Neither = tt
-  result_anonymous (Ok' p t) = (written_anonymous t, tt)
-  result_anonymous (Err' p t) = (written_anonymous t, tt)
-  result_anonymous (Both' p t q u) = (written_anonymous t, (written_anonymous u, tt))
 
   row_anonymous : {m : _} (ts : Row_of-Type m) → AllAnonymous (row_shapes ts)
   row_anonymous end_of-Type = tt
@@ -54,14 +51,11 @@ head_anonymous : (x : Shape) → AreAnonymous x → AllAnonymous (head x).parts
 head_anonymous (shape.Of span form parts) h = h.1
 head_anonymous _ h = (tt, tt)
 
-written_body_anonymous : (t : Written) → AllAnonymous (written_body t).parts
-written_body_anonymous (written.Own span id) = (tt, tt)
-written_body_anonymous t = head_anonymous (shape_of t) (written_anonymous t)
-
 body_anonymous : (b : TypeBody) → AllAnonymous (body_of b).parts
 body_anonymous (Record span fields) = all_anonymous_shapes (field_types fields.items)
 body_anonymous (Variant span cases) = all_anonymous_shapes (case_types cases.items)
-body_anonymous (Plain t) = written_body_anonymous t
+body_anonymous (Plain (written.Own span id)) = (tt, tt)
+body_anonymous (Plain t) = head_anonymous (shape_of t) (written_anonymous t)
 body_anonymous _ = tt
 
 -- what a definition says is known
@@ -69,12 +63,9 @@ head_known : (x : Shape) → AreAnonymous x → (head x).form ≡ UnknownForm �
 head_known (shape.Of span form parts) a h = subst IsAnonymousForm h a.0
 head_known _ a h = cc
 
-written_known : (t : Written) → (written_body t).form ≡ UnknownForm → ⊥
-written_known (written.Own span id) h = let f : ⊥ = cc in f
-written_known t h = head_known (shape_of t) (written_anonymous t) h
-
 pub body_known : (b : TypeBody) → (body_of b).form ≡ UnknownForm → ⊥
-body_known (Plain t) h = written_known t h
+body_known (Plain (written.Own span id)) h = cc
+body_known (Plain t) h = head_known (shape_of t) (written_anonymous t) h
 body_known _ h = cc
 
 -- what occurs in such types has such a form

@@ -1,7 +1,7 @@
 -- Written types by their parts: the shapes of these, and the names in them.
-use Rattle.std.proofs.Common.{◌≡◌, List, [], ◌∷◌, ◌++◌, refl, sym, ap, ◌∙◌, append_assoc, Vec, ℕ, suc, ◌+◌, false, length, map, Some, inl, inr, subst, arith, length-append}
-use Rattle.wit_arena.proofs.Names.{Address, Both', Err', Global, Id, Neither, None', Ok', ResultTypes, Row_of-Type, Shape, Shapes, Some', Span, Stability, all_handles, all_shapes, all_words, append-nil, end_of-Type, expr_of, exprs_of, handles, head, joined, more_of-Type, part_types, result_shapes, result_types, row_handles, row_shapes, row_types, shape_occurrences, shape_of, shapes_occurrences, tuple_types, words, «Type» as Written, AddsFunctions, AddsInterface, AddsSides, AllDiffer, AreEnded, AreRequired, Collects, Decls, Extern, Function, Interface, InterfaceItem, Item, Key, Link, Names, Occurrence, PackageFile, Required, ResolvedScope, ScopeName, SideFunction, SideInline, SideItem, SideLink, SourceFunction, Turned, TypeDef, address, after_one, all_function_occurrences, all_types, at_back, at_either, at_prefix, at_seam, differ_head, differ_tail, env_of, flat_map, functions, functions_at, functions_imported, in_turn, interface_functions, is_world, item_function, item_inline, keys, map-append, scope, scope_names, slice_get, turn_handles, turn_occurrences, written_types}
-use Rattle.wit_syntax.proofs.Common.{More, Of, Prim}
+use Rattle.std.proofs.Common.{◌≡◌, List, [], ◌∷◌, ◌++◌, refl, sym, ap, ◌∙◌, append_assoc, Vec, ℕ, suc, ◌+◌, false, length, map, Some, inl, inr, subst, arith, length-append, is_some}
+use Rattle.wit_arena.proofs.Names.{Address, Both', Err', Global, Id, Neither, None', Ok', ResultTypes, Row_of-Type, Shape, Shapes, Some', Span, Stability, all_handles, all_shapes, all_words, append-nil, end_of-Type, expr_of, exprs_of, handles, head, joined, more_of-Type, ok_type, part_types, result_types, row_handles, row_shapes, row_types, shape_occurrences, shape_of, shapes_occurrences, tuple_types, words, «Type» as Written, AddsFunctions, AddsInterface, AddsSides, AllDiffer, AreEnded, AreRequired, Collects, Decls, Extern, Function, Interface, InterfaceItem, Item, Key, Link, Names, Occurrence, PackageFile, Required, ResolvedScope, ResultForm, ScopeName, SideFunction, SideInline, SideItem, SideLink, SourceFunction, Turned, TypeDef, address, after_one, all_function_occurrences, all_types, at_back, at_either, at_prefix, at_seam, differ_head, differ_tail, env_of, flat_map, functions, functions_at, functions_imported, in_turn, interface_functions, is_world, item_function, item_inline, keys, map-append, scope, scope_names, slice_get, turn_handles, turn_occurrences, written_types}
+use Rattle.wit_syntax.proofs.Common.{More, Of, Prim, err_type}
 use Rattle.wit_syntax.specs.Shape.{End}
 use Rattle.wit_arena.proofs.Ordered.{Ordered, turned, side_turns}
 use Rattle.wit_arena.proofs.DoneWorlds.{defines_wider}
@@ -21,9 +21,9 @@ pub row_shapes-all : {m : _} (ts : Row_of-Type m) → row_shapes ts ≡ all_shap
 row_shapes-all end_of-Type = refl
 row_shapes-all (more_of-Type t rest) = ap (More (shape_of t)) (row_shapes-all rest)
 
-pub result_shapes-all : (of : ResultTypes) → result_shapes of ≡ all_shapes (result_types of)
-result_shapes-all Neither = refl
-result_shapes-all _ = refl
+pub result_shape : (span : Span) (of : ResultTypes) → shape_of (written.Result span of) ≡ Of span (ResultForm (is_some (ok_type of)) (is_some (err_type of))) (all_shapes (result_types of))
+result_shape span Neither = refl
+result_shape span _ = refl
 
 -- the parts of a shape
 abbrev pub inner : Shape → Shapes
@@ -37,7 +37,7 @@ IsOfTypes t = Unit {0}
 
 -- the parts of a type's shape are the shapes of its parts
 pub inner-parts : (t : Written) → IsOfTypes t → inner (shape_of t) ≡ all_shapes (part_types t)
-inner-parts (written.Result span of) h = result_shapes-all of
+inner-parts (written.Result span of) h = ap inner (result_shape span of)
 inner-parts (written.Tuple' span shape ts) h = row_shapes-all ts
 inner-parts (written.Borrow span id) h = absurd h
 inner-parts (written.Future' span None') h = refl

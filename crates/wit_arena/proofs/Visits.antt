@@ -164,19 +164,10 @@ path_visited files q w m x attributes world from p id at part visits lead = path
     let inner = flat_map_has part_visits (parts w) m 0 x v part (ap (λ (l : List ForeignVisit). slice_get l 0) visits ∙ first) in
     (inner.0, at_prefix (flat_map part_visits (parts w)) (flat_map (at_side extern_visits Imported) (parts w) ++ flat_map (at_side extern_visits Exported) (parts w)) inner.0 v inner.1))) lead
 
--- what means a side comes after a prefix, and the other way round
+-- what means a side comes after a prefix
 pub side_has : {Y : Type 0} (prefix : List Y) (of : WorldSide → List Y) (side : WorldSide) (j : ℕ) (y : Y) → slice_get (of side) j ≡ Some y → (k : ℕ) × (slice_get (prefix ++ (of Imported ++ of Exported)) k ≡ Some y)
 side_has prefix of Imported j y at = (length prefix + j, at_back prefix (of Imported ++ of Exported) j y (at_prefix (of Imported) (of Exported) j y at))
 side_has prefix of Exported j y at = (length prefix + (length (of Imported) + j), at_back prefix (of Imported ++ of Exported) (length (of Imported) + j) y (at_back (of Imported) (of Exported) j y at))
-
-pub side_at : {Y : Type 0} (prefix : List Y) (of : WorldSide → List Y) (k : ℕ) (y : Y) → slice_get (prefix ++ (of Imported ++ of Exported)) k ≡ Some y → ((j : ℕ) × (slice_get prefix j ≡ Some y)) ⊎ ((side : WorldSide) × (j : ℕ) × (slice_get (of side) j ≡ Some y))
-side_at prefix of k y at = elim (at_part prefix (of Imported ++ of Exported) k y at) [
-  | inl own ↦ inl own
-  | inr rest_after ↦ elim (at_part (of Imported) (of Exported) rest_after.0 y rest_after.1) [
-    | inl imported ↦ inr (Imported, imported.0, imported.1)
-    | inr exported ↦ inr (Exported, exported.0, exported.1)
-  ]
-]
 
 -- the visit of a `use` of a part is one of the item's
 use_visited : (ps : List Part) (m : ℕ) (x : Part) (j : ℕ) (u : Use) (v : ForeignVisit) → slice_get ps m ≡ Some x → slice_get (part_uses x) j ≡ Some u → slice_get (path_visits u.attributes.items false u.from) 0 ≡ Some v → (n : ℕ) × (slice_get (walk part_visits extern_visits ps) n ≡ Some v)

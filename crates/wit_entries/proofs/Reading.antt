@@ -1,6 +1,6 @@
 -- Written types whose parts are resolved: as they are in a type, and under a name.
 use Rattle.std.proofs.Common.{◌≡◌, ℕ, List, [], ◌∷◌, ◌++◌, Some, refl, sym, subst}
-use Rattle.wit_arena.proofs.Common.{AliasForm, AreResolved, Env, Id as Name, IsAnonymousForm, IsInterned, Shape, Span, Stability, TypeDef, TypeDefKind, Word, all_exprs-append, all_occurrences-append, append-nil, expr_of, head, shape_occurrences, shape_of, written_body, «Type» as Written}
+use Rattle.wit_arena.proofs.Common.{AliasForm, AreResolved, Env, Id as Name, IsAnonymousForm, IsInterned, Shape, Span, Stability, TypeDef, TypeDefKind, Word, all_exprs-append, all_occurrences-append, append-nil, expr_of, head, shape_occurrences, shape_of, «Type» as Written, Plain, body_of}
 use Rattle.wit_walk.proofs.Common.{Of, Prim, one}
 use Rattle.wit_syntax.specs.Shape.{Body}
 use Rattle.wit_types.specs.declared.types.«Type».{«Type» as Ty}
@@ -46,9 +46,9 @@ IsOwn (written.Own span id) = Unit {0}
 IsOwn t = ⊥
 
 -- every other type than one that is handed over is under a name as it does by itself
-plain_body : (t : Written) → (IsOwn t → ⊥) → written_body t ≡ head (shape_of t)
+plain_body : (t : Written) → (IsOwn t → ⊥) → body_of (Plain t) ≡ head (shape_of t)
 plain_body (written.Own span id) other = absurd (other tt)
 plain_body t other = refl
 
-pub plain_kind : (old new : List TypeDef) (env : Env) (given : Stability) (t : Written) (r : Reading) → (IsOwn t → ⊥) → IsRead old new env given (shape_of t) r → IsKindOf old new env given (written_body t) (named_kind r)
+pub plain_kind : (old new : List TypeDef) (env : Env) (given : Stability) (t : Written) (r : Reading) → (IsOwn t → ⊥) → IsRead old new env given (shape_of t) r → IsKindOf old new env given (body_of (Plain t)) (named_kind r)
 plain_kind old new env given t r other read = subst (λ (b : Body). IsKindOf old new env given b (named_kind r)) (sym (plain_body t other)) (read_kind old new env given (shape_of t) r read)

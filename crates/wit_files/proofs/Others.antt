@@ -1,6 +1,6 @@
 -- Paths with a package among those of files, and the items of other packages by their keys.
 use Rattle.std.proofs.Common.{◌≡◌, ◌||◌, ◌&&◌, Bool, true, false, not, cond, length, List, [], ◌∷◌, ◌++◌, ◌+◌, map, Option, Some, None, inl, inr, refl, sym, ap, ◌∙◌}
-use Rattle.wit_syntax.proofs.Common.{Address, AstItem, Attribute, Exported, ExternKind, ForeignVisit, Id, Imported, InterfaceItem, PackageFile, Part, Use, WorldItem, WorldSide, any_found, append-nil, at_side, both_ways, bytes_eq, cases_Bool, cond-false, cond-true, declaration_visits, extern_paths, extern_visits, firsts, firsts-more, firsts_at, firsts_has, flat_map, flat_map-append, inline_uses, insert_key, interface_part, item_uses, keys_of, length-map, list_any, map-append, map_at, nat_lt, option_eq, option_map, part_visits as the_part_visits, path_visits, position, prefix_len, same_address, same_address-equal, same_address-from, same_item, same_side, same_version, slice_get-map, visited, world_part}
+use Rattle.wit_syntax.proofs.Common.{Address, AstItem, Attribute, Exported, ExternKind, ForeignVisit, Id, Imported, InterfaceItem, PackageFile, Part, Use, WorldItem, WorldSide, any_found, append-nil, at_side, both_ways, bytes_eq, cases_Bool, cond-false, cond-true, declaration_visits, extern_paths, extern_visits, firsts, firsts-more, firsts_at, firsts_has, flat_map, flat_map-append, inline_uses, insert_key, interface_part, keys_of, length-map, list_any, map-append, map_at, nat_lt, option_eq, option_map, part_visits as the_part_visits, path_visits, position, prefix_len, same_address, same_address-equal, same_address-from, same_item, same_side, same_version, slice_get-map, visited, world_part, own_uses}
 use Rattle.wit_tree.specs.declared.tree.ExternKind.TheVariants as extern
 use Rattle.wit_tree.specs.declared.tree.InterfaceItem.TheVariants as interface_item
 use Rattle.wit_tree.specs.declared.tree.WorldItem.TheVariants as world_item
@@ -41,18 +41,18 @@ of_world_part owner (world_item.Include i) = append-nil (path_visits i.attribute
 abbrev of_use : Use → List ForeignVisit
 of_use u = path_visits u.attributes.items false u.from
 
-of_inline_part : (p : InterfaceItem) → flat_map foreign_of (part_visits None p) ≡ flat_map of_use (item_uses p)
+of_inline_part : (p : InterfaceItem) → flat_map foreign_of (part_visits None p) ≡ flat_map of_use (own_uses (interface_part p))
 of_inline_part (interface_item.TypeDef d) = refl
 of_inline_part (interface_item.Use u) = refl
 of_inline_part (interface_item.Func f) = refl
 
-of_inline : (ps : List InterfaceItem) → flat_map foreign_of (flat_map (part_visits None) ps) ≡ flat_map of_use (flat_map item_uses ps)
+of_inline : (ps : List InterfaceItem) → flat_map foreign_of (flat_map (part_visits None) ps) ≡ flat_map of_use (flat_map own_uses (map interface_part ps))
 of_inline ps =
-    let each : InterfaceItem → List ForeignVisit = λ p. flat_map of_use (item_uses p) in
-    flat_inside foreign_of (part_visits None) each of_inline_part ps ∙ sym (flat_inside of_use item_uses each (λ p. refl) ps)
+    let each : InterfaceItem → List ForeignVisit = λ p. flat_map of_use (own_uses (interface_part p)) in
+    flat_inside foreign_of (part_visits None) each of_inline_part ps ∙ flat_mapped (λ q. flat_map of_use (own_uses q)) interface_part ps ∙ sym (flat_inside of_use own_uses (λ q. flat_map of_use (own_uses q)) (λ q. refl) (map interface_part ps))
 
 of_kind : (attributes : List Attribute) (kind : ExternKind) → flat_map foreign_of (kind_visits attributes kind) ≡ flat_map of_use (inline_uses kind) ++ flat_map (path_visits attributes false) (extern_paths kind)
-of_kind attributes (extern.Interface name items) = of_inline items.items ∙ sym (append-nil (flat_map of_use (flat_map item_uses items.items)))
+of_kind attributes (extern.Interface name items) = of_inline items.items ∙ sym (append-nil (flat_map of_use (flat_map own_uses (map interface_part items.items))))
 of_kind attributes (extern.Path path) = refl
 of_kind attributes (extern.Func name f) = refl
 of_kind attributes (extern.NamedPath name path) = refl

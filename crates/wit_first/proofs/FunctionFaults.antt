@@ -1,6 +1,6 @@
 -- The first fault of what a function is given, and of what it gives, is a broken rule; and where there is none, no rule is broken.
 use Rattle.std.proofs.Common.{◌≡◌, ◌⊎◌, Bool, true, false, List, [], ◌∷◌, length, Option, Some, None, inl, inr, refl, sym, ap, ◌∙◌, subst, arith}
-use Rattle.wit_syntax.proofs.Common.{Constructor, Fault, Freestanding, FuncForm, Id, IsConstructorOfOther, IsConstructorWithoutResult, IsGetterGiven, IsGetterWithoutResult, IsSetterGiven, IsSetterWithResult, IsWrittenAs, Method, None', OnSide, Param, Role, ScopeName, Some', SourceFunction, Span, Static, Word, bytes_eq, fault, name_equal, name_itself, ok_span, option_map_or, result_ok, slice_get, type_span, «Type» as Written}
+use Rattle.wit_syntax.proofs.Common.{Both', Constructor, Err', Fault, Freestanding, FuncForm, Id, IsConstructorOfOther, IsConstructorWithoutResult, IsGetterGiven, IsGetterWithoutResult, IsSetterGiven, IsSetterWithResult, IsWrittenAs, Method, Neither, None', Ok', OnSide, Param, Role, ScopeName, Some', SourceFunction, Span, Static, Word, bytes_eq, fault, name_equal, name_itself, ok_span, option_map_or, result_ok, slice_get, type_span, «Type» as Written}
 use Rattle.wit_type_tree.specs.declared.types.FuncForm.TheVariants as form
 use Rattle.wit_type_tree.specs.declared.types.«Type».TheVariants as written
 use Rattle.wit_first.specs.FunctionFaults.{params_fault, given_fault, getter_fault, setter_fault, is_written_as, made_fault, result_fault}
@@ -95,7 +95,10 @@ is_written id (written.List' span p t) h = (let wrong = h.1 in absurd (let g : �
 is_written id (written.FixedLengthList' span p t size) h = (let wrong = h.1 in absurd (let g : ⊥ = cc in g))
 is_written id (written.Map' span p key q value) h = (let wrong = h.1 in absurd (let g : ⊥ = cc in g))
 is_written id (written.Option' span p t) h = (let wrong = h.1 in absurd (let g : ⊥ = cc in g))
-is_written id (written.Result span of) h = (let wrong = h.1 in absurd (let g : ⊥ = cc in g))
+is_written id (written.Result span Neither) h = (let wrong = h.1 in absurd (let g : ⊥ = cc in g))
+is_written id (written.Result span (Ok' p t)) h = (let wrong = h.1 in absurd (let g : ⊥ = cc in g))
+is_written id (written.Result span (Err' p t)) h = (let wrong = h.1 in absurd (let g : ⊥ = cc in g))
+is_written id (written.Result span (Both' p t q u)) h = (let wrong = h.1 in absurd (let g : ⊥ = cc in g))
 is_written id (written.Tuple' span shape ts) h = (let wrong = h.1 in absurd (let g : ⊥ = cc in g))
 is_written id (written.Future' span None') h = (let wrong = h.1 in absurd (let g : ⊥ = cc in g))
 is_written id (written.Future' span (Some' p t)) h = (let wrong = h.1 in absurd (let g : ⊥ = cc in g))

@@ -2,6 +2,7 @@
 use Rattle.std.proofs.Common.{◌≡◌, ℕ, zero, suc, List, [], ◌∷◌, Option, Some, None, refl, sym, ap, ◌∙◌, subst, Vec}
 use Rattle.wit_syntax.proofs.Common.{Both', Err', Fault, Global, Id, Neither, None', Ok', ResultTypes, Row_of-Type, Some', Span, Tuple, end_of-Type, more_of-Type, option_or, part_types, result_types, row_types, slice_get, tuple_types, «Type» as Written}
 use Rattle.wit_type_tree.specs.declared.types.«Type».TheVariants as written
+use Rattle.wit_syntax.specs.Fault.{fault}
 use Rattle.wit_first.specs.First.{first_in}
 use Rattle.wit_first.specs.KeyFaults.{key_fault}
 use Rattle.wit_first.specs.ListFaults.{empty_fault}
@@ -67,9 +68,13 @@ of_result word handle span (Ok' p t) = only (type_fault word handle t)
 of_result word handle span (Err' p t) = only (type_fault word handle t)
 of_result word handle span (Both' p t q u) = both (type_fault word handle t) (type_fault word handle u)
 
-of_row : (word handle : Id → Option Fault) {m : _} (ts : Row_of-Type m) → row_fault word handle ts ≡ first_in (type_fault word handle) (row_types ts)
+of_row : (word handle : Id → Option Fault) {m : _} (ts : Row_of-Type m) → row_fault word handle None ts ≡ first_in (type_fault word handle) (row_types ts)
 of_row word handle end_of-Type = refl
 of_row word handle (more_of-Type t rest) = ap (option_or (type_fault word handle t)) (of_row word handle rest)
+
+of_tuple : (word handle : Id → Option Fault) (span : Span) {m : _} (ts : Row_of-Type m) → row_fault word handle (Some (fault 22 span)) ts ≡ option_or (empty_fault 22 (row_types ts) span) (option_or (first_in (type_fault word handle) (row_types ts)) None)
+of_tuple word handle span end_of-Type = refl
+of_tuple word handle span (more_of-Type t rest) = of_row word handle (more_of-Type t rest) ∙ sym (or_none (first_in (type_fault word handle) (row_types (more_of-Type t rest))))
 
 -- the first fault of a type: one that is looked at before its parts, or theirs, or one after them
 pub fault_parts : (word handle : Id → Option Fault) (t : Written) → type_fault word handle t ≡ option_or (prefix_fault word handle t) (option_or (first_in (type_fault word handle) (part_types t)) (back_fault t))
@@ -80,7 +85,7 @@ fault_parts word handle (written.FixedLengthList' span p t size) = only (type_fa
 fault_parts word handle (written.Map' span p key q value) = two (type_fault word handle key) (type_fault word handle value) (key_fault key span)
 fault_parts word handle (written.Option' span p t) = only (type_fault word handle t)
 fault_parts word handle (written.Result span of) = of_result word handle span of
-fault_parts word handle (written.Tuple' span shape ts) = ap (option_or (empty_fault 22 (row_types ts) span)) (of_row word handle ts ∙ sym (or_none (first_in (type_fault word handle) (row_types ts))))
+fault_parts word handle (written.Tuple' span shape ts) = of_tuple word handle span ts
 fault_parts word handle (written.Future' span None') = refl
 fault_parts word handle (written.Future' span (Some' p t)) = only (type_fault word handle t)
 fault_parts word handle (written.Stream' span None') = refl

@@ -2,15 +2,12 @@
 use Rattle.std.specs.Prelude.{Bool, true, false, List, Option, None, Some}
 use Rattle.std.specs.Option.{option_or}
 use Rattle.wit_type_tree.specs.declared.leaves.Id.{Id}
-use Rattle.wit_tree.specs.declared.tree.Extern.{Extern}
 use Rattle.wit_tree.specs.declared.tree.Use.{Use}
 use Rattle.wit_tree.specs.declared.tree.UsePath.{UsePath}
 use Rattle.wit_tree.specs.declared.tree.PackageFile.{PackageFile}
 use Rattle.wit_syntax.specs.Broken.{is_world_at}
-use Rattle.wit_syntax.specs.ExternPart.{inline_uses}
 use Rattle.wit_syntax.specs.Fault.{Fault, world_there}
-use Rattle.wit_syntax.specs.ScopeTables.{own_uses}
-use Rattle.wit_syntax.specs.Source.{TopName, path_id, leads, Item, parts, all_items, walk}
+use Rattle.wit_syntax.specs.Source.{TopName, path_id, leads, Item, all_items, all_uses}
 use Rattle.wit_first.specs.AttributeFaults.{metadata_fault}
 use Rattle.wit_first.specs.FileFaults.{lost_fault}
 use Rattle.wit_first.specs.First.{first_in}
@@ -28,9 +25,9 @@ path_fault files top from there = reached_fault (is_world_at files (leads top fr
 abbrev pub use_fault : List PackageFile → List TopName → Use → Option Fault
 use_fault files top u = option_or (metadata_fault u.attributes.items) (path_fault files top u.from None)
 
--- of an item: first its own uses, then those in interfaces that it imports, and then those in interfaces that it exports
+-- of the uses of an item
 abbrev pub item_uses_fault : List PackageFile → Item → Option Fault
-item_uses_fault files i = first_in (use_fault files i.top) (walk own_uses (λ (x : Extern). inline_uses x.kind) (parts i))
+item_uses_fault files i = first_in (use_fault files i.top) (all_uses i)
 
 -- of all items, in push order and then in source order
 abbrev pub all_uses_fault : List PackageFile → Option Fault

@@ -3,7 +3,7 @@ ghost use Rattle.std.specs.Prelude.{◌≡◌, ◌∷◌, ◌<◌, All, Some, []
 ghost use Rattle.std.specs.Cmp.Lexicographic.{pointwise};
 ghost use Rattle.std.specs.List.{flat_map};
 ghost use Rattle.indexmap.specs.IndexMap.{insert_entry};
-ghost use Rattle.wit_syntax.specs.Source.{use_of_foreign};
+ghost use Rattle.wit_syntax.specs.Shorthand.{use_of_foreign};
 ghost use Rattle.wit_files.specs.ForeignPaths.{foreign_view};
 ghost use Rattle.wit_scopes.specs.BorrowedNames.{name_view, IsNamePlaced, AreNamesPlaced};
 ghost use Rattle.wit_items.specs.BorrowedItems.{ArePlacedInside, IsItemPlaced};

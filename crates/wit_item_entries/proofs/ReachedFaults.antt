@@ -2,7 +2,7 @@
 use Rattle.std.proofs.Common.{◌≡◌, ℕ, true, List, [], ◌++◌, map, Option, Some, None, refl, sym, ap, ◌∙◌, is_none, zero, suc, ◌∷◌, length, Bool, false, ◌||◌, nat_eq, inl, inr, Contains, ◌+◌, cond, take, subst, arith, append_assoc, zero-add, suc-add, ◌⊎◌}
 use mathlib.Core.Path.{fun_ext}
 use Rattle.std.specs.Prelude.{is_some}
-use Rattle.wit_items.proofs.Common.{Id, Name, Names, Required, ResolvedScope, ScopeName, SourceFunction, TypeDef, TypeOwner, WorldSide, bytes_eq, env_of, find_some, if◌then◌else◌, in_turn, in_turn_among, local_id, local_name, local_names, lookup-place, lost_word, map_at, map_map, meaning, name_itself, names_in, names_on, option_map, slice_get, slice_get-map, word_fault, Address, AreFound, Interface, InterfaceNamed, IsFound, found_resolved_scope, interface_name, resolved_scope_at, resolved_scopes, Fault, IsPlaced, Source as BorrowedSource, UsedName, any_found, any_some, at_contains, contains_at, false_from_ne_true, function_used, list_any, missing_at, name_cases, name_equal, name_twice, name_word, option_and_then, option_map_or, option_or, pointwise, prefix_of, resolved_scopes_of, source_target, source_view, unresolved_fault, use_view, AllDiffer, AreEnded, Defined, ForeignName, IsStored, Used, all_handles, all_handles-append, append-nil, at_back, at_prefix, at_split, at_take, body_types, defined, ended_append, ended_more, flat_map, flat_map-append, in_order, lookup-insert_entry, map-append, name_types, names-insert_entry, slice_get_within, used, AreDistinct, AtCycle, AtMissing, Defines, Env, Err, Finds, HasNames, InOrder, IsAllocationFailure, IsOrder, IsOutcome, Ok, Outcome, ParseError, Plain, Record, Reports, Result, TypeBody, Variant, all_shapes, all_words, body_of, cyclic_at, defines_more, definition_fault as scope_definition_fault, fault_of, finds_same, first_in, list_fault, local_names_fault, metadata_fault, missing_type_at, none_both, or_none_both, order_fault, order_of, outcome_one, rows_of, shape_of, type_fault, type_kept, type_word, words, words-head, written_body, «Type» as Written}
+use Rattle.wit_items.proofs.Common.{Id, Name, Names, Required, ResolvedScope, ScopeName, SourceFunction, TypeDef, TypeOwner, WorldSide, bytes_eq, env_of, find_some, if◌then◌else◌, in_turn, in_turn_among, local_id, local_name, local_names, lookup-place, lost_word, map_at, map_map, meaning, name_itself, names_in, names_on, option_map, slice_get, slice_get-map, word_fault, Address, AreFound, Interface, InterfaceNamed, IsFound, found_resolved_scope, interface_name, resolved_scope_at, resolved_scopes, Fault, IsPlaced, Source as BorrowedSource, UsedName, any_found, any_some, at_contains, contains_at, false_from_ne_true, function_used, list_any, missing_at, name_cases, name_equal, name_twice, name_word, option_and_then, option_map_or, option_or, pointwise, prefix_of, resolved_scopes_of, source_target, source_view, unresolved_fault, use_view, AllDiffer, AreEnded, Defined, ForeignName, IsStored, Used, all_handles, all_handles-append, append-nil, at_back, at_prefix, at_split, at_take, body_types, defined, ended_append, ended_more, flat_map, flat_map-append, in_order, lookup-insert_entry, map-append, name_types, names-insert_entry, slice_get_within, used, AreDistinct, AtCycle, AtMissing, Defines, Env, Err, Finds, HasNames, InOrder, IsAllocationFailure, IsOrder, IsOutcome, Ok, Outcome, ParseError, Plain, Record, Reports, Result, TypeBody, Variant, all_shapes, all_words, body_of, cyclic_at, defines_more, definition_fault as scope_definition_fault, fault_of, finds_same, first_in, list_fault, local_names_fault, metadata_fault, missing_type_at, none_both, or_none_both, order_fault, order_of, outcome_one, rows_of, shape_of, type_fault, type_kept, type_word, words, words-head, «Type» as Written}
 use Rattle.wit_arena.proofs.Meant.{free_unmeant}
 use Rattle.wit_sides.specs.SideNames.{defined_on}
 use Rattle.wit_sides.specs.declared.sides.Sides.{Sides}
@@ -239,7 +239,7 @@ module _ (env : Env) (es : List TypeDef) (handle : Id → Option Fault) where
   abbrev pub AreMeant : List Id → Type 0
   AreMeant ids = (id : Id) → Contains ids id → (place : ℕ) × (env id.name.now ≡ Some place)
 
-  words_written : (t : Written) → all_words (written_body t).parts ≡ words (shape_of t)
+  words_written : (t : Written) → all_words (body_of (Plain t)).parts ≡ words (shape_of t)
   words_written (written.Own span id) = refl
   words_written t = words-head (shape_of t)
 

@@ -1,6 +1,6 @@
 -- The paths of uses, part by part.
 use Rattle.std.proofs.Common.{◌≡◌, ℕ, zero, suc, List, [], ◌∷◌, ◌++◌, Some, sym, ap, ◌∙◌, arith, Contains, Bool, cond, inl, inr, refl, None, true, false, Option, subst}
-use Rattle.wit_arena.proofs.Common.{Declared, DefinitionPart, ExternPart, FunctionPart, IncludePart, PackageFile, Part, UsePart, UsePath, about, at_contains, at_prefix, contains_at, extern_paths, flat_map, flat_map_at, flat_map_has, inline_uses, map, map-append, option_map, part_uses, parts, slice_get, slice_get-map, use_path, ExternKind, InterfaceItem, ScopeName, SideFunction, SideItem, SourceFunction, TopName, WorldSide, append-nil, cases_Bool, definition_functions, extern_items, filter-append, flat_map-append, free_function, interface_part, item_side, item_uses, items_on, own_uses, part_items, part_names, same_side, Exported, Extern, Imported, Item, TheInterface, option_or, side_itself, walk, AreUsableUses, Foreign, ForeignNamed, ForeignVisit, Id, Local, PackageName, Target, all_items, declared_items, file_items, foreign_at, is_world, is_world_at, item_named, item_word, leads, missing_at, path_id, slice_get_within, top_names}
+use Rattle.wit_arena.proofs.Common.{Declared, DefinitionPart, ExternPart, FunctionPart, IncludePart, PackageFile, Part, UsePart, UsePath, about, at_contains, at_prefix, contains_at, extern_paths, flat_map, flat_map_at, flat_map_has, inline_uses, map, map-append, option_map, part_uses, parts, slice_get, slice_get-map, use_path, ExternKind, InterfaceItem, ScopeName, SideFunction, SideItem, SourceFunction, TopName, WorldSide, append-nil, cases_Bool, definition_functions, extern_items, filter-append, flat_map-append, free_function, interface_part, item_side, items_on, own_uses, part_items, part_names, same_side, Exported, Extern, Imported, Item, TheInterface, option_or, side_itself, walk, AreUsableUses, Foreign, ForeignNamed, ForeignVisit, Id, Local, PackageName, Target, all_items, declared_items, file_items, foreign_at, is_world, is_world_at, item_named, item_word, leads, missing_at, path_id, slice_get_within, top_names}
 use Rattle.wit_syntax.proofs.Common.{Use as WrittenUse, Interface, AstItem}
 use Rattle.wit_top_names.proofs.Lost.{flat_more}
 use Rattle.wit_items.specs.ItemPaths.{HasItem, HasPath}
@@ -57,11 +57,9 @@ pub use_has_path : (files : List PackageFile) (place : ℕ) (d : Declared) (u : 
 use_has_path files place d u item among = record { declared = d; item = item; among = path_of_use (about d).parts u among }
 
 -- The uses and the names of interfaces that are written in a world: those of its parts on each side.
--- the uses of a part of an interface are its own
-pub item_own : (x : InterfaceItem) → own_uses (interface_part x) ≡ item_uses x
-item_own (interface_item.TypeDef d) = refl
-item_own (interface_item.Use u) = refl
-item_own (interface_item.Func f) = refl
+-- the uses of an interface of these items
+abbrev pub items_uses : List InterfaceItem → List WrittenUse
+items_uses items = flat_map own_uses (map interface_part items)
 
 -- those of a part are its own, or those of the interface that is written in it
 pub own_among : (p : Part) (u : WrittenUse) → Contains (own_uses p) u → Contains (part_uses p) u
@@ -85,7 +83,7 @@ side_among side (ExternPart x) u among = elim (cases_Bool (same_side side x.side
 ]
 
 -- the uses of the interface that is written in a part are those of its items
-pub uses_written : (side : WorldSide) (p : Part) → side_uses side p ≡ flat_map (flat_map item_uses) (written_items side p)
+pub uses_written : (side : WorldSide) (p : Part) → side_uses side p ≡ flat_map items_uses (written_items side p)
 uses_written side (DefinitionPart d) = refl
 uses_written side (UsePart u) = refl
 uses_written side (IncludePart i) = refl
@@ -95,8 +93,8 @@ uses_written side (ExternPart x) = elim (cases_Bool (same_side side x.side)) [
   | inr there ↦ rw there refl
 ]
   where
-    of_kind : (kind : ExternKind) → inline_uses kind ≡ flat_map (flat_map item_uses) (kind_items kind)
-    of_kind (extern.Interface name items) = sym (append-nil (flat_map item_uses items.items))
+    of_kind : (kind : ExternKind) → inline_uses kind ≡ flat_map items_uses (kind_items kind)
+    of_kind (extern.Interface name items) = sym (append-nil (items_uses items.items))
     of_kind (extern.Path path) = refl
     of_kind (extern.Func name f) = refl
     of_kind (extern.NamedPath name path) = refl
@@ -147,33 +145,27 @@ names_written_in top side (p ∷ ps) =
     ap (flat_map (inline_names top)) (filter-append on (part_items p) rest) ∙ flat_map-append (inline_names top) (items_on side (part_items p)) (items_on side rest) ∙ ap (λ l. l ++ flat_map (inline_names top) (items_on side rest)) (part_written top side p) ∙ ap (λ l. map (items_names top) (written_items side p) ++ l) (names_written_in top side ps) ∙ sym (map-append (items_names top) (written_items side p) (flat_map (written_items side) ps))
 
 -- the uses of the interface that is written in a part, if one is
-pub written_uses : (side : WorldSide) (p : Part) (items : List InterfaceItem) → items ∷ [] ≡ written_items side p → flat_map item_uses items ≡ side_uses side p
-written_uses side p items written = sym (uses_written side p ∙ ap (flat_map (flat_map item_uses)) (sym written) ∙ append-nil (flat_map item_uses items))
+pub written_uses : (side : WorldSide) (p : Part) (items : List InterfaceItem) → items ∷ [] ≡ written_items side p → flat_map own_uses (map interface_part items) ≡ side_uses side p
+written_uses side p items written = sym (uses_written side p ∙ ap (flat_map items_uses) (sym written) ∙ append-nil (items_uses items))
 
 pub unwritten_uses : (side : WorldSide) (p : Part) → [] ≡ written_items side p → side_uses side p ≡ []
-unwritten_uses side p none = uses_written side p ∙ ap (flat_map (flat_map item_uses)) (sym none)
+unwritten_uses side p none = uses_written side p ∙ ap (flat_map items_uses) (sym none)
 
 -- The uses and the names of interfaces that are written in a world: those of its parts on each side.
 -- of an interface, whose parts bring nothing on a side, those of an item are those of its parts
-own_items : (xs : List InterfaceItem) → flat_map own_uses (map interface_part xs) ≡ flat_map item_uses xs
-own_items [] = refl
-own_items (interface_item.TypeDef d ∷ xs) = own_items xs
-own_items (interface_item.Use u ∷ xs) = ap (λ l. u ∷ l) (own_items xs)
-own_items (interface_item.Func f ∷ xs) = own_items xs
-
 none_on : (side : WorldSide) (xs : List InterfaceItem) → flat_map (side_uses side) (map interface_part xs) ≡ []
 none_on side [] = refl
 none_on side (interface_item.TypeDef d ∷ xs) = none_on side xs
 none_on side (interface_item.Use u ∷ xs) = none_on side xs
 none_on side (interface_item.Func f ∷ xs) = none_on side xs
 
-pub interface_uses : (files : List PackageFile) (top : List TopName) (i : Interface) → item_uses_fault files (record { top = top; declared = TheInterface i }) ≡ first_in (use_fault files top) (flat_map item_uses i.items.items)
+pub interface_uses : (files : List PackageFile) (top : List TopName) (i : Interface) → item_uses_fault files (record { top = top; declared = TheInterface i }) ≡ first_in (use_fault files top) (flat_map own_uses (map interface_part i.items.items))
 interface_uses files top i =
     let ps = map interface_part i.items.items in
     let own = flat_map own_uses ps in
     ap (λ l. first_in (use_fault files top) (own ++ (l ++ flat_map (side_uses Exported) ps))) (none_on Imported i.items.items)
     ∙ ap (λ l. first_in (use_fault files top) (own ++ l)) (none_on Exported i.items.items)
-    ∙ ap (first_in (use_fault files top)) (append-nil own ∙ own_items i.items.items)
+    ∙ ap (first_in (use_fault files top)) (append-nil own)
 
 -- of a world: its own, and then those on either side
 pub world_uses : (files : List PackageFile) (top : List TopName) (ps : List Part) → first_in (use_fault files top) (walk own_uses (λ (x : Extern). inline_uses x.kind) ps) ≡ option_or (first_in (use_fault files top) (flat_map own_uses ps)) (option_or (first_in (use_fault files top) (flat_map (side_uses Imported) ps)) (first_in (use_fault files top) (flat_map (side_uses Exported) ps)))

@@ -2,11 +2,9 @@
 ghost use Rattle.std.specs.Prelude.{◌≡◌, ◌++◌, Contains, map, IfOk, OnOk};
 ghost use Rattle.std.specs.List.{flat_map};
 ghost use Rattle.wit_tree.specs.declared.tree.Use.{Use as TheUse};
-ghost use Rattle.wit_syntax.specs.ExternPart.{item_uses};
-ghost use Rattle.wit_syntax.specs.Source.{TheWorld, leads, part_names, interface_part as the_interface_part, world_part as the_world_part};
+ghost use Rattle.wit_syntax.specs.Source.{TheWorld, interface_part as the_interface_part, leads, own_uses, part_names, world_part as the_world_part};
 ghost use Rattle.wit_first.specs.First.{Finds, first_in};
 ghost use Rattle.wit_first.specs.UseFaults.{use_fault};
-ghost use Rattle.wit_syntax.specs.ScopeTables.{own_uses};
 ghost use Rattle.wit_files.specs.FileNames.{top_at};
 ghost use Rattle.wit_scopes.specs.BorrowedNames.{name_view, IsPlaced, AreNamesPlaced};
 ghost use Rattle.wit_items.specs.ItemPaths.{prefix_of, part_view, HasItem, HasPath, source_target};
@@ -134,10 +132,10 @@ pub fn interface_names<'f, 'a>(
     files: &Files<'f, 'a, '_, '_>,
     place: usize,
 ) -> ParseResult<Vec<ScopeName<'f, 'a>>>
-    requires paths { (u : TheUse) → Contains (flat_map item_uses items.now) u → HasPath files.now place u.from }
+    requires paths { (u : TheUse) → Contains (flat_map own_uses (map the_interface_part items.now)) u → HasPath files.now place u.from }
     ensures view { IfOk result (λ names. map name_view names.items ≡ flat_map (part_names (top_at files.now place)) (map the_interface_part items.now)) }
     ensures placed { IfOk result (λ names. AreNamesPlaced (prefix_of files.now) names.items) }
-    ensures first { Finds (first_in (use_fault files.now (top_at files.now place)) (flat_map item_uses items.now)) result }
+    ensures first { Finds (first_in (use_fault files.now (top_at files.now place)) (flat_map own_uses (map the_interface_part items.now))) result }
 {
     let mut names = Vec::with_capacity(alloc, interface_room(items))?;
     for part in items {

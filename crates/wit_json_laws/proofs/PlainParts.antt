@@ -1,7 +1,7 @@
 -- The parts of items that plain trees declare: their functions, their names and what is on their sides.
-use Rattle.std.proofs.Common.{ℕ, List, [], ◌++◌, map, Option, Some, None, refl}
-use Rattle.wit_arena.proofs.Common.{Address, All, Attribute, Defined, DefinitionPart, Extern, ExternKind, ExternPart, FuncForm, FunctionPart, Id, IfSome, IncludePart, InterfaceItem, NamedFunc, Part, ResourceFunc, ScopeName, SideFunction, SideInline, SideItem, SideLink, SourceFunction, TopName, TypeBody, UseName, UsePart, Used, about_name, accessor, codes, definition_functions, extern_functions, extern_items, extern_link, free_function, inline_uses, interface_part, item_uses, local_name, part_functions, part_items, part_names, part_uses, path_scope, resource_function, side_function, world_part}
-use Rattle.wit_syntax.proofs.Common.{Use, WorldItem}
+use Rattle.std.proofs.Common.{ℕ, List, [], ◌++◌, map, Option, Some, None, refl, subst}
+use Rattle.wit_arena.proofs.Common.{Address, All, Attribute, Defined, DefinitionPart, Extern, ExternKind, ExternPart, FuncForm, FunctionPart, Id, IfSome, IncludePart, InterfaceItem, NamedFunc, Part, ResourceFunc, ScopeName, SideFunction, SideInline, SideItem, SideLink, SourceFunction, TopName, TypeBody, UseName, UsePart, Used, about_name, accessor, codes, definition_functions, extern_functions, extern_items, extern_link, free_function, inline_uses, interface_part, local_name, part_functions, part_items, part_names, part_uses, path_scope, resource_function, side_function, world_part}
+use Rattle.wit_syntax.proofs.Common.{Use, WorldItem, map_at, own_uses}
 use Rattle.wit_type_tree.specs.declared.types.TypeBody.TheVariants as body
 use Rattle.wit_type_tree.specs.declared.types.FuncForm.TheVariants as form
 use Rattle.wit_type_tree.specs.declared.types.ResourceFunc.TheVariants as resource
@@ -103,13 +103,16 @@ part_names_plain top (ExternPart x) h = all_none IsPlainScopeName
 abbrev pub IsPlainUseOf : Use → Type 0
 IsPlainUseOf u = IsPlainUse (see_use u)
 
-item_uses_plain : (x : InterfaceItem) → IsPlainItem (see_item x) → All IsPlainUseOf (item_uses x)
+item_uses_plain : (x : InterfaceItem) → IsPlainItem (see_item x) → All IsPlainUseOf (own_uses (interface_part x))
 item_uses_plain (interface_item.TypeDef d) h = all_none IsPlainUseOf
 item_uses_plain (interface_item.Use u) h = all_more IsPlainUseOf u [] h (all_none IsPlainUseOf)
 item_uses_plain (interface_item.Func f) h = all_none IsPlainUseOf
 
 pub inline_uses_plain : (k : ExternKind) → IsPlainKind (see_kind k) → All IsPlainUseOf (inline_uses k)
-inline_uses_plain (extern.Interface name items) h = all_flat IsPlainUseOf item_uses items.items (λ k x at. item_uses_plain x (all_seen IsPlainItem see_item items.items h.1 k x at))
+inline_uses_plain (extern.Interface name items) h =
+    all_flat IsPlainUseOf own_uses (map interface_part items.items) (λ k p at. (
+    let x = map_at interface_part items.items k p at in
+    subst (λ (q : Part). All IsPlainUseOf (own_uses q)) x.2 (item_uses_plain x.0 (all_seen IsPlainItem see_item items.items h.1 k x.0 x.1))))
 inline_uses_plain (extern.Path path) h = all_none IsPlainUseOf
 inline_uses_plain (extern.Func name f) h = all_none IsPlainUseOf
 inline_uses_plain (extern.NamedPath name path) h = all_none IsPlainUseOf

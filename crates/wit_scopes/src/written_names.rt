@@ -1,7 +1,7 @@
 //! The names that are written in types and in the bodies of definitions.
 ghost use Rattle.std.specs.Prelude.{◌≡◌, ◌++◌, IfOk, OnOk};
-ghost use Rattle.wit_type_tree.specs.TypeParts.{boxed_types, field_types, case_types};
-ghost use Rattle.wit_syntax.specs.Shape.{shape_of, result_shapes, all_shapes, body_of, words, all_words};
+ghost use Rattle.wit_type_tree.specs.TypeParts.{boxed_types, field_types, case_types, result_types};
+ghost use Rattle.wit_syntax.specs.Shape.{shape_of, all_shapes, body_of, words, all_words};
 
 use std::alloc::{AllocError, Global};
 use wit_tree::tree::{Case, Field, Id, ResultTypes, Type, TypeBody};
@@ -35,7 +35,7 @@ fn collect_result_deps<'a>(
     deps: &mut Vec<Id<'a>>,
     types: &ResultTypes<'a>,
 ) -> Result<(), AllocError>
-    ensures { OnOk result (deps.new.items ≡ deps.old.items ++ all_words (result_shapes types.now)) }
+    ensures { OnOk result (deps.new.items ≡ deps.old.items ++ all_words (all_shapes (result_types types.now))) }
 {
     match types {
         ResultTypes::Neither => {}

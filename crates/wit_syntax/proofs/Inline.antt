@@ -14,10 +14,10 @@ use Rattle.wit_tree.specs.declared.tree.ExternKind.TheVariants as extern
 use Rattle.wit_tree.specs.declared.tree.Use.{Use}
 use Rattle.wit_tree.specs.declared.tree.WorldSide.{WorldSide}
 use Rattle.wit_syntax.specs.Address.{Address, InterfaceNamed, WorldNamed, InlineAt, ForeignNamed}
-use Rattle.wit_syntax.specs.ExternPart.{same_side, item_uses, inline_uses}
+use Rattle.wit_syntax.specs.ExternPart.{same_side}
 use Rattle.wit_syntax.specs.Function.{SourceFunction, functions, definition_functions, free_function}
 use Rattle.wit_syntax.specs.Repeats.{AllDiffer}
-use Rattle.wit_syntax.specs.Source.{TheInline, interface_part, Part, DefinitionPart, UsePart, IncludePart, FunctionPart, ExternPart, parts, Item, address, item_name, is_world}
+use Rattle.wit_syntax.specs.Source.{DefinitionPart, ExternPart, FunctionPart, IncludePart, Item, Part, TheInline, UsePart, address, inline_uses, interface_part, is_world, item_name, parts, own_uses}
 use Rattle.wit_syntax.specs.ScopeTables.{part_uses, uses}
 use Rattle.wit_syntax.specs.Sides.{SideItem, SideFunction, SideLink, SideInline, extern_items, part_items, item_inline, item_side, items_on, is_interface, side_items, inline_item, inline_after, inline_items}
 use Rattle.wit_syntax.proofs.Lists.{at_split, map_at, flat_map_at, flat_map_has}
@@ -186,7 +186,7 @@ module _ (w : Item) (k : ℕ) (i : Item) (at : slice_get (inline_items w) k ≡ 
   inline_outer = ap (λ (v : Item). outer_name (address v)) (sym (inline_items_at w k i at).is)
 
 -- the uses of an interface that is written in an item are among the item's
-pub inline_part_uses : (items : List InterfaceItem) → flat_map part_uses (map interface_part items) ≡ flat_map item_uses items
+pub inline_part_uses : (items : List InterfaceItem) → flat_map part_uses (map interface_part items) ≡ flat_map own_uses (map interface_part items)
 inline_part_uses [] = refl
 inline_part_uses (interface_item.TypeDef d ∷ items) = inline_part_uses items
 inline_part_uses (interface_item.Use u ∷ items) = ap (λ (l : List Use). u ∷ l) (inline_part_uses items)
@@ -199,8 +199,8 @@ none_written fns j x name items at =
     let f : ⊥ = cc in
     f
 
-extern_uses : (y : Extern) (kind : ExternKind) (j : ℕ) (x : Extern) (name : Id) (items : List InterfaceItem) → slice_get (extern_items y kind) j ≡ Some (SideInline x name items) → inline_uses kind ≡ flat_map item_uses items
-extern_uses y (extern.Interface own its) zero x name items at = (let same : its.items ≡ items = cc in ap (flat_map item_uses) same)
+extern_uses : (y : Extern) (kind : ExternKind) (j : ℕ) (x : Extern) (name : Id) (items : List InterfaceItem) → slice_get (extern_items y kind) j ≡ Some (SideInline x name items) → inline_uses kind ≡ flat_map own_uses (map interface_part items)
+extern_uses y (extern.Interface own its) zero x name items at = (let same : its.items ≡ items = cc in ap (λ (l : List InterfaceItem). flat_map own_uses (map interface_part l)) same)
 extern_uses y (extern.Interface own its) (suc j) x name items at = absurd (let f : ⊥ = cc in f)
 extern_uses y (extern.Path path) zero x name items at = absurd (let f : ⊥ = cc in f)
 extern_uses y (extern.Path path) (suc j) x name items at = absurd (let f : ⊥ = cc in f)
@@ -209,7 +209,7 @@ extern_uses y (extern.Func own f) (suc j) x name items at = absurd (let f : ⊥ 
 extern_uses y (extern.NamedPath own path) zero x name items at = absurd (let f : ⊥ = cc in f)
 extern_uses y (extern.NamedPath own path) (suc j) x name items at = absurd (let f : ⊥ = cc in f)
 
-part_inline_uses : (part : Part) (j : ℕ) (x : Extern) (name : Id) (items : List InterfaceItem) → slice_get (part_items part) j ≡ Some (SideInline x name items) → part_uses part ≡ flat_map item_uses items
+part_inline_uses : (part : Part) (j : ℕ) (x : Extern) (name : Id) (items : List InterfaceItem) → slice_get (part_items part) j ≡ Some (SideInline x name items) → part_uses part ≡ flat_map own_uses (map interface_part items)
 part_inline_uses (DefinitionPart d) j x name items at = absurd (none_written (definition_functions d.name d.body) j x name items at)
 part_inline_uses (UsePart u) j x name items at = absurd (let f : ⊥ = cc in f)
 part_inline_uses (IncludePart i) j x name items at = absurd (let f : ⊥ = cc in f)

@@ -1,14 +1,13 @@
 -- Items that are the same but for the names at the top of their files, where each of these means itself.
 use Rattle.std.proofs.Common.{◌≡◌, ℕ, suc, List, [], ◌∷◌, ◌++◌, length, Some, refl, sym, ap, ◌∙◌, subst}
-use Rattle.std.specs.Prelude.{slice_get, map, Contains, if◌then◌else◌}
+use Rattle.std.specs.Prelude.{slice_get, map, Contains}
 use Rattle.std.specs.List.{flat_map, filter}
-use Rattle.wit_tree.specs.declared.tree.WorldSide.{WorldSide}
-use Rattle.wit_tree.specs.declared.tree.WorldSide.TheVariants.{Imported, Exported}
 use Rattle.wit_tree.specs.declared.tree.Use.{Use}
 use Rattle.wit_graph.proofs.Tables.{matched}
 use Rattle.wit_syntax.specs.Address.{Address, is_foreign}
-use Rattle.wit_syntax.specs.ExternPart.{same_side, inline_uses}
-use Rattle.wit_syntax.specs.Source.{TopName, Declared, TheInline, Part, DefinitionPart, UsePart, IncludePart, FunctionPart, ExternPart, Item, item_name, parts, Used, part_names, scope_names, ForeignUse, use_of_foreign, use_foreign_uses, part_foreign_uses, at_side, walk}
+use Rattle.wit_syntax.specs.Source.{Declared, DefinitionPart, ExternPart, ForeignUse, FunctionPart, IncludePart, Item, Part, TheInline, TopName, UsePart, Used, all_uses, item_name, part_names, parts, scope_names}
+use Rattle.wit_syntax.proofs.AllUses.{use_foreign_uses, item_foreign_uses}
+use Rattle.wit_syntax.specs.Shorthand.{use_of_foreign}
 use Rattle.wit_syntax.specs.Sides.{SideItem, SideFunction, SideLink, SideInline, side_items, inline_after, inline_items}
 use Rattle.wit_syntax.specs.Splitting.{declared_of}
 use Rattle.wit_syntax.proofs.Lists.{flat_map_at}
@@ -16,7 +15,6 @@ use Rattle.wit_syntax.proofs.Found.{contains_at, at_contains}
 use Rattle.wit_syntax.proofs.Inline.{with_uses, interfaces_on}
 use Rattle.wit_syntax.proofs.JoinedLists.{flat_map_by, map-flat_map}
 use Rattle.wit_syntax.proofs.JoinedTargets.{AreThemselves, used_same}
-use Rattle.wit_tree.specs.declared.tree.Extern.{Extern}
 
 -- an item with other names at the top of its file
 abbrev pub retop : List TopName → Item → Item
@@ -76,37 +74,12 @@ module _ (a b : List TopName) (own : AreThemselves a) (other : AreThemselves b) 
   use_foreign_uses_same : (u : Use) → use_foreign_uses a u ≡ use_foreign_uses b u
   use_foreign_uses_same u = ap (λ (s : Address). map (use_of_foreign s u.attributes.items) u.names.items) (used_same a b own other u.from)
 
-  part_foreign_uses_same : (p : Part) → part_foreign_uses a p ≡ part_foreign_uses b p
-  part_foreign_uses_same (DefinitionPart d) = refl
-  part_foreign_uses_same (UsePart u) = use_foreign_uses_same u
-  part_foreign_uses_same (IncludePart i) = refl
-  part_foreign_uses_same (FunctionPart f) = refl
-  part_foreign_uses_same (ExternPart x) = refl
-
-  side_foreign_uses_same : (side : WorldSide) (p : Part) → at_side (λ (x : Extern). flat_map (use_foreign_uses a) (inline_uses x.kind)) side p ≡ at_side (λ (x : Extern). flat_map (use_foreign_uses b) (inline_uses x.kind)) side p
-  side_foreign_uses_same side (DefinitionPart d) = refl
-  side_foreign_uses_same side (UsePart u) = refl
-  side_foreign_uses_same side (IncludePart i) = refl
-  side_foreign_uses_same side (FunctionPart f) = refl
-  side_foreign_uses_same side (ExternPart x) = ap (λ (l : List ForeignUse). if same_side side x.side then l else []) (flat_map_by (use_foreign_uses a) (use_foreign_uses b) use_foreign_uses_same (inline_uses x.kind))
-
-  pub foreign_uses_same : (ps : List Part) → walk (part_foreign_uses a) (λ (x : Extern). flat_map (use_foreign_uses a) (inline_uses x.kind)) ps ≡ walk (part_foreign_uses b) (λ (x : Extern). flat_map (use_foreign_uses b) (inline_uses x.kind)) ps
-  foreign_uses_same ps =
-      let first = flat_map_by (part_foreign_uses a) (part_foreign_uses b) part_foreign_uses_same ps in
-      let second = flat_map_by (at_side (λ (x : Extern). flat_map (use_foreign_uses a) (inline_uses x.kind)) Imported) (at_side (λ (x : Extern). flat_map (use_foreign_uses b) (inline_uses x.kind)) Imported) (side_foreign_uses_same Imported) ps in
-      let third = flat_map_by (at_side (λ (x : Extern). flat_map (use_foreign_uses a) (inline_uses x.kind)) Exported) (at_side (λ (x : Extern). flat_map (use_foreign_uses b) (inline_uses x.kind)) Exported) (side_foreign_uses_same Exported) ps in
-      ap (λ (l : List ForeignUse). l ++ (flat_map (at_side (λ (x : Extern). flat_map (use_foreign_uses a) (inline_uses x.kind)) Imported) ps ++ flat_map (at_side (λ (x : Extern). flat_map (use_foreign_uses a) (inline_uses x.kind)) Exported) ps)) first ∙ ap (λ (l : List ForeignUse). flat_map (part_foreign_uses b) ps ++ (l ++ flat_map (at_side (λ (x : Extern). flat_map (use_foreign_uses a) (inline_uses x.kind)) Exported) ps)) second ∙ ap (λ (l : List ForeignUse). flat_map (part_foreign_uses b) ps ++ (flat_map (at_side (λ (x : Extern). flat_map (use_foreign_uses b) (inline_uses x.kind)) Imported) ps ++ l)) third
-
 -- so the names of an item, and what it takes from other packages, are those of what it declares
 pub names_of_bare : (i : Item) → AreThemselves i.top → scope_names i ≡ scope_names (bare i.declared)
 names_of_bare i own = names_same i.top [] own no_names (parts i)
 
--- what an item takes
-abbrev pub item_foreign_uses : Item → List ForeignUse
-item_foreign_uses i = filter (λ (t : ForeignUse). is_foreign t.from) (walk (part_foreign_uses i.top) (λ (x : Extern). flat_map (use_foreign_uses i.top) (inline_uses x.kind)) (parts i))
-
 pub foreign_uses_of_bare : (i : Item) → AreThemselves i.top → item_foreign_uses i ≡ item_foreign_uses (bare i.declared)
-foreign_uses_of_bare i own = ap (filter (λ (t : ForeignUse). is_foreign t.from)) (foreign_uses_same i.top [] own no_names (parts i))
+foreign_uses_of_bare i own = ap (filter (λ (t : ForeignUse). is_foreign t.from)) (flat_map_by (use_foreign_uses i.top) (use_foreign_uses []) (use_foreign_uses_same i.top [] own no_names) (all_uses i))
 
 -- what twins become is the same where what each becomes is given by what it declares
 pub twins_become : {Y : Type 0} (f : Item → List Y) → ((i : Item) → AreThemselves i.top → f i ≡ f (bare i.declared)) → (is js : List Item) → AreTwins is js → flat_map f is ≡ flat_map f js

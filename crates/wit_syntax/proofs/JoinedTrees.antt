@@ -9,13 +9,15 @@ use Rattle.wit_syntax.specs.Address.{Address, InterfaceNamed, WorldNamed, Inline
 use Rattle.wit_syntax.specs.Node.{Node, Leaf, Named, Unnamed, Nothing, node_map, unfolded}
 use Rattle.wit_syntax.specs.Repeats.{firsts}
 use Rattle.wit_syntax.specs.Shape.{Prim, Word, Of}
-use Rattle.wit_syntax.specs.Source.{Declared, Item, address, all_items, item_named, item_at, ScopeName, scope_names, ForeignUse, foreign_uses, used_names, same_foreign_use, meaning, Place, named_node, about, ForeignName}
+use Rattle.wit_syntax.specs.Source.{Declared, Item, address, all_items, item_named, item_at, ScopeName, scope_names, ForeignUse, foreign_uses, first_foreign_uses, meaning, Place, named_node, about, ForeignName}
+use Rattle.wit_syntax.specs.Shorthand.{same_foreign_use}
 use Rattle.wit_syntax.specs.Sides.{all_scopes}
 use Rattle.wit_syntax.specs.Splitting.{declared_of}
 use Rattle.wit_syntax.specs.ScopesOfTrees.{scope, source_node, source_tree}
 use Rattle.wit_syntax.proofs.Found.{find_at}
 use Rattle.wit_syntax.proofs.JoinedLists.{map_by, find-map}
-use Rattle.wit_syntax.proofs.JoinedItems.{bare, ArePlain, AreTwins, twins_inside, names_of_bare, foreign_uses_of_bare, twins_become, item_foreign_uses}
+use Rattle.wit_syntax.proofs.AllUses.{item_foreign_uses, foreign_uses-filtered}
+use Rattle.wit_syntax.proofs.JoinedItems.{bare, ArePlain, AreTwins, twins_inside, names_of_bare, foreign_uses_of_bare, twins_become}
 use Rattle.wit_syntax.proofs.JoinedFiles.{AreAlike, items_twins}
 
 -- what is found among twins by what is declared declares the same
@@ -54,12 +56,16 @@ unfolded_by : {X : Type 0} (a b : X → Node X) → ((x : X) → a x ≡ b x) �
 unfolded_by a b same zero x = refl
 unfolded_by a b same (suc n) x = node_map_by (unfolded a n) (unfolded b n) (unfolded_by a b same n) (a x) ∙ ap (node_map (unfolded b n)) (same x)
 
+-- the names that are used from a scope
+abbrev pub used_names : List PackageFile → Address → List ScopeName
+used_names files s = map (λ (t : ForeignUse). ForeignName t.attributes t.id) (filter (λ (t : ForeignUse). same_address t.from s) (first_foreign_uses files))
+
 module _ (files others : List PackageFile) (a : AreAlike files others) where
   pub scopes_twins : AreTwins (all_scopes files) (all_scopes others)
   scopes_twins = twins_inside (all_items files) (all_items others) (items_twins files others a)
 
   pub foreign_uses_alike : foreign_uses files ≡ foreign_uses others
-  foreign_uses_alike = twins_become item_foreign_uses foreign_uses_of_bare (all_items files) (all_items others) (items_twins files others a)
+  foreign_uses_alike = foreign_uses-filtered files ∙ twins_become item_foreign_uses foreign_uses_of_bare (all_items files) (all_items others) (items_twins files others a) ∙ sym (foreign_uses-filtered others)
 
   used_alike : (s : Address) → used_names files s ≡ used_names others s
   used_alike s = ap (λ (ts : List ForeignUse). map (λ (t : ForeignUse). ForeignName t.attributes t.id) (filter (λ (t : ForeignUse). same_address t.from s) (firsts same_foreign_use ts))) foreign_uses_alike

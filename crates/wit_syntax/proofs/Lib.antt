@@ -21,6 +21,7 @@ pub mod Inline
 pub mod Scopes
 pub mod Setters
 pub mod JoinedLists
+pub mod AllUses
 pub mod JoinedTargets
 pub mod JoinedItems
 pub mod JoinedFiles

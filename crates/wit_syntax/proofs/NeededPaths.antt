@@ -7,8 +7,8 @@ use Rattle.wit_tree.specs.declared.tree.InterfaceItem.{InterfaceItem}
 use Rattle.wit_tree.specs.declared.tree.InterfaceItem.TheVariants as interface_item
 use Rattle.wit_tree.specs.declared.tree.Use.{Use}
 use Rattle.wit_tree.specs.declared.tree.UsePath.{UsePath}
-use Rattle.wit_syntax.specs.Source.{Declared, TheInterface, TheWorld, TheInline, Part, Item, about, interface_part, is_world, world_part}
-use Rattle.wit_syntax.specs.ScopeTables.{include_path, include_paths, needed_paths, own_uses, part_includes, use_path, use_paths}
+use Rattle.wit_syntax.specs.Source.{Declared, Item, Part, TheInline, TheInterface, TheWorld, about, interface_part, is_world, own_uses, world_part}
+use Rattle.wit_syntax.specs.ScopeTables.{include_path, include_paths, needed_paths, part_includes, use_path, use_paths}
 use Rattle.std.proofs.lemmas.List.{map-append}
 
 of_includes : (ps : List Part) → map (λ (n : Include). n.from) (flat_map part_includes ps) ≡ flat_map include_path ps

@@ -1,5 +1,5 @@
 -- Faults: what a refusal says.
-use Rattle.std.specs.Prelude.{ℕ, List, [], ◌++◌, Option, None, string_bytes, codes}
+use Rattle.std.specs.Prelude.{ℕ, List, ◌++◌, Option, None, string_bytes, codes}
 use Rattle.std.specs.Option.{option_map}
 use Rattle.wit_values.specs.declared.span.Span.{Span}
 use Rattle.wit_names.specs.Setter.{getter_of}
@@ -9,7 +9,7 @@ use Rattle.wit_type_tree.specs.declared.error.ParseErrorKind.{ParseErrorKind}
 use Rattle.wit_type_tree.specs.declared.error.ParseErrorKind.TheVariants.{Syntax, ItemNotFound, TypeCycle, OutOfMemory}
 use Rattle.wit_tree.specs.declared.tree.WorldSide.{WorldSide}
 use Rattle.wit_syntax.specs.Hint.{type_hint}
-use Rattle.wit_syntax.specs.Words.{words_of, around, defined_twice, side_word}
+use Rattle.wit_syntax.specs.Words.{words_of, defined_twice, side_word}
 
 -- what a fault says: all in words; that a name means nothing of a sort, with a hint, if there is one; or that what it means depends on itself
 pub data Saying : Type 0 where
@@ -51,29 +51,17 @@ missing_at number sort id = record { rule = number; span = id.span; says = Missi
 abbrev pub cyclic_at : ℕ → List ℕ → Id → Fault
 cyclic_at number sort id = record { rule = number; span = id.span; says = Cyclic id.name.now sort }
 
--- what is missing: an interface or world
-abbrev pub item_word : List ℕ
-item_word = codes "interface or world"
-
--- a type
-abbrev pub type_word : List ℕ
-type_word = codes "type"
-
 -- a name means no type, where it is written; one that types had once gets a hint
 abbrev pub missing_type_at : Id → Fault
-missing_type_at id = record { rule = 15; span = id.span; says = Missing id.name.now type_word (type_hint id.name.now) }
-
--- a name of an interface
-abbrev pub name_word : List ℕ
-name_word = codes "name"
+missing_type_at id = record { rule = 15; span = id.span; says = Missing id.name.now (codes "type") (type_hint id.name.now) }
 
 -- an item has the name of an earlier one
 abbrev pub item_twice : Id → Fault
-item_twice id = fault_in 5 id.span (around (codes "duplicate item named ") id.name.now [])
+item_twice id = fault_in 5 id.span (codes "duplicate item named `" ++ (id.name.now ++ codes "`"))
 
 -- a name at the top of a file is an earlier one
 abbrev pub top_twice : Id → Fault
-top_twice id = fault_in 6 id.span (around (codes "duplicate name ") id.name.now (codes " in this file"))
+top_twice id = fault_in 6 id.span (codes "duplicate name `" ++ (id.name.now ++ codes "` in this file"))
 
 -- a world is where an interface is wanted
 abbrev pub world_there : Id → Fault

@@ -10,10 +10,10 @@ use Rattle.wit_tree.specs.declared.tree.UsePath.TheVariants as path
 use Rattle.wit_tree.specs.declared.tree.AstItem.{AstItem}
 use Rattle.wit_tree.specs.declared.tree.AstItem.TheVariants as ast
 use Rattle.wit_tree.specs.declared.tree.PackageFile.{PackageFile}
-use Rattle.wit_syntax.specs.ExternPart.{extern_paths, inline_uses}
+use Rattle.wit_syntax.specs.ExternPart.{extern_paths}
 use Rattle.wit_syntax.specs.Address.{Address, ForeignNamed, package_of, same_package, same_address}
 use Rattle.wit_syntax.specs.Repeats.{firsts}
-use Rattle.wit_syntax.specs.Source.{TheInterface, TheWorld, Part, UsePart, IncludePart, about, walk}
+use Rattle.wit_syntax.specs.Source.{TheInterface, TheWorld, Part, UsePart, IncludePart, about, walk, inline_uses}
 
 -- a path with a package, the attributes before it, and whether it wants a world
 pub record ForeignVisit : Type 0 where

@@ -11,6 +11,7 @@ pub mod Node
 pub mod Shape
 pub mod Source
 pub mod Foreign
+pub mod Shorthand
 pub mod ScopeTables
 pub mod Bodies
 pub mod Function

@@ -7,9 +7,9 @@ use Rattle.wit_tree.specs.declared.tree.Use.{Use}
 use Rattle.wit_tree.specs.declared.tree.UsePath.{UsePath}
 use Rattle.wit_tree.specs.declared.tree.PackageFile.{PackageFile}
 use Rattle.wit_graph.specs.Table.{Row}
-use Rattle.wit_syntax.specs.ExternPart.{extern_paths, inline_uses}
+use Rattle.wit_syntax.specs.ExternPart.{extern_paths}
 use Rattle.wit_syntax.specs.Shape.{all_words, body_of}
-use Rattle.wit_syntax.specs.Source.{Target, Local, Foreign, leads, ScopeName, Defined, local_name, Part, UsePart, IncludePart, ExternPart, Item, item_name, is_world, parts, all_items}
+use Rattle.wit_syntax.specs.Source.{Defined, ExternPart, Foreign, IncludePart, Item, Local, Part, ScopeName, Target, UsePart, all_items, inline_uses, is_world, item_name, leads, local_name, parts, own_uses}
 use Rattle.wit_syntax.specs.Repeats.{AllDiffer}
 
 -- the names that a name of a scope needs: those in a definition's body; a used name needs none of its own scope
@@ -66,11 +66,6 @@ include_paths i = flat_map include_path (parts i)
 -- the includes of an item, in source order
 abbrev pub includes : Item → List Include
 includes i = flat_map part_includes (parts i)
-
--- the uses of a part that are its own: those of an interface that is written in a world are that one's
-abbrev pub own_uses : Part → List Use
-own_uses (UsePart u) = u ∷ []
-own_uses _ = []
 
 -- the paths to items that have to come before: of an interface those of uses, of a world those of includes
 abbrev pub needed_paths : Item → List UsePath

@@ -5,14 +5,14 @@ use Rattle.wit_type_tree.specs.declared.leaves.Id.{Id}
 use Rattle.wit_type_tree.specs.declared.types.Primitive.{Primitive}
 use Rattle.wit_type_tree.specs.declared.types.«Type».{«Type» as Written, None', Some', Row_of-Type, end_of-Type, more_of-Type}
 use Rattle.wit_type_tree.specs.declared.types.«Type».TheVariants as written
-use Rattle.wit_type_tree.specs.declared.types.ResultTypes.{ResultTypes, Neither, Ok', Err', Both'}
+use Rattle.wit_type_tree.specs.declared.types.ResultTypes.{Neither, Ok', Err', Both'}
 use Rattle.wit_type_tree.specs.declared.types.Field.{Field}
 use Rattle.wit_type_tree.specs.declared.types.Flag.{Flag}
 use Rattle.wit_type_tree.specs.declared.types.Case.{Case}
 use Rattle.wit_type_tree.specs.declared.types.EnumCase.{EnumCase}
 use Rattle.wit_type_tree.specs.declared.types.TypeBody.{TypeBody}
 use Rattle.wit_type_tree.specs.declared.types.TypeBody.TheVariants.{Record, Flags, Variant, Enum, Resource, Plain}
-use Rattle.wit_type_tree.specs.TypeParts.{ok_type, err_type, field_types, case_types}
+use Rattle.wit_type_tree.specs.TypeParts.{field_types, case_types}
 use Rattle.wit_type_tree.specs.declared.leaves.Docs.{Docs as Comments}
 use Rattle.wit_syntax.specs.Metadata.{docs_of}
 use Rattle.wit_syntax.specs.Form.{Member, Form, RecordForm, FlagsForm, VariantForm, EnumForm, OptionForm, ResultForm, TupleForm, ListForm, MapForm, FixedLengthListForm, FutureForm, StreamForm, AliasForm, OwnForm, BorrowForm, ResourceForm}
@@ -41,7 +41,10 @@ abbrev mutual
   shape_of (written.FixedLengthList' span p t size) = Of span (FixedLengthListForm size) (one (shape_of t))
   shape_of (written.Map' span p key q value) = Of span MapForm (More (shape_of key) (one (shape_of value)))
   shape_of (written.Option' span p t) = Of span OptionForm (one (shape_of t))
-  shape_of (written.Result span of) = Of span (ResultForm (is_some (ok_type of)) (is_some (err_type of))) (result_shapes of)
+  shape_of (written.Result span Neither) = Of span (ResultForm false false) End
+  shape_of (written.Result span (Ok' p t)) = Of span (ResultForm true false) (one (shape_of t))
+  shape_of (written.Result span (Err' p t)) = Of span (ResultForm false true) (one (shape_of t))
+  shape_of (written.Result span (Both' p t q u)) = Of span (ResultForm true true) (More (shape_of t) (one (shape_of u)))
   shape_of (written.Tuple' span shape ts) = Of span TupleForm (row_shapes ts)
   shape_of (written.Future' span None') = Of span (FutureForm false) End
   shape_of (written.Future' span (Some' p t)) = Of span (FutureForm true) (one (shape_of t))
@@ -50,13 +53,6 @@ abbrev mutual
   -- a resource that is owned is written as the resource
   shape_of (written.Own span id) = Word id
   shape_of (written.Borrow span id) = Of span BorrowForm (one (Word id))
-
-  -- those of the types that a result is written with
-  pub result_shapes : ResultTypes → Shapes
-  result_shapes Neither = End
-  result_shapes (Ok' p t) = one (shape_of t)
-  result_shapes (Err' p t) = one (shape_of t)
-  result_shapes (Both' p t q u) = More (shape_of t) (one (shape_of u))
 
   -- those of types in a row
   pub row_shapes : {m : _} → Row_of-Type m → Shapes
@@ -78,23 +74,19 @@ abbrev pub head : Shape → Body
 head (Of span form parts) = record { form = form; parts = parts }
 head x = record { form = AliasForm; parts = one x }
 
--- what a type that is written under a name says: a handle that owns is one there
-abbrev pub written_body : Written → Body
-written_body (written.Own span id) = record { form = OwnForm; parts = one (Word id) }
-written_body t = head (shape_of t)
-
 -- a field, flag or case of this name, with what documents it
 abbrev pub member : Comments → Id → Member
 member docs id = record { name = id.name.now; docs = docs_of docs; span = id.span }
 
--- what a definition says
+-- what a definition says: a handle that owns is one under a name
 abbrev pub body_of : TypeBody → Body
 body_of (Record span fields) = record { form = RecordForm (map (λ (f : Field). member f.docs f.name) fields.items); parts = all_shapes (field_types fields.items) }
 body_of (Flags span flags) = record { form = FlagsForm (map (λ (f : Flag). member f.docs f.name) flags.items); parts = End }
 body_of (Variant span cases) = record { form = VariantForm (map (λ (c : Case). (member c.docs c.name, is_some c.ty)) cases.items); parts = all_shapes (case_types cases.items) }
 body_of (Enum span cases) = record { form = EnumForm (map (λ (c : EnumCase). member c.docs c.name) cases.items); parts = End }
 body_of (Resource funcs) = record { form = ResourceForm; parts = End }
-body_of (Plain t) = written_body t
+body_of (Plain (written.Own span id)) = record { form = OwnForm; parts = one (Word id) }
+body_of (Plain t) = head (shape_of t)
 
 -- the names written in a type, in written order
 abbrev mutual

@@ -1,6 +1,6 @@
 -- The items of files, the names of their scopes, and what a name means.
 use Rattle.std.specs.Prelude.{if◌then◌else◌, ℕ, Bool, true, false, ◌&&◌, List, [], ◌∷◌, ◌++◌, Option, Some, None, map, find}
-use Rattle.std.specs.List.{flat_map, filter}
+use Rattle.std.specs.List.{flat_map}
 use Rattle.std.specs.Option.{option_map_or, unwrap_or}
 use Rattle.std.specs.Str.{bytes_eq}
 use Rattle.wit_values.specs.declared.span.Span.{Span}
@@ -13,6 +13,8 @@ use Rattle.wit_tree.specs.declared.tree.InterfaceItem.TheVariants as interface_i
 use Rattle.wit_tree.specs.declared.tree.WorldItem.{WorldItem}
 use Rattle.wit_tree.specs.declared.tree.WorldItem.TheVariants as world_item
 use Rattle.wit_tree.specs.declared.tree.Extern.{Extern}
+use Rattle.wit_tree.specs.declared.tree.ExternKind.{ExternKind}
+use Rattle.wit_tree.specs.declared.tree.ExternKind.TheVariants as extern
 use Rattle.wit_tree.specs.declared.tree.Use.{Use}
 use Rattle.wit_tree.specs.declared.tree.UsePath.{UsePath}
 use Rattle.wit_tree.specs.declared.tree.UsePath.TheVariants as path
@@ -28,8 +30,8 @@ use Rattle.wit_package_names.specs.declared.package_name.PackageName.{PackageNam
 use Rattle.wit_syntax.specs.Form.{AliasForm, UnknownForm}
 use Rattle.wit_tree.specs.declared.tree.WorldSide.{WorldSide}
 use Rattle.wit_tree.specs.declared.tree.WorldSide.TheVariants.{Imported, Exported}
-use Rattle.wit_syntax.specs.Address.{Address, InterfaceNamed, WorldNamed, InlineAt, ForeignNamed, package_of, same_address, is_foreign}
-use Rattle.wit_syntax.specs.ExternPart.{same_side, inline_uses}
+use Rattle.wit_syntax.specs.Address.{Address, InterfaceNamed, WorldNamed, InlineAt, ForeignNamed, package_of, same_address}
+use Rattle.wit_syntax.specs.ExternPart.{same_side}
 use Rattle.wit_syntax.specs.Repeats.{firsts}
 use Rattle.wit_syntax.specs.Node.{Head, Node, Named, Nothing}
 use Rattle.wit_syntax.specs.Shape.{Shape, Word, Shapes, End, More, one, Body, body_of}
@@ -99,26 +101,30 @@ at_side of side _ = []
 abbrev pub walk : {X : Type 0} → (Part → List X) → (Extern → List X) → List Part → List X
 walk own of ps = flat_map own ps ++ (flat_map (at_side of Imported) ps ++ flat_map (at_side of Exported) ps)
 
+-- the uses of a part that are its own: those of an interface that is written in a world are that one's
+abbrev pub own_uses : Part → List Use
+own_uses (UsePart u) = u ∷ []
+own_uses _ = []
+
+-- the uses of an interface that is written where a world imports or exports it
+abbrev pub inline_uses : ExternKind → List Use
+inline_uses (extern.Interface name items) = flat_map own_uses (map interface_part items.items)
+inline_uses _ = []
+
 -- a name at the top of a file, and what it means
 pub record TopName : Type 0 where
   pub id : Id
   pub target : Target
 
-abbrev pub top_text : TopName → List ℕ
-top_text t = t.id.name.now
-
 -- where a path leads in a file: a name leads to what the first at its top that goes by it means, every other path where it says
 abbrev pub leads : List TopName → UsePath → Target
-leads top (path.Id id) = option_map_or (λ (t : TopName). t.target) (find (λ t. bytes_eq (top_text t) id.name.now) top) (Local id)
+leads top (path.Id id) = option_map_or (λ (t : TopName). t.target) (find (λ (t : TopName). bytes_eq t.id.name.now id.name.now) top) (Local id)
 leads top (path.Package p id) = Foreign (package_of p) id
-
-abbrev pub itself : Id → TopName
-itself id = record { id = id; target = Local id }
 
 -- a declared item means itself, a `use` for what its path says where no name at the top is known
 abbrev pub top_name : AstItem → TopName
-top_name (ast.Interface i) = itself i.name
-top_name (ast.World w) = itself w.name
+top_name (ast.Interface i) = record { id = i.name; target = Local i.name }
+top_name (ast.World w) = record { id = w.name; target = Local w.name }
 top_name (ast.Use u) = record { id = unwrap_or u.as_ (path_id u.item); target = leads [] u.item }
 
 -- the names at the top of a file, in source order
@@ -155,6 +161,10 @@ is_world i = (about i.declared).is_world
 
 abbrev pub parts : Item → List Part
 parts i = (about i.declared).parts
+
+-- all uses of an item: first its own, then those in interfaces that it imports, and then those in interfaces that it exports
+abbrev pub all_uses : Item → List Use
+all_uses i = walk own_uses (λ (x : Extern). inline_uses x.kind) (parts i)
 
 -- the first item of a name
 abbrev pub item_named : List Item → List ℕ → Option Item
@@ -217,31 +227,18 @@ pub record ForeignUse : Type 0 where
   pub attributes : List Attribute
   pub id : Id
 
-abbrev pub use_of_foreign : Address → List Attribute → UseName → ForeignUse
-use_of_foreign s attributes n = record { from = s; attributes = attributes; id = n.name }
+-- the names that a `use` has from an item of another package, where its path leads to one
+abbrev pub foreign_names : Use → Target → List ForeignUse
+foreign_names u (Local id) = []
+foreign_names u (Foreign p id) = map (λ (n : UseName). record { from = ForeignNamed p id.name.now; attributes = u.attributes.items; id = n.name }) u.names.items
 
-abbrev pub use_foreign_uses : List TopName → Use → List ForeignUse
-use_foreign_uses top u = map (use_of_foreign (path_scope top u.from) u.attributes.items) u.names.items
-
-abbrev pub part_foreign_uses : List TopName → Part → List ForeignUse
-part_foreign_uses top (UsePart u) = use_foreign_uses top u
-part_foreign_uses top _ = []
-
--- the names that all items use from items of other packages: of each item, those last that are used in interfaces that are written in it
+-- the names that all items use from items of other packages
 abbrev pub foreign_uses : List PackageFile → List ForeignUse
-foreign_uses files = flat_map (λ (i : Item). filter (λ t. is_foreign t.from) (walk (part_foreign_uses i.top) (λ (x : Extern). flat_map (use_foreign_uses i.top) (inline_uses x.kind)) (parts i))) (all_items files)
-
--- whether two of them are one name of one scope
-abbrev pub same_foreign_use : ForeignUse → ForeignUse → Bool
-same_foreign_use a b = same_address a.from b.from && bytes_eq a.id.name.now b.id.name.now
+foreign_uses files = flat_map (λ (i : Item). flat_map (λ (u : Use). foreign_names u (leads i.top u.from)) (all_uses i)) (all_items files)
 
 -- each name of another package where it is first used
 abbrev pub first_foreign_uses : List PackageFile → List ForeignUse
-first_foreign_uses files = firsts same_foreign_use (foreign_uses files)
-
--- the names that are taken from an item of another package
-abbrev pub used_names : List PackageFile → Address → List ScopeName
-used_names files s = map (λ (t : ForeignUse). ForeignName t.attributes t.id) (filter (λ t. same_address t.from s) (first_foreign_uses files))
+first_foreign_uses files = firsts (λ a b. same_address a.from b.from && bytes_eq a.id.name.now b.id.name.now) (foreign_uses files)
 
 -- what a name means: the first that goes by it
 abbrev pub meaning : List ScopeName → List ℕ → Option ScopeName

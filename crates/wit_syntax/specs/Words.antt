@@ -17,10 +17,6 @@ clash desc earlier later = cond (bytes_eq earlier later)
     (codes "duplicate " ++ (desc ++ (codes " `" ++ (earlier ++ codes "`"))))
     (desc ++ (codes " `" ++ (later ++ (codes "` conflicts with previous " ++ (desc ++ (codes " `" ++ (earlier ++ codes "`")))))))
 
--- a name in words around it
-abbrev pub around : (before name back : List ℕ) → List ℕ
-around before name back = before ++ (codes "`" ++ (name ++ (codes "`" ++ back)))
-
 -- the word that means a side
 abbrev pub side_word : WorldSide → List ℕ
 side_word Imported = codes "import"

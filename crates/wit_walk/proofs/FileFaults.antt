@@ -1,6 +1,6 @@
 -- What the first fault of the names of files breaks, and that of the uses of their items.
-use Rattle.std.proofs.Common.{◌≡◌, ℕ, zero, suc, Bool, true, false, List, [], ◌∷◌, ◌++◌, Option, Some, None, inl, inr, refl, ap, ◌∙◌, Contains}
-use Rattle.wit_syntax.proofs.Common.{Contains-append_cases, DefinitionPart, Exported, Extern, ExternPart, Fault, FunctionPart, Imported, IncludePart, IsBroken, IsBrokenUse, Item, MissingUse, PackageFile, Part, Use as WrittenUse, UseMetadata, UsePart, UsePath, WorldSide, WorldUsed, all_items, at_contains, at_prefix, at_side, contains_at, extern_paths, flat_map, flat_map_at, flat_map_has, if◌then◌else◌, inline_uses, is_world_at, leads, map, option_map, own_uses, part_uses, parts, path_id, same_side, slice_get, slice_get-map, use_path, use_paths, uses, walk, world_there}
+use Rattle.std.proofs.Common.{◌≡◌, ℕ, zero, suc, Bool, true, false, List, Option, Some, None, inl, inr, refl, ap, ◌∙◌, Contains}
+use Rattle.wit_syntax.proofs.Common.{DefinitionPart, ExternPart, Fault, FunctionPart, IncludePart, IsBroken, IsBrokenUse, Item, MissingUse, PackageFile, Part, Use as WrittenUse, UseMetadata, UsePart, UsePath, WorldUsed, all_items, all_uses, all_uses_among, at_contains, at_prefix, contains_at, extern_paths, flat_map, flat_map_at, flat_map_has, inline_uses, is_world_at, leads, map, option_map, part_uses, parts, path_id, slice_get, slice_get-map, use_path, use_paths, uses, world_there}
 use Rattle.wit_syntax.specs.Broken.{Use}
 use Rattle.wit_first.specs.AttributeFaults.{metadata_fault}
 use Rattle.wit_first.specs.FileFaults.{lost_fault}
@@ -16,45 +16,6 @@ path_broken files i from f among h = by (is_world_at files (leads i.top from)) r
     by None is h = (let lost = (lost_agrees (all_items files) (leads i.top from)).broken f h in MissingUse from lost.id among lost.local lost.missing lost.is)
     by (Some true) is h = (let same : Some (world_there (path_id from)) ≡ Some f = h in WorldUsed from among is (let says : f ≡ world_there (path_id from) = cc in says))
     by (Some false) is h = absurd (let g : ⊥ = cc in g)
-
--- what each part brings is among what parts bring that bring more
-wider : {A : Type 0} (f g : Part → List A) (ps : List Part) (a : A) → ((p : Part) (j : ℕ) → slice_get (f p) j ≡ Some a → Contains (g p) a) → Contains (flat_map f ps) a → Contains (flat_map g ps) a
-wider f g ps a more among =
-    let k = at_contains (flat_map f ps) a among in
-    let p = flat_map_at f ps k.0 a k.1 in
-    let j = at_contains (g p.1) a (more p.1 p.3.0 p.3.1) in
-    let it = flat_map_has g ps p.0 j.0 p.1 a p.2 j.1 in
-    contains_at (flat_map g ps) it.0 a it.1
-
-own_part : (p : Part) (j : ℕ) (u : WrittenUse) → slice_get (own_uses p) j ≡ Some u → Contains (part_uses p) u
-own_part (UsePart v) j u at = contains_at (v ∷ []) j u at
-own_part (DefinitionPart d) j u at = absurd (let f : ⊥ = cc in f)
-own_part (IncludePart n) j u at = absurd (let f : ⊥ = cc in f)
-own_part (FunctionPart g) j u at = absurd (let f : ⊥ = cc in f)
-own_part (ExternPart x) j u at = absurd (let f : ⊥ = cc in f)
-
-abbrev pub side_uses : WorldSide → Part → List WrittenUse
-side_uses side = at_side (λ (x : Extern). inline_uses x.kind) side
-
-extern_uses : (b : Bool) (us : List WrittenUse) (j : ℕ) (u : WrittenUse) → slice_get (if b then us else []) j ≡ Some u → Contains us u
-extern_uses true us j u at = contains_at us j u at
-extern_uses false us j u at = absurd (let f : ⊥ = cc in f)
-
-side_part : (side : WorldSide) (p : Part) (j : ℕ) (u : WrittenUse) → slice_get (side_uses side p) j ≡ Some u → Contains (part_uses p) u
-side_part side (ExternPart x) j u at = extern_uses (same_side side x.side) (inline_uses x.kind) j u at
-side_part side (DefinitionPart d) j u at = absurd (let f : ⊥ = cc in f)
-side_part side (UsePart v) j u at = absurd (let f : ⊥ = cc in f)
-side_part side (IncludePart n) j u at = absurd (let f : ⊥ = cc in f)
-side_part side (FunctionPart g) j u at = absurd (let f : ⊥ = cc in f)
-
-walked : (ps : List Part) (u : WrittenUse) → Contains (walk own_uses (λ (x : Extern). inline_uses x.kind) ps) u → Contains (flat_map part_uses ps) u
-walked ps u among = elim (Contains-append_cases (flat_map own_uses ps) (flat_map (side_uses Imported) ps ++ flat_map (side_uses Exported) ps) u among) [
-  | inl own ↦ wider own_uses part_uses ps u (λ p j at. own_part p j u at) own
-  | inr sides ↦ elim (Contains-append_cases (flat_map (side_uses Imported) ps) (flat_map (side_uses Exported) ps) u sides) [
-    | inl imported ↦ wider (side_uses Imported) part_uses ps u (λ p j at. side_part Imported p j u at) imported
-    | inr exported ↦ wider (side_uses Exported) part_uses ps u (λ p j at. side_part Exported p j u at) exported
-  ]
-]
 
 -- the path of a `use` is one of its item
 path_of : (p : Part) (j : ℕ) (u : WrittenUse) → slice_get (part_uses p) j ≡ Some u → slice_get (use_path p) j ≡ Some u.from
@@ -79,11 +40,11 @@ pub uses_broken : (files : List PackageFile) (f : Fault) → all_uses_fault file
 uses_broken files f h =
     let own = in_some (item_uses_fault files) (all_items files) f h in
     let i = own.1 in
-    let all = walk own_uses (λ (x : Extern). inline_uses x.kind) (parts i) in
+    let all = all_uses i in
     let it = in_some (use_fault files i.top) all f own.3 in
     let u = it.1 in
     let here = contains_at (all_items files) own.0 i own.2 in
-    let among : Contains (uses i) u = walked (parts i) u (contains_at all it.0 u it.2) in
+    let among : Contains (uses i) u = all_uses_among i u (contains_at all it.0 u it.2) in
     elim (or_some (metadata_fault u.attributes.items) (path_fault files i.top u.from None) f it.3) [
       | inl noted ↦ UseMetadata i here u among ((metadata_agree u.attributes.items).broken f noted)
       | inr far ↦ Use i here (path_broken files i u.from f (path_of_use (parts i) u among) far.1)

@@ -1,6 +1,6 @@
 -- Where the walk finds nothing in the names of files, no rule about them is broken; nor in the uses of items, and in where paths lead.
-use Rattle.std.proofs.Common.{◌≡◌, ◌⊎◌, ℕ, zero, suc, Bool, true, false, List, [], ◌∷◌, ◌++◌, Option, Some, None, inl, inr, refl, sym, ap, ◌∙◌, subst, Contains}
-use Rattle.wit_syntax.proofs.Common.{Contains-append_left, Contains-append_right, DefinitionPart, Exported, Extern, ExternKind, ExternPart, Fault, FunctionPart, Id, Imported, Include, IncludePart, IsBrokenMetadata, IsBrokenStability, IsBrokenUse, IsSecond, Item, Link, Local, MissingUse, PackageFile, Part, SideItem, SideLink, TopName, Use as WrittenUse, UsePart, UsePath, WorldSide, WorldUsed, all_items, at_contains, at_split, contains_at, extern_items, extern_link, extern_paths, file_items, flat_map, flat_map_at, flat_map_has, if◌then◌else◌, include_path, include_paths, includes, inline_uses, interface_there, is_world, is_world_at, item_named, item_word, leads, map, map_at, missing_at, option_map, own_uses, part_includes, part_items, part_uses, parts, path_id, same_side, side_items, slice_get, top_names, top_text, top_twice, use_path, use_paths, uses, walk, world_there}
+use Rattle.std.proofs.Common.{◌≡◌, ◌⊎◌, ℕ, zero, suc, Bool, true, false, List, [], ◌∷◌, Option, Some, None, inl, inr, refl, sym, ap, ◌∙◌, subst, Contains}
+use Rattle.wit_syntax.proofs.Common.{DefinitionPart, Extern, ExternKind, ExternPart, Fault, FunctionPart, Id, Include, IncludePart, IsBrokenMetadata, IsBrokenStability, IsBrokenUse, IsSecond, Item, Link, Local, MissingUse, PackageFile, Part, SideItem, SideLink, TopName, Use as WrittenUse, UsePart, UsePath, WorldUsed, all_items, all_uses, all_uses_has, at_contains, at_split, contains_at, extern_items, extern_link, extern_paths, file_items, flat_has, flat_map_has, has_flat, include_path, include_paths, includes, inline_uses, interface_there, is_world, is_world_at, item_named, item_word, leads, map, map_at, missing_at, option_map, part_includes, part_items, part_uses, parts, path_id, side_items, slice_get, top_names, top_text, top_twice, use_path, use_paths, uses, world_there}
 use Rattle.wit_tree.specs.declared.tree.ExternKind.TheVariants as extern
 use Rattle.wit_first.specs.AttributeFaults.{metadata_fault, stability_fault}
 use Rattle.wit_first.specs.FileFaults.{file_fault, files_fault, lost_fault}
@@ -11,18 +11,6 @@ use Rattle.wit_first.specs.UseFaults.{all_uses_fault, item_uses_fault, path_faul
 use Rattle.wit_first.proofs.Bridge.{in_only, metadata_agree, or_none_both, stability_agrees, top_names_agree}
 use Rattle.wit_first.proofs.FileFaults.{lost_agrees}
 use Rattle.wit_walk.specs.Paths.{include_fault, interface_fault}
-use Rattle.wit_walk.proofs.FileFaults.{side_uses}
-
--- what is in what one item of a list brings is in what the list brings
-pub has_flat : {X A : Type 0} (f : X → List A) (xs : List X) (p : ℕ) (x : X) (a : A) → slice_get xs p ≡ Some x → Contains (f x) a → Contains (flat_map f xs) a
-has_flat f xs p x a at h =
-    let j = at_contains (f x) a h in
-    let it = flat_map_has f xs p j.0 x a at j.1 in
-    contains_at (flat_map f xs) it.0 a it.1
-
--- and what is in the one is in what one item of the other brings
-pub flat_has : {X A : Type 0} (f : X → List A) (xs : List X) (a : A) → Contains (flat_map f xs) a → (p : ℕ) × (x : X) × (slice_get xs p ≡ Some x) × ((j : ℕ) × (slice_get (f x) j ≡ Some a))
-flat_has f xs a h = let k = at_contains (flat_map f xs) a h in flat_map_at f xs k.0 a k.1
 
 -- names at the tops of files
 pub tops_legal : (files : List PackageFile) → files_fault files ≡ None → (file : PackageFile) → Contains files file → (f : Fault) → IsSecond top_text (λ (n : TopName). top_twice n.id) (top_names file) f → ⊥
@@ -31,38 +19,12 @@ tops_legal files none file among f broken =
     let own = or_none_both (top_names_fault file) (first_in (paths_fault (all_items files)) (file_items file)) (in_only (file_fault (all_items files)) files none k.0 file k.1) in
     (top_names_agree file).unbroken own.0 f broken
 
--- each `use` of a part is looked at: by itself, or on the side on which it is written
-each_side : (side : WorldSide) (us : List WrittenUse) (u : WrittenUse) → Contains us u → Contains (if same_side Imported side then us else []) u ⊎ Contains (if same_side Exported side then us else []) u
-each_side Imported us u h = inl h
-each_side Exported us u h = inr h
-
-part_walked : (p : Part) (u : WrittenUse) → Contains (part_uses p) u → Contains (own_uses p) u ⊎ (Contains (side_uses Imported p) u ⊎ Contains (side_uses Exported p) u)
-part_walked (UsePart v) u h = inl h
-part_walked (ExternPart x) u h = inr (each_side x.side (inline_uses x.kind) u h)
-part_walked (DefinitionPart d) u h = inl h
-part_walked (IncludePart n) u h = inl h
-part_walked (FunctionPart g) u h = inl h
-
-walked_has : (ps : List Part) (u : WrittenUse) → Contains (flat_map part_uses ps) u → Contains (walk own_uses (λ (x : Extern). inline_uses x.kind) ps) u
-walked_has ps u h =
-    let p = flat_has part_uses ps u h in
-    let imports = flat_map (side_uses Imported) ps in
-    let exports = flat_map (side_uses Exported) ps in
-    let own = flat_map own_uses ps in
-    elim (part_walked p.1 u (contains_at (part_uses p.1) p.3.0 u p.3.1)) [
-      | inl by_itself ↦ Contains-append_left own (imports ++ exports) u (has_flat own_uses ps p.0 p.1 u p.2 by_itself)
-      | inr sides ↦ Contains-append_right own (imports ++ exports) u (elim sides [
-        | inl imported ↦ Contains-append_left imports exports u (has_flat (side_uses Imported) ps p.0 p.1 u p.2 imported)
-        | inr exported ↦ Contains-append_right imports exports u (has_flat (side_uses Exported) ps p.0 p.1 u p.2 exported)
-      ])
-    ]
-
 -- so nothing is wrong with a `use` of an item
 use_none : (files : List PackageFile) → all_uses_fault files ≡ None → (i : Item) → Contains (all_items files) i → (u : WrittenUse) → Contains (uses i) u → (metadata_fault u.attributes.items ≡ None) × (path_fault files i.top u.from None ≡ None)
 use_none files none i here u among =
     let k = at_contains (all_items files) i here in
-    let all = walk own_uses (λ (x : Extern). inline_uses x.kind) (parts i) in
-    let j = at_contains all u (walked_has (parts i) u among) in
+    let all = all_uses i in
+    let j = at_contains all u (all_uses_has i u among) in
     or_none_both (metadata_fault u.attributes.items) (path_fault files i.top u.from None) (in_only (use_fault files i.top) all (in_only (item_uses_fault files) (all_items files) none k.0 i k.1) j.0 u j.1)
 
 pub use_legal : (files : List PackageFile) → all_uses_fault files ≡ None → (i : Item) → Contains (all_items files) i → (u : WrittenUse) → Contains (uses i) u → (f : Fault) → IsBrokenMetadata u.attributes.items f → ⊥

@@ -12,7 +12,7 @@ use Rattle.wit_walk.specs.Functions.{function_fault, signed_fault, word_fault}
 use Rattle.wit_walk.specs.Members.{called_fault, crossed, is_extern, item_fault, member_fault, own_fault, side_sorted}
 use Rattle.wit_walk.specs.Names.{folded_fault}
 use Rattle.wit_walk.specs.Paths.{is_same_link, linked_fault}
-use Rattle.wit_walk.proofs.FilesLegal.{flat_has}
+use Rattle.wit_syntax.proofs.Common.{flat_has}
 use Rattle.wit_walk.proofs.FunctionsLegal.{function_legal, type_none}
 use Rattle.wit_walk.proofs.ScopeFaults.{if_none}
 use Rattle.wit_walk.proofs.TypesLegal.{handles_free}

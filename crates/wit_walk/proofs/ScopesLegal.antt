@@ -11,7 +11,7 @@ use Rattle.wit_first.proofs.Bridge.{after_only, in_only, list_agrees, metadata_a
 use Rattle.wit_first.proofs.Repeats.{after_kept}
 use Rattle.wit_walk.specs.Definitions.{definition_fault, end_fault, handle_fault}
 use Rattle.wit_walk.specs.Names.{lost_use, name_fault, use_fault}
-use Rattle.wit_walk.proofs.FilesLegal.{flat_has}
+use Rattle.wit_syntax.proofs.Common.{flat_has}
 use Rattle.wit_walk.proofs.FunctionsLegal.{meant_none}
 use Rattle.wit_walk.proofs.TypesLegal.{handles_at, handles_free, type_legal}
 

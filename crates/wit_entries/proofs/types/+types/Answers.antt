@@ -1,5 +1,5 @@
 use Rattle.std.proofs.Common.{◌≡◌, [], ◌∷◌, ◌++◌, ◌+◌, Some, take, refl, sym, ap, ◌∙◌, rules}
-use Rattle.wit_arena.proofs.Common.{FutureForm, ResultForm, StreamForm, append-nil, boxed_types, env_of, err_from_is_err_and, is_some, ok_type, result_shapes-all, result_types, slice_get, slice_get-get_or, take_all, take_more, tuple_inner, tuple_types, types_of_borrowed}
+use Rattle.wit_arena.proofs.Common.{FutureForm, ResultForm, StreamForm, append-nil, boxed_types, env_of, err_from_is_err_and, is_some, ok_type, result_shape, result_types, slice_get, slice_get-get_or, take_all, take_more, tuple_inner, tuple_types, types_of_borrowed}
 use Rattle.wit_type_tree.specs.declared.types.«Type».TheVariants as written
 use Rattle.wit_types.specs.declared.types.TypeDefKind.TheVariants as kind
 use Rattle.wit_walk.proofs.Common.{empty_fault, or_none, reports-in, reports_prefix, reports_same}
@@ -75,7 +75,7 @@ read_form-returns-in_ok-outcome-in-Result t c =
     let it = c.in-Result in
     let r = c.in_ok-outcome-in-Result.outcome in
     let there = c.in_ok-outcome-in-Result.ensures.there in
-    rw it.is (parts_read c.args.scope c.args.given.now (written.Result it.span it.parts) (kind.Result r) it.span _ _ (result_types it.parts) tt refl (ap (λ x. ResultForm x (is_some r.err)) there.0 ∙ ap (ResultForm (is_some (ok_type it.parts))) there.1) tt (result_shapes-all it.parts) refl refl refl c.in_ok-outcome-in-Result.ensures.resolves)
+    rw it.is (parts_read c.args.scope c.args.given.now (written.Result it.span it.parts) (kind.Result r) it.span _ _ (result_types it.parts) tt (result_shape it.span it.parts) (ap (λ x. ResultForm x (is_some r.err)) there.0 ∙ ap (ResultForm (is_some (ok_type it.parts))) there.1) tt refl refl refl refl c.in_ok-outcome-in-Result.ensures.resolves)
 
 pub read_form-returns-in_err-outcome-in-Result : goal.read_form-returns-in_err-outcome-in-Result
 read_form-returns-in_err-outcome-in-Result t c =

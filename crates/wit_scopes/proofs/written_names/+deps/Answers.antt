@@ -1,5 +1,5 @@
 use Rattle.std.proofs.Common.{◌≡◌, ◌+◌, ◌++◌, ◌∷◌, [], take, sym, ap, ◌∙◌}
-use Rattle.wit_arena.proofs.Common.{append-nil, take_all, take_more}
+use Rattle.wit_arena.proofs.Common.{append-nil, result_shape, take_all, take_more, words}
 use Rattle.wit_scopes.proofs.Placed.{type_words, words_more, tuple_words}
 use Rattle.wit_scopes.proofs.written_names.+deps.Goals as goal
 
@@ -13,6 +13,10 @@ collect_all_deps-loop-ty-preserved t c =
 pub collect_deps-returns-in_ok-collect_all_deps-in-Tuple : goal.collect_deps-returns-in_ok-collect_all_deps-in-Tuple
 collect_deps-returns-in_ok-collect_all_deps-in-Tuple t c =
     rw c.in-Tuple.is (c.in_ok-collect_all_deps-in-Tuple.ensures ∙ ap (λ ids. c.args.deps.now.items ++ ids) (ap type_words c.deref-in-Tuple.ensures.value ∙ sym (tuple_words c.in-Tuple.field-0 c.in-Tuple.parts)))
+
+pub collect_deps-returns-in_ok-collect_result_deps-in-Result : goal.collect_deps-returns-in_ok-collect_result_deps-in-Result
+collect_deps-returns-in_ok-collect_result_deps-in-Result t c =
+    rw c.in-Result.is (c.in_ok-collect_result_deps-in-Result.ensures ∙ ap (λ x. c.args.deps.now.items ++ words x) (sym (result_shape c.in-Result.field-0 c.in-Result.types)))
 
 pub collect_all_deps-loop-ty-init : goal.collect_all_deps-loop-ty-init
 collect_all_deps-loop-ty-init t c = sym (append-nil c.args.deps.now.items)
