@@ -1,6 +1,6 @@
 -- Functions that are alike, and what is on the sides of items that are.
-use Rattle.std.proofs.Common.{◌≡◌, ℕ, List, ◌++◌, map, length, codes, Option, Some, None, refl, ap, ap₂, ◌∙◌}
-use Rattle.wit_walk.proofs.Common.{AllZip, Attribute, Constructor, DefinitionPart, Extern, ExternKind, ExternPart, Freestanding, Func, FunctionPart, Id, IncludePart, InterfaceItem, Item, Link, Method, NamedFunc, OnSide, Param, Part, ResourceFunc, Role, SideFunction, SideInline, SideItem, SideLink, SourceFunction, SourceParam, Span, Static, TypeBody, UsePart, UsePath, Word, WorldSide, accessor, constructor_of, definition_functions, extern_functions, extern_items, extern_link, filter, free_function, functions, inline_item, is_interface, item_function, item_link, item_side, items_on, on_side, option_map, option_map_or, part_functions, part_items, parts, resource_function, role_side, same_side, shape_of, side_function, side_items, written_param, «Type» as Written}
+use Rattle.std.proofs.Common.{◌≡◌, ℕ, List, ◌++◌, map, length, codes, Option, Some, None, refl, ap, ap₂, ◌∙◌, subst, sym}
+use Rattle.wit_walk.proofs.Common.{AllZip, Attribute, Constructor, DefinitionPart, Extern, ExternKind, ExternPart, Freestanding, Func, FunctionPart, Id, IncludePart, InterfaceItem, Item, Link, Method, NamedFunc, OnSide, Param, Part, ResourceFunc, Role, SideFunction, SideInline, SideItem, SideLink, SourceFunction, SourceParam, Span, Static, TypeBody, UsePart, UsePath, Word, WorldSide, accessor, constructor_of, definition_functions, extern_functions, extern_items, extern_link, filter, flat_map, free_function, functions, functions_parts, inline_item, is_interface, item_function, item_link, item_side, items_on, on_side, option_map, option_map_or, part_functions, part_items, parts, resource_function, role_side, same_side, shape_of, side_function, side_items, written_param, «Type» as Written}
 use Rattle.wit_type_tree.specs.declared.leaves.Docs.{Docs}
 use Rattle.wit_type_tree.specs.declared.types.FuncForm.TheVariants as form
 use Rattle.wit_type_tree.specs.declared.types.ResourceFunc.TheVariants as resource
@@ -175,7 +175,8 @@ same_part_functions (ExternPart x) (ExternPart y) h = same_extern_functions x y 
 same_part_functions p q h = absurd h
 
 pub same_functions : (i j : Item) → SameItem i j → AllZip SameFunction (functions i) (functions j)
-same_functions i j h = zip_flat SamePart SameFunction part_functions part_functions same_part_functions (parts i) (parts j) (same_parts i j h)
+same_functions i j h =
+    subst (λ (l : List SourceFunction). AllZip SameFunction l (functions j)) (sym (functions_parts i)) (subst (AllZip SameFunction (flat_map part_functions (parts i))) (sym (functions_parts j)) (zip_flat SamePart SameFunction part_functions part_functions same_part_functions (parts i) (parts j) (same_parts i j h)))
 
 -- ---- what is on the sides of items
 pub record SameLink (l k : Link) : Type 0 where

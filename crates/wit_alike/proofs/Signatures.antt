@@ -26,7 +26,7 @@ same_definition_fault handle other handles (ForeignName marks a) (ForeignName ot
 same_definition_fault handle other handles x y h = absurd h
 
 -- ---- names in signatures
-same_free_name : (name other : List ℕ) (r s : Role) → name ≡ other → SameRole r s → is_free name r ≡ is_free other s
+pub same_free_name : (name other : List ℕ) (r s : Role) → name ≡ other → SameRole r s → is_free name r ≡ is_free other s
 same_free_name name other (Freestanding a f) (Freestanding b g) e h = ap₂ bytes_eq (same_text a b h.0) e
 same_free_name name other (Freestanding a f) s e h = absurd h
 same_free_name name other r (Freestanding b g) e h = absurd h

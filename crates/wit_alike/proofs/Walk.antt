@@ -1,6 +1,6 @@
 -- The first fault of alike files is one.
 use Rattle.std.proofs.Common.{◌≡◌, ℕ, Bool, true, false, not, cond, ◌&&◌, List, [], ◌∷◌, ◌++◌, map, length, codes, Option, Some, None, is_none, refl, ap, ap₂, sym, ◌∙◌, ◌==◌}
-use Rattle.wit_walk.proofs.Common.{Address, AllZip, Called, ComesTo, Constructor, Cyclic, Defined, Exported, Fault, ForeignName, Freestanding, Id, Imported, Include, IsOutcome, Item, Known, Link, Method, Missing, OnSide, Outcome, PackageFile, Role, Row, ScopeName, SideFunction, SideInline, SideItem, SideLink, Sorted, SourceFunction, Span, Static, TopName, Used, WorldSide, about, address, all_items, bytes_eq, called_fault, contents_fault, crossed, cyclic_at, defined, defined_twice, definition_fault, earliest, eqb-suc-zero, fault, fault_in, filter, first_after, first_fault, first_in, flat_map, folded_fault, functions, getter_of, handle_fault, if◌then◌else◌, in_order, in_turn, include_fault, includes, inline_item, interface_fault, interfaces_of, is_extern, is_interface, is_on_side, is_same_link, is_setter, is_world_at, item_at, item_called, item_fault, item_function, item_link, item_rows, item_side, item_sorted, item_word, items_on, last_header, leads, link_fault, linked_fault, linked_twice, list_any, local_id, local_name, lone_setter, lost_fault, lost_use, meaning, member_fault, missing_at, missing_type_at, name_called, name_fault, name_twice, name_word, names_on, on_side, one_first, option_map, option_map_or, option_or, order_of, ordered_fault, own_fault, path_id, reached_fault, role_names, rows_of, same_address, scope_faults, scope_names, setter_fault, setters_fault, side_called, side_items, side_setters_fault, side_sorted, signed_fault, type_word, use_fault, used, worlds_of}
+use Rattle.wit_walk.proofs.Common.{Address, AllZip, Called, ComesTo, Constructor, Cyclic, Defined, Exported, Fault, ForeignName, Freestanding, Id, Imported, Include, IsOutcome, Item, Known, Link, Method, Missing, OnSide, Outcome, PackageFile, Role, Row, ScopeName, SideFunction, SideInline, SideItem, SideLink, SourceFunction, Span, Static, TopName, Used, WorldSide, about, address, all_items, bytes_eq, called_fault, contents_fault, crossed, cyclic_at, defined, defined_twice, definition_fault, earliest, eqb-suc-zero, fault, fault_in, filter, first_after, first_fault, first_in, flat_map, folded_fault, functions, getter_of, handle_fault, if◌then◌else◌, in_order, in_turn, include_fault, includes, inline_item, interface_fault, interfaces_of, is_extern, is_free, is_interface, is_on_side, is_same_link, is_setter, is_world_at, item_at, item_called, item_fault, item_function, item_link, item_rows, item_side, item_word, items_on, last_header, leads, link_fault, linked_fault, linked_twice, list_any, local_id, local_name, lone_setter, lost_fault, lost_use, meaning, member_fault, missing_at, missing_type_at, name_called, name_fault, name_twice, name_word, names_on, on_side, one_first, option_map, option_map_or, option_or, order_of, ordered_fault, own_fault, path_id, reached_fault, rows_of, same_address, scope_faults, scope_names, setter_fault, setters_fault, side_called, side_items, side_setters_fault, signed_fault, type_word, use_fault, used, worlds_of}
 use Rattle.wit_tree.specs.declared.tree.PackageName.{PackageName as Header}
 use Rattle.wit_grammar.specs.Trees.{Name, UsedName, Function, Extern as SeenExtern}
 use Rattle.wit_grammar.specs.Seen.{see_attribute, see_include, see_name, see_package_id}
@@ -14,29 +14,19 @@ use Rattle.wit_alike.proofs.Tables.{SameOutcome, same_order_fault, same_order_of
 use Rattle.wit_alike.proofs.Foreign.{include_attributes, include_from, same_world_at}
 use Rattle.wit_alike.proofs.Scopes.{same_defined, same_handle, same_in_order, same_in_turn, same_includes, same_interfaces, same_item_rows, same_names_used, same_rows, same_worlds}
 use Rattle.wit_alike.proofs.Files.{same_all_uses, same_files_fault, same_item_names, same_lost, same_missing, same_tops_fault, same_visits_fault, zip_repeat}
-use Rattle.wit_alike.proofs.Signatures.{same_definition_fault, same_function_fault, same_signed, same_unless_meant}
+use Rattle.wit_alike.proofs.Signatures.{same_definition_fault, same_free_name, same_function_fault, same_signed, same_unless_meant}
 
 -- ---- names
-same_role_names : (r s : Role) → SameRole r s → AllZip (λ (x y : List ℕ). x ≡ y) (role_names r) (role_names s)
-same_role_names (Freestanding a f) (Freestanding b g) h = (same_text a b h.0, tt)
-same_role_names (Method a f) (Method b g) h = tt
-same_role_names (Static a f) (Static b g) h = tt
-same_role_names (Constructor a) (Constructor b) h = tt
-same_role_names (OnSide s a f) (OnSide t b g) h = (same_text a b h.1, tt)
-same_role_names r s h = absurd h
-
 same_lost_use : (i j : Item) (a b : Id) → SameItem i j → SameId a b → lost_use i a ≡ lost_use j b
 same_lost_use i j a b h same =
-    let Same : List ℕ → List ℕ → Type 0 = λ x y. x ≡ y in
-    let names = zip_flat SameFunction Same (λ (fn : SourceFunction). role_names fn.role) (λ (fn : SourceFunction). role_names fn.role) (λ f g one. same_role_names f.role g.role one.role) (functions i) (functions j) (same_functions i j h) in
     ap₂ (λ (there : Bool) (n : Name). cond there (fault_in 13 n.span (codes "cannot import function `" ++ (n.text ++ codes "`"))) (record { rule = 12; span = n.span; says = Missing n.text name_word None }))
-    (zip_any Same (bytes_eq a.name.now) (bytes_eq b.name.now) (λ x y one. ap₂ bytes_eq (same_text a b same) one) (flat_map (λ (fn : SourceFunction). role_names fn.role) (functions i)) (flat_map (λ (fn : SourceFunction). role_names fn.role) (functions j)) names) same
+    (zip_any SameFunction (λ (fn : SourceFunction). is_free a.name.now fn.role) (λ (fn : SourceFunction). is_free b.name.now fn.role) (λ f g one. same_free_name a.name.now b.name.now f.role g.role (same_text a b same) one.role) (functions i) (functions j) (same_functions i j h)) same
 
-abbrev named_so : List ℕ → Span → Called
-named_so text span = record { name = text; span = span }
+abbrev named_so : List ℕ → List ℕ → Span → Called
+named_so sort text span = record { name = text; span = span; sort = sort }
 
 same_called : (x y : ScopeName) → SameName x y → name_called x ≡ name_called y
-same_called x y h = by_name named_so (local_id x) (local_id y) (same_local_id x y h)
+same_called x y h = by_name (named_so (codes "type")) (local_id x) (local_id y) (same_local_id x y h)
 
 module _ (files others : List PackageFile) (h : AllZip SameFile files others) where
   used_there : (o p : Option Item) (a b : Id) → Both SameItem o p → SameId a b
@@ -144,28 +134,19 @@ same_extern x (SideFunction g) h = absurd h
 same_extern x y h = refl
 
 abbrev id_called : Id → List Called
-id_called id = named_so id.name.now id.span ∷ []
-
-abbrev sorted_as : List ℕ → Called → Sorted
-sorted_as sort c = (c.name, sort)
+id_called id = named_so (codes "interface") id.name.now id.span ∷ []
 
 same_item_called : (x y : SideItem) → SameSide x y → item_called x ≡ item_called y
-same_item_called (SideFunction f) (SideFunction g) h = ap₂ (λ (text : List ℕ) (span : Span). named_so text span ∷ []) h.name h.span
+same_item_called (SideFunction f) (SideFunction g) h = ap₂ (λ (text : List ℕ) (span : Span). named_so (codes "func") text span ∷ []) h.name h.span
 same_item_called (SideLink l) (SideLink k) h = by_link l.name k.name h.name
   where
     by_link : (o p : Option Id) → option_map see_name o ≡ option_map see_name p → option_map_or id_called o [] ≡ option_map_or id_called p []
     by_link None None e = refl
     by_link None (Some b) e = absurd (let wrong : ⊥ = cc in wrong)
     by_link (Some a) None e = absurd (let wrong : ⊥ = cc in wrong)
-    by_link (Some a) (Some b) e = (let one : see_name a ≡ see_name b = cc in ap (λ (n : Name). named_so n.text n.span ∷ []) one)
-same_item_called (SideInline x n is) (SideInline y m js) h = ap (λ (z : Name). named_so z.text z.span ∷ []) h.1
+    by_link (Some a) (Some b) e = (let one : see_name a ≡ see_name b = cc in ap (λ (n : Name). named_so (codes "interface") n.text n.span ∷ []) one)
+same_item_called (SideInline x n is) (SideInline y m js) h = ap (λ (z : Name). named_so (codes "interface") z.text z.span ∷ []) h.1
 same_item_called x y h = absurd h
-
-same_sorted : (x y : SideItem) → SameSide x y → item_sorted x ≡ item_sorted y
-same_sorted (SideFunction f) (SideFunction g) h = ap (λ (name : List ℕ). (name, codes "func") ∷ []) h.name
-same_sorted (SideLink l) (SideLink k) h = ap (map (sorted_as (codes "interface"))) (same_item_called (SideLink l) (SideLink k) h)
-same_sorted (SideInline x n is) (SideInline y m js) h = ap (map (sorted_as (codes "interface"))) (same_item_called (SideInline x n is) (SideInline y m js) h)
-same_sorted x y h = absurd h
 
 -- what is made of each, where that is equal
 pub flat_same : {A B : Type 0} (R : A → A → Type 0) (f : A → List B) → ((x y : A) → R x y → f x ≡ f y) → (xs ys : List A) → AllZip R xs ys → flat_map f xs ≡ flat_map f ys
@@ -188,19 +169,12 @@ module _ (xs ys : List ScopeName) (names : AllZip SameName xs ys) (order other :
   same_side_called : (side : WorldSide) (there others : List SideItem) → AllZip SameSide there others → side_called side xs there order ≡ side_called side ys others other
   same_side_called side there others h = ap₂ (λ a b. a ++ b) (same_types_on name_called same_called side) (flat_same SameSide item_called same_item_called there others h)
 
-  abbrev type_sorted : ScopeName → Sorted
-  type_sorted x = sorted_as (codes "type") (name_called x)
-
-  same_side_sorted : (side : WorldSide) (there others : List SideItem) → AllZip SameSide there others → side_sorted side xs there order ≡ side_sorted side ys others other
-  same_side_sorted side there others h = ap₂ (λ a b. a ++ b) (same_types_on type_sorted (λ x y same. ap (sorted_as (codes "type")) (same_called x y same)) side) (flat_same SameSide item_sorted same_sorted there others h)
-
   same_own : (there others : List SideItem) → AllZip SameSide there others → (x y : SideItem) → SameSide x y → own_fault xs there order x ≡ own_fault ys others other y
   same_own there others h x y same =
-      ap (λ (side : WorldSide). first_in (called_fault (is_extern x) (crossed side (side_sorted side xs there order)) (side_called side xs there order)) (item_called x)) (same_item_side x y same)
-      ∙ ap (λ (crosses : Bool). first_in (called_fault crosses (crossed (item_side y) (side_sorted (item_side y) xs there order)) (side_called (item_side y) xs there order)) (item_called x)) (same_extern x y same)
-      ∙ ap (λ (sorted : List Sorted). first_in (called_fault (is_extern y) (crossed (item_side y) sorted) (side_called (item_side y) xs there order)) (item_called x)) (same_side_sorted (item_side y) there others h)
-      ∙ ap (λ (before : List Called). first_in (called_fault (is_extern y) (crossed (item_side y) (side_sorted (item_side y) ys others other)) before) (item_called x)) (same_side_called (item_side y) there others h)
-      ∙ ap (λ (called : List Called). first_in (called_fault (is_extern y) (crossed (item_side y) (side_sorted (item_side y) ys others other)) (side_called (item_side y) ys others other)) called) (same_item_called x y same)
+      ap (λ (side : WorldSide). first_in (called_fault (is_extern x) (crossed side) (side_called side xs there order)) (item_called x)) (same_item_side x y same)
+      ∙ ap (λ (crosses : Bool). first_in (called_fault crosses (crossed (item_side y)) (side_called (item_side y) xs there order)) (item_called x)) (same_extern x y same)
+      ∙ ap (λ (before : List Called). first_in (called_fault (is_extern y) (crossed (item_side y)) before) (item_called x)) (same_side_called (item_side y) there others h)
+      ∙ ap (first_in (called_fault (is_extern y) (crossed (item_side y)) (side_called (item_side y) ys others other))) (same_item_called x y same)
 
 -- ---- the walk
 -- a header is seen of the last file that has one

@@ -1,6 +1,6 @@
 -- What occurs in a type without a name: forms that an unnamed type can have.
 use Rattle.std.proofs.Common.{◌≡◌, ℕ, zero, suc, List, [], ◌∷◌, map, Option, Some, None, inl, inr, subst}
-use Rattle.wit_arena.proofs.Names.{Address, Both', Defined, DefinitionPart, Err', Exprs, ExternPart, Form, FunctionPart, Id, IsAnonymousForm, Item, Neither, None', Ok', PackageFile, Part, Plain, Record, ResourceFunc, Row_of-Type, ScopeName, Shape, Shapes, Some', SourceFunction, SourceParam, TypeBody, UnknownForm, Variant, Whole, Word, all_params, all_scopes, all_seen, all_shapes, at_split, body_of, case_types, definition_functions, end_of-Type, expr_of, exprs_of, extern_at, field_types, flat_map_at, functions, functions_at, head, item_at, map_at, more_of-Type, name_exprs, option_map, option_map_or, option_to_list, part_functions, parts, resource_function, row_shapes, seen, self_param, shape_of, signature, slice_get, written_param, «Type» as Written}
+use Rattle.wit_arena.proofs.Names.{Address, Both', Defined, DefinitionPart, Err', Exprs, ExternPart, Form, FunctionPart, Id, IsAnonymousForm, Item, Neither, None', Ok', PackageFile, Part, Plain, Record, ResourceFunc, Row_of-Type, ScopeName, Shape, Shapes, Some', SourceFunction, SourceParam, TypeBody, UnknownForm, Variant, Whole, Word, all_params, all_scopes, all_seen, all_shapes, at_split, body_of, case_types, definition_functions, end_of-Type, expr_of, exprs_of, extern_at, field_types, functions, functions_at, head, item_at, map_at, more_of-Type, name_exprs, option_map, option_map_or, option_to_list, part_functions, parts, resource_function, row_shapes, seen, self_param, shape_of, signature, slice_get, written_param, «Type» as Written, part_of_function}
 use Rattle.wit_syntax.proofs.Common.{Param}
 use Rattle.wit_type_tree.specs.declared.types.TypeBody.TheVariants as body
 use Rattle.wit_type_tree.specs.declared.types.ResourceFunc.TheVariants as resource
@@ -158,5 +158,5 @@ signature_anonymous files s k fn at j x written = of_item (item_at (all_scopes f
     of_item : (o : Option Item) → slice_get (option_map_or functions o []) k ≡ Some fn → AreAnonymous x
     of_item None there = absurd (let f : ⊥ = cc in f)
     of_item (Some i) there =
-        let it = flat_map_at part_functions (parts i) k fn there in
+        let it = part_of_function i k fn there in
         plain_signature fn (plain_part it.1 it.3.0 fn it.3.1) j x written

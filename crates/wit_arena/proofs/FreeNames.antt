@@ -1,6 +1,6 @@
 -- The written names of functions that are no resource's, in the source and in the package.
 use Rattle.std.proofs.Common.{◌≡◌, ℕ, zero, List, [], ◌∷◌, ◌++◌, Some, refl, sym, ap, ◌∙◌, subst, arith, Contains}
-use Rattle.wit_arena.proofs.Names.{Address, AreFunctions, Constructor, Def, DefinitionPart, ExternPart, Freestanding, FuncForm, Function, FunctionKey, FunctionKind, FunctionPart, Id, IsFunction, IsKind, Item, Key, Method, OnSide, Part, ResourceFunc, Role, SourceFunction, Static, TypeBody, WorldSide, accessor, at_contains, at_within, contains_at, definition_functions, extern_at, flat_map, flat_map_at, flat_map_has, free_function, freestanding_names, functions, keyed, map, map_at, part_functions, parts, resource_function, role_names, role_side, slice_get, slice_get_within}
+use Rattle.wit_arena.proofs.Names.{Address, AreFunctions, Constructor, Def, DefinitionPart, ExternPart, Freestanding, FuncForm, Function, FunctionKey, FunctionKind, FunctionPart, Id, IsFunction, IsKind, Item, Key, Method, OnSide, Part, ResourceFunc, Role, SourceFunction, Static, TypeBody, WorldSide, accessor, at_contains, at_within, contains_at, definition_functions, extern_at, flat_map, flat_map_at, flat_map_has, free_function, freestanding_names, functions, keyed, map, map_at, part_functions, part_of_function, resource_function, role_names, role_side, slice_get, slice_get_within}
 use Rattle.wit_type_tree.specs.declared.types.FuncForm.TheVariants as form
 use Rattle.wit_type_tree.specs.declared.types.TypeBody.TheVariants as body
 use Rattle.wit_type_tree.specs.declared.types.ResourceFunc.TheVariants as resource
@@ -74,7 +74,7 @@ part_called _ k fn at = absurd (let f : ⊥ = cc in f)
 
 function_called : (i : Item) (k : ℕ) (fn : SourceFunction) → slice_get (functions i) k ≡ Some fn → IsCalled fn.role fn.name
 function_called i k fn at =
-    let it = flat_map_at part_functions (parts i) k fn at in
+    let it = part_of_function i k fn at in
     part_called it.1 it.3.0 fn it.3.1
 
 names_again : (ks : List Key) (s : Address) (i : Item) (k : ℕ) (fn : SourceFunction) (f : Function) → slice_get (functions i) k ≡ Some fn → IsFunction ks s fn f → role_names fn.role ≡ freestanding_names f.kind f.name

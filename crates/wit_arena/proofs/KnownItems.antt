@@ -1,6 +1,6 @@
 -- The items of a package in their orders: each is at its address.
 use Rattle.std.proofs.Common.{◌≡◌, ℕ, suc, ◌+◌, List, [], ◌∷◌, ◌++◌, length, Option, Some, refl, sym, ap, ◌∙◌, subst}
-use Rattle.wit_arena.proofs.Names.{AllDiffer, FoldedTwice, IsLegal, IsOrder, Item, PackageFile, ScopeName, Sides, SourceFunction, address, all_items, all_scopes, at_back, at_prefix, foreign_interfaces, foreign_worlds, function_key, functions, functions_at, functions_differ, functions_items, in_order, inline_items, interfaces_of, is_world, item_at, map, map-append, map_map, not, option_map, option_map_or, rows_of, scope, scope_names, side_items, slice_get, slice_get-map, visited, worlds_of}
+use Rattle.wit_arena.proofs.Names.{AllDiffer, FoldedTwice, IsLegal, IsOrder, Item, PackageFile, ScopeName, Sides, address, all_items, all_scopes, at_back, at_prefix, foreign_interfaces, foreign_worlds, function_key, functions, functions_at, functions_differ, in_order, inline_items, interfaces_of, is_world, item_at, map, map-append, map_map, not, option_map, option_map_or, rows_of, scope, scope_names, side_items, slice_get, slice_get-map, visited, worlds_of}
 use Rattle.wit_syntax.proofs.Common.{Names}
 use Rattle.wit_arena.proofs.Ordered.{Ordered, OrderedWorld, AreOrdered, all_inside, interface_addresses, ordered_names, world_addresses}
 use Rattle.wit_arena.proofs.DoneWorlds.{inside_of, interface_list, world_list, own_order}
@@ -29,7 +29,7 @@ module _ (files : List PackageFile) (legal : IsLegal files) where
     turn_is = subst (λ (l : List ScopeName). IsTurn l (ordered_names o)) (sym scope_is) (in_turn_is (scope_names o.item) o.order it.least (names_differ files legal o.item (scope_among files legal (address o.item) o.item it.found)))
 
     pub functions_apart : AllDiffer (map function_key (functions o.item))
-    functions_apart = subst (λ (l : List SourceFunction). AllDiffer (map function_key l)) (sym (functions_items o.item)) (functions_differ (scope_names o.item) (side_items o.item) o.order it.least (λ f twice. legal f (Sides o.item (scope_among files legal (address o.item) o.item it.found) (FoldedTwice twice))))
+    functions_apart = functions_differ (scope_names o.item) (side_items o.item) o.order it.least (λ f twice. legal f (Sides o.item (scope_among files legal (address o.item) o.item it.found) (FoldedTwice twice)))
 
   -- the interfaces and the worlds of files in the order of their table
   module _ (os : List Ordered) (ws : List OrderedWorld) (ordered : AreOrdered files os ws) where

@@ -1,12 +1,12 @@
 -- Worlds that were added are done, after interfaces, each with the interfaces that are written in it.
 use Rattle.std.proofs.Common.{◌≡◌, ℕ, suc, ◌+◌, true, false, List, [], ◌∷◌, ◌++◌, length, map, Some, inl, inr, refl, sym, ap, ◌∙◌, subst, append_assoc, arith, length-append, zero-add, add-zero}
-use Rattle.wit_arena.proofs.Names.{Address, AddsForeign, AddsWorld, AddsWorlds, AreRequired, Collects, Exported, Function, FunctionKey, Id, Imported, Interface, Item, Names, Occurrence, PackageFile, Required, ScopeName, SourceFunction, Turned, TypeDef, World, WorldArenas, address, all_handles, all_items, all_occurrences, append-nil, at_back, at_either, at_prefix, at_seam, flat_map, flat_map-append, flat_map_has, foreign_interfaces, foreign_worlds, functions, functions_items, import_types, in_turn, includes, inline_items, interfaces_at, item_function, keys, length-map, local_names, map-append, name_types, nil_from_length, prefix_worlds, resolved_scopes, scope_names, settled, side_items, slice_get, turn_handles, visited, world_functions, worlds_at, written_types, «Type» as Written}
+use Rattle.wit_arena.proofs.Names.{Address, AddsForeign, AddsWorld, AddsWorlds, AreRequired, Collects, Exported, Function, FunctionKey, Id, Imported, Interface, Item, Names, Occurrence, PackageFile, Required, ScopeName, Turned, TypeDef, World, WorldArenas, address, all_handles, all_items, all_occurrences, append-nil, at_back, at_either, at_prefix, at_seam, flat_map, flat_map-append, flat_map_has, foreign_interfaces, foreign_worlds, functions, import_types, in_turn, includes, inline_items, interfaces_at, keys, length-map, local_names, map-append, name_types, nil_from_length, prefix_worlds, resolved_scopes, scope_names, settled, side_items, slice_get, turn_handles, visited, world_functions, worlds_at, written_types, «Type» as Written}
 use Rattle.wit_arena.proofs.Visits.{AreUsableUses}
 use Rattle.wit_arena.proofs.Ordered.{Ordered, OrderedWorld, addresses, turned, side_turns, world_turns, all_turns, all_inside}
 use Rattle.wit_arena.proofs.DoneWorlds.{InterfacesDone, WorldOwner, inside_of, interface_list, world_list, decls, inline_count, SaysWorld, MakesWorld, world_resolved_scope, DoneWorld, own_scope, scopes_of, all_within, own_order, AreWorldsDone, includes_wider, named_world, own_types, written_more, scopes_more, handles_more, one_of_three}
 use Rattle.wit_arena.proofs.Sided.{AreAsStated, AreSided, side_required, all_handles-append}
 use Rattle.wit_arena.proofs.DoneNames.{done_of, required_there}
-use Rattle.wit_arena.proofs.FunctionPart.{AreWhole, DoneFunction, done_functions, scope_functions, IsFunctionPart, IsScopeWhole}
+use Rattle.wit_arena.proofs.FunctionPart.{AreWhole, DoneFunction, scope_functions, IsFunctionPart, IsScopeWhole}
 use Rattle.wit_arena.proofs.FreeNames.{free_of, AreStated}
 use Rattle.wit_arena.proofs.Prefix.{prefix_scopes}
 use Rattle.wit_arena.proofs.Inside.{AreInside, inside_append}
@@ -62,7 +62,7 @@ module _ (files : List PackageFile) (is ws : List Item) (interfaces : AreOfSort 
       both = world_functions adds.added
 
       stated_all : AreStated (functions w) adds.functions both
-      stated_all = subst (λ (l : List SourceFunction). AreStated l adds.functions both) (sym (functions_items w)) (stated_settled all_addresses w.top turns_names adds.types (side_items w) adds.functions inside_addresses (includes w) adds.imports.0 adds.exports.0 adds.added adds.imports.2 adds.exports.2 adds.imports.1 adds.exports.1)
+      stated_all = stated_settled all_addresses w.top turns_names adds.types (side_items w) adds.functions inside_addresses (includes w) adds.imports.0 adds.exports.0 adds.added adds.imports.2 adds.exports.2 adds.imports.1 adds.exports.1
 
       -- what the functions on its sides require
       abbrev functions_required : List Required
@@ -117,13 +117,8 @@ module _ (files : List PackageFile) (is ws : List Item) (interfaces : AreOfSort 
       own_required =
           let ts : List Written = flat_map name_types turns_names in
           let fns : List Written = flat_map written_types (functions w) in
-          let by_functions : AreRequired files (keys function_part.seen) (map (in_scope s) (all_handles fns)) functions_required = subst (λ (l : List SourceFunction). AreRequired files (keys function_part.seen) (map (in_scope s) (all_handles (flat_map written_types l))) functions_required) (sym (functions_items w)) as_stated.by_functions in
           let whole : map (in_scope s) (all_handles (ts ++ fns)) ≡ map (in_scope s) (all_handles ts) ++ map (in_scope s) (all_handles fns) = ap (map (in_scope s)) (all_handles-append ts fns) ∙ map-append (in_scope s) (all_handles ts) (all_handles fns) in
-          subst (λ (hs : List (Address × Id)). AreRequired files (keys function_part.seen) hs (adds.own ++ functions_required)) (sym whole) (required_append files (keys function_part.seen) (map (in_scope s) (all_handles ts)) (map (in_scope s) (all_handles fns)) adds.own functions_required names_required by_functions)
-
-      -- its functions, as they are written and as they are on its sides
-      by_items : (k : ℕ) → slice_get (scope_functions closed) k ≡ slice_get (done_functions s (flat_map item_function (side_items w)) adds.functions) k
-      by_items k = ap (λ (l : List SourceFunction). slice_get (done_functions s l adds.functions) k) (functions_items w)
+          subst (λ (hs : List (Address × Id)). AreRequired files (keys function_part.seen) hs (adds.own ++ functions_required)) (sym whole) (required_append files (keys function_part.seen) (map (in_scope s) (all_handles ts)) (map (in_scope s) (all_handles fns)) adds.own functions_required names_required as_stated.by_functions)
 
       after_made : (g : DoneFunction) → (j : ℕ) × (slice_get sided.more j ≡ Some g) → (j : ℕ) × (slice_get (made_before ++ sided.more) j ≡ Some g)
       after_made g it = (length made_before + it.0, at_back made_before sided.more it.0 g it.1)
@@ -132,7 +127,7 @@ module _ (files : List PackageFile) (is ws : List Item) (interfaces : AreOfSort 
       made_among t k x g at there = elim (one_of_three first sided.scopes closed t x at) [
         | inl h ↦ (let it = flat_map_has scope_functions first h.0 k x g h.1 there in (it.0, at_prefix made_before sided.more it.0 g it.1))
         | inr h ↦ elim h [
-          | inl own ↦ after_made g (sided.own k g (sym (by_items k) ∙ ap (λ (y : DoneScope). slice_get (scope_functions y) k) (sym own) ∙ there))
+          | inl own ↦ after_made g (sided.own k g (ap (λ (y : DoneScope). slice_get (scope_functions y) k) (sym own) ∙ there))
           | inr far ↦ after_made g (sided.within far.0 k x g far.1 there)
         ]
       ]
@@ -146,7 +141,7 @@ module _ (files : List PackageFile) (is ws : List Item) (interfaces : AreOfSort 
 
       all_of : AreWhole files all_scopes_now (made_before ++ sided.more) (keys function_part.seen)
       all_of = record {
-        whole = of_each (IsScopeWhole files) (λ k x at. record { functions = (e.done.each k x at).functions; stated = (e.done.each k x at).stated; count = (e.done.made k x at).count }) (record { functions = sym (functions_of files ws (item_scopes files ws ws_items) (length us) w next); stated = stated_all; count = sided.count ∙ ap length (sym (functions_items w)) }) sided.whole;
+        whole = of_each (IsScopeWhole files) (λ k x at. record { functions = (e.done.each k x at).functions; stated = (e.done.each k x at).stated; count = (e.done.made k x at).count }) (record { functions = sym (functions_of files ws (item_scopes files ws ws_items) (length us) w next); stated = stated_all; count = sided.count }) sided.whole;
         made = made_among;
         required = of_each (λ (x : DoneScope). AreRequired files (keys function_part.seen) (turn_handles (turn_of x)) x.required) (λ k x at. required_extended files extended_before (turn_handles (turn_of x)) x.required (e.done.required k x at)) own_required as_stated.each;
       }

@@ -1,6 +1,6 @@
 -- The first fault of an interface: of its names, or, once they are resolved, of what comes after them.
 use Rattle.std.proofs.Common.{◌≡◌, ℕ, List, [], length, map, Option, None, sym, ap, ◌∙◌, subst, arith, ◌∷◌, ◌++◌, take, Some, refl, append_assoc, ◌<◌, ◌+◌, drop, get_or}
-use Rattle.wit_contents.proofs.Names.{AddsTurn, Defines, EndsInTurn, Env, Err, Fault, Finds, FindsInterface, Id, InOrder, Interfaces, IsLent, IsOutcome, IsRightOf, ItemScope, Names, Ok, Outcome, ParseError, Required, ResolvedScope, Result, ScopeName, TypeDef, TypeOwner, env_of, finds_same, in_turn, interface_fault, local_id, names_of, option_or, order_of, outcome_one, resolved_scopes_of, rest_fault, rows_of, scope_item, scope_names, take_all, AddsMembers, AreKeyed, AreNamesPlaced, AreRightMembers, Declared, IsLinkedTo, IsNext, IsRightMember, ItemWalk, Link, MemberTest, Reports, ResourceFunc, SideFunction, SideItem, SideLink, SourceFunction, Stage, TheInline, TheWorld, TopName, TypeBody, about, after-append, append-nil, declared_view, definition_functions, first_after, flat_map, flat_map-append, function_fault, function_member, functions_items, inline_item, inline_member, inline_of, inline_side, inside_of, inside_view, item_function, item_inline, item_name, items_on, lead, length-map, link_member, linked_fault, lost_word, map-append, meaning, metadata_fault, name_view, names_at_top, next_place, none_both, option_map, option_map_or, or_none, part_items, parts_more, prefix_of, put_link_fault, reports_prefix, reports_same, resource_function, resource_items, seen_on, side_items, slice_get, slice_get_read, slice_get_within, stage, take_next, take_seam, top_at, word_fault, world_part, item_stability, names_fault, item_view}
+use Rattle.wit_contents.proofs.Names.{AddsTurn, Defines, EndsInTurn, Env, Err, Fault, Finds, FindsInterface, Id, InOrder, Interfaces, IsLent, IsOutcome, IsRightOf, ItemScope, Names, Ok, Outcome, ParseError, Required, ResolvedScope, Result, ScopeName, TypeDef, TypeOwner, env_of, finds_same, in_turn, interface_fault, local_id, names_of, option_or, order_of, outcome_one, resolved_scopes_of, rest_fault, rows_of, scope_item, scope_names, take_all, AddsMembers, AreKeyed, AreNamesPlaced, AreRightMembers, Declared, IsLinkedTo, IsNext, IsRightMember, ItemWalk, Link, MemberTest, Reports, ResourceFunc, SideFunction, SideItem, SideLink, SourceFunction, Stage, TheInline, TheWorld, TopName, TypeBody, about, after-append, append-nil, declared_view, definition_functions, first_after, flat_map, flat_map-append, function_fault, function_member, inline_item, inline_member, inline_of, inline_side, inside_of, inside_view, item_function, item_inline, item_name, items_on, lead, length-map, link_member, linked_fault, lost_word, map-append, meaning, metadata_fault, name_view, names_at_top, next_place, none_both, option_map, option_map_or, or_none, part_items, parts_more, prefix_of, put_link_fault, reports_prefix, reports_same, resource_function, resource_items, seen_on, side_items, slice_get, slice_get_read, slice_get_within, stage, take_next, take_seam, top_at, word_fault, world_part, item_stability, names_fault, item_view}
 use Rattle.wit_arena.proofs.Common.{Item}
 use Rattle.wit_entries.specs.EntryFaults.{IsExtended, written_fault}
 use Rattle.wit_externs.specs.Clash.{EndsIn, FindsIn, signed_by, words_in}
@@ -147,7 +147,7 @@ module _ {w : ItemWalk} {fn : SourceFunction} {m : Walked} (n : IsNext w (SideFu
   upto =
       let before = flat_map item_function n.prefix in
       let later = flat_map item_function (SideFunction fn ∷ n.rest) in
-      let all : fns ≡ before ++ later = n.walk.functions ∙ functions_items (item_view w.item) ∙ ap (flat_map item_function) n.sides ∙ flat_map-append item_function n.prefix (SideFunction fn ∷ n.rest) in
+      let all : fns ≡ before ++ later = n.walk.functions ∙ ap (flat_map item_function) n.sides ∙ flat_map-append item_function n.prefix (SideFunction fn ∷ n.rest) in
       ap (λ (k : ℕ). take k fns) n.seen.functions ∙ ap (take (length before)) all ∙ take_seam before later
 
   -- by the names of the scope, and by those of the table

@@ -1,6 +1,6 @@
 -- What is on the sides of a world, resolved one after another: nothing, more after some, and a function, an interface by its path, or an inline one.
 use Rattle.std.proofs.Common.{◌≡◌, ℕ, ◌+◌, List, [], ◌∷◌, ◌++◌, length, refl, sym, ap, ◌∙◌, subst, append_assoc, arith, Bool, true, false, if◌then◌else◌, map, Some, inl, inr, add-zero, Option, suc}
-use Rattle.wit_contents.proofs.Names.{Address, AddsFunctions, AddsInside, AddsInterface, AddsMembers, AddsSides, AreEnded, AreKeyed, AreSideItems, Contains-append_cases, Entry, Extern, Function, HavePlaces, Id, Interface, InterfaceItem, IsNext, IsSeen, ItemWalk, Link, Name, Names, Puts, Required, ResolvedScope, SideFunction, SideInline, SideItem, SideLink, Sorted, SourceFunction, Stage, TheInline, TopName, TypeDef, WorldSide, address, all_handles, append-nil, at_back, at_prefix, bare_id, contains_one, entry_sorted, env_of, filter-append, flat_map, flat_map-append, function_item, functions, functions_items, inline_after, inline_after-append, inline_entry, inline_of, inline_side, interfaces_at, interfaces_on, item_function, item_inline, item_name, item_side, item_sorted, items_on, lead, length-append, length-inline_after, length-map, link_item, map-append, next_place, option_map_or, option_to_list, path_scope, prefix_of, put_on, resolved_scopes_of, role_side, same_side, side_items, slice_get, sorted_on, stage, written_types, AddsWorld, AddsWorlds, Appends, World, adds_append, adds_one, arenas, inline_items, prefix_worlds, resolved_scopes, item_view}
+use Rattle.wit_contents.proofs.Names.{Address, AddsFunctions, AddsInside, AddsInterface, AddsMembers, AddsSides, AreEnded, AreKeyed, AreSideItems, Contains-append_cases, Entry, Extern, Function, HavePlaces, Id, Interface, InterfaceItem, IsNext, IsSeen, ItemWalk, Link, Name, Names, Puts, Required, ResolvedScope, SideFunction, SideInline, SideItem, SideLink, Sorted, SourceFunction, Stage, TheInline, TopName, TypeDef, WorldSide, address, all_handles, append-nil, at_back, at_prefix, bare_id, contains_one, entry_sorted, env_of, filter-append, flat_map, flat_map-append, function_item, functions, inline_after, inline_after-append, inline_entry, inline_of, inline_side, interfaces_at, interfaces_on, item_function, item_inline, item_name, item_side, item_sorted, items_on, lead, length-append, length-inline_after, length-map, link_item, map-append, next_place, option_map_or, option_to_list, path_scope, prefix_of, put_on, resolved_scopes_of, role_side, same_side, side_items, slice_get, sorted_on, stage, written_types, AddsWorld, AddsWorlds, Appends, World, adds_append, adds_one, arenas, inline_items, prefix_worlds, resolved_scopes, item_view}
 use Rattle.wit_contents.specs.declared.walk.Walked.{Walked}
 use Rattle.wit_arena.proofs.Common.{Item}
 use Rattle.wit_entries.proofs.Requiring.{extended_then}
@@ -243,7 +243,7 @@ pub function_there : (i : Item) (prefix rest : List SideItem) (fn : SourceFuncti
 function_there i prefix rest fn place sides count =
     let before = flat_map item_function prefix in
     let rest_after = flat_map item_function rest in
-    let all : functions i ≡ before ++ (fn ∷ rest_after) = functions_items i ∙ ap (flat_map item_function) sides ∙ flat_map-append item_function prefix (SideFunction fn ∷ rest) in
+    let all : functions i ≡ before ++ (fn ∷ rest_after) = ap (flat_map item_function) sides ∙ flat_map-append item_function prefix (SideFunction fn ∷ rest) in
     ap (slice_get (functions i)) count ∙ ap (λ (l : List SourceFunction). slice_get l (length before)) all ∙ at_middle before fn rest_after
 
 -- where an inline interface is is the address of its item

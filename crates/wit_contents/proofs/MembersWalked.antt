@@ -1,14 +1,14 @@
 -- The first fault of a link of a world, by the interfaces that are resolved, is that of the walk of files.
 use Rattle.std.proofs.Common.{◌≡◌, ℕ, ◌+◌, suc, Bool, true, false, not, ◌||◌, List, [], ◌∷◌, ◌++◌, nat_eq, Option, Some, None, IsSome, inl, inr, refl, sym, ap, ◌∙◌, arith, map, Contains, length}
-use Rattle.wit_contents.proofs.Names.{Address, Fault, Foreign, ForeignNamed, ForeignVisit, Id, InterfaceNamed, Link, Local, Names, PackageFile, PackageName, SideFunction, SideInline, SideItem, SideLink, Target, TopName, UsePath, again_linked, all_items, cases_Bool, env_of, find_at, find_passes, flat_map, foreign_at, foreign_interfaces, foreign_items, if◌then◌else◌, interface_place, interfaces_differ, is_none, is_same_link, is_world, is_world_at, item_link, item_named, item_word, items_on, kept_has, leads, link_fault, linked_fault, linked_twice, list_any, lost_fault, metadata_fault, missing_at, number_equal, option_map, option_map_or, option_or, option_to_list, or_assoc, path_id, path_place, path_scope, place_at, place_at-found, prefix_of, reached_fault, same_address, same_address-equal, same_address-from, slice_get, slice_get-map, some_of, target_scope, unresolved_fault, visited, world_there, ◌&&◌, AddsMembers, AreRightMembers, Called, Exported, Extern, Imported, InterfaceItem, Interfaces, IsRightOf, IsStart, ItemWalk, Known, Name, ScopeName, Sorted, SourceFunction, Span, Stage, TheInline, TypeDef, WorldSide, about, address, called_fault, clash, clash-made, codes, contains_at, crossed, entry_sorted, external_fault, fault_in, filter, first_in, folded_fault, folded_key, function_fault, function_member, handle_fault, in-map, in_turn, inline_after, inline_item, inline_member, interfaces_at, is_extern, is_interface, item_called, item_function, item_name, item_side, item_sorted, kept_at, lead, link_member, local_id, local_names, map_map, member_fault, name_called, named_fault, names_in, names_on, next_place, or_none_both, own_fault, put_fault, put_link_fault, repeat_of, same_side, scope_names, side_items, side_sorted, signed_fault, sorted_on, stability_fault, stage, type_imports, item_view}
+use Rattle.wit_contents.proofs.Names.{Address, Fault, Foreign, ForeignNamed, ForeignVisit, Id, InterfaceNamed, Link, Local, Names, PackageFile, PackageName, SideFunction, SideInline, SideItem, SideLink, Target, TopName, UsePath, again_linked, all_items, cases_Bool, env_of, find_at, find_passes, flat_map, foreign_at, foreign_interfaces, foreign_items, if◌then◌else◌, interface_place, interfaces_differ, is_none, is_same_link, is_world, is_world_at, item_link, item_named, item_word, items_on, kept_has, leads, link_fault, linked_fault, linked_twice, list_any, lost_fault, metadata_fault, missing_at, number_equal, option_map, option_map_or, option_or, option_to_list, or_assoc, path_id, path_place, path_scope, place_at, place_at-found, prefix_of, reached_fault, same_address, same_address-equal, same_address-from, slice_get, slice_get-map, some_of, target_scope, unresolved_fault, visited, world_there, ◌&&◌, AddsMembers, AreRightMembers, Called, Exported, Extern, Imported, InterfaceItem, Interfaces, IsRightOf, IsStart, ItemWalk, Known, Name, ScopeName, Sorted, SourceFunction, Stage, TheInline, TypeDef, WorldSide, about, address, called_fault, clash-made, contains_at, crossed, entry_sorted, external_fault, filter, first_in, function_fault, function_member, handle_fault, in-map, in_turn, inline_after, inline_item, inline_member, interfaces_at, is_extern, is_interface, item_called, item_function, item_name, item_side, item_sorted, kept_at, lead, link_member, local_id, local_names, map_map, member_fault, name_called, named_fault, names_in, names_on, next_place, or_none_both, own_fault, put_fault, put_link_fault, same_side, scope_names, side_items, side_sorted, signed_fault, sorted_on, stability_fault, stage, type_imports, item_view, crossed_same, sides_sorted, side_called, sorted_name, crossed_among}
 use Rattle.wit_arena.proofs.Common.{Item}
 use Rattle.wit_items.proofs.Common.{linked_fault as again_fault, ordered_fault}
 use Rattle.wit_contents.specs.declared.walk.Growing.{Growing}
 use Rattle.wit_contents.specs.declared.walk.Walked.{Walked}
-use Rattle.wit_signatures.specs.FunctionsOfScope.{name_of_id}
+use Rattle.wit_signatures.specs.FunctionsOfScope.{name_key, name_of_id}
 use Rattle.wit_sides.specs.SideNames.{defined_on}
-use Rattle.wit_externs.specs.Clash.{again_fault as twice_fault, EndsIn, item_names, names_of_items, bare_places, linked_on}
-use Rattle.wit_item_entries.proofs.NameOrder.{all_used, called, called_item}
+use Rattle.wit_externs.specs.Clash.{again_fault as twice_fault, EndsIn, item_names, names_of_items, bare_places, linked_on, again as same_again}
+use Rattle.wit_item_entries.proofs.NameOrder.{all_used, bare_item, bare_name}
 use Rattle.wit_world_sides.specs.declared.members.Members.{Members}
 use Rattle.wit_contents.proofs.PathsWalked.{in_same}
 use Rattle.wit_contents.proofs.Walked.{repeat-made}
@@ -16,6 +16,7 @@ use Rattle.wit_entries.specs.EntryFaults.{IsExtended}
 use Rattle.wit_entries.proofs.Requiring.{extended_then}
 use Rattle.wit_externs.proofs.Steps.{at_middle}
 use Rattle.wit_links.proofs.Leading.{called_at}
+use Rattle.wit_walk.proofs.Common.{clash_of}
 
 abbrev wants : ForeignVisit → Bool
 wants v = v.wants_world
@@ -174,24 +175,15 @@ module _ (files : List PackageFile) (by_name : Names) (top : List TopName) (befo
 
 -- The walk's fault of what is on the sides of a world is what is found of it, one after another: of its name, and of itself.
 -- one name after others
-again_walked : (before : List Name) (n : Name) → twice_fault before n ≡ folded_fault (map called before) (called n)
-again_walked before n = sym (clash-made (λ (d : Called). folded_key d.name) (λ (earlier later : Called). fault_in 17 later.span (clash (codes "name") earlier.name later.name)) called before n)
-
--- those of the same names by the walk
-abbrev spelled_fault : Bool → (List ℕ → Span → Fault) → List Name → Name → Option Fault
-spelled_fault extern as_crossed before n = if extern then repeat_of (λ (d : Called). d.name) (λ (d : Called). as_crossed d.name d.span) (map called before) (called n) else None
-
-crossed_walked : (extern : Bool) (as_crossed : List ℕ → Span → Fault) (before : List Name) (n : Name) → (if extern then repeat_of (λ (m : Name). m.0) (λ (m : Name). as_crossed m.0 m.1) before n else None) ≡ spelled_fault extern as_crossed before n
-crossed_walked extern as_crossed before n = ap (λ (o : Option Fault). if extern then o else None) (sym (repeat-made (λ (d : Called). d.name) (λ (d : Called). as_crossed d.name d.span) called before n))
-
-named_walked : (extern : Bool) (as_crossed : List ℕ → Span → Fault) (before : List Name) (n : Name) → named_fault extern as_crossed before n ≡ called_fault extern as_crossed (map called before) (called n)
-named_walked extern as_crossed before n =
-    ap (λ (o : Option Fault). option_or o (twice_fault before n)) (crossed_walked extern as_crossed before n)
-    ∙ ap (option_or (spelled_fault extern as_crossed before n)) (again_walked before n)
+named_walked : (extern : Bool) (side : WorldSide) (before : List Called) (c : Called) → named_fault extern (crossed_among side (map sorted_name before)) (map bare_name before) (bare_name c) ≡ called_fault extern (crossed side) before c
+named_walked extern side before c =
+    let as_crossed = crossed_among side (map sorted_name before) in
+    ap (λ (o : Option Fault). option_or (if extern then o else None) (twice_fault (map bare_name before) (bare_name c))) (repeat-made (λ (m : Name). m.0) (λ (m : Name). as_crossed m.0 m.1) bare_name before c ∙ sym (crossed_same side before c))
+    ∙ ap (option_or (if extern then clash_of (λ (d : Called). d.name) (crossed side) before c else None)) (clash-made name_key same_again bare_name before c)
 
 -- at first the words for names are those for types
 abbrev type_sorted : ScopeName → Sorted
-type_sorted x = ((name_called x).name, codes "type")
+type_sorted x = sorted_name (name_called x)
 
 types_sorted : (xs : List ScopeName) (types : Names) → names_in types ≡ local_names xs → flat_map entry_sorted (type_imports xs types) ≡ map type_sorted xs
 types_sorted [] types listed = refl
@@ -209,15 +201,13 @@ pub put_walked : (m : Members) (xs : List ScopeName) (order : List ℕ) (ids : L
 put_walked m xs order ids before x are state sorts =
     let side = item_side x in
     let there = items_on side before in
-    let extern = is_extern x in
-    let names = names_on side (map name_of_id ids) ++ names_of_items there in
-    let as_crossed = crossed side (side_sorted side xs there order) in
-    ap (λ (l : List Sorted). first_in (named_fault extern (crossed side l) (defined_on side m.in_use)) (item_names x)) (sorts side)
-    ∙ ap (λ (l : List Name). first_in (named_fault extern as_crossed l) (item_names x)) (state side)
-    ∙ in_same (named_fault extern as_crossed names) (λ (n : Name). called_fault extern as_crossed (map called names) (called n)) (item_names x) (λ k n at. named_walked extern as_crossed names n)
-    ∙ sym (in-map (called_fault extern as_crossed (map called names)) called (item_names x))
-    ∙ ap (first_in (called_fault extern as_crossed (map called names))) (called_item x)
-    ∙ ap (λ (l : List Called). first_in (called_fault extern as_crossed l) (item_called x)) (all_used side xs there order ids are)
+    let all = side_called side xs there order in
+    let wrong = named_fault (is_extern x) (crossed_among side (map sorted_name all)) (map bare_name all) in
+    ap (λ (l : List Sorted). first_in (named_fault (is_extern x) (crossed_among side l) (defined_on side m.in_use)) (item_names x)) (sorts side ∙ sides_sorted side xs there order)
+    ∙ ap (λ (l : List Name). first_in (named_fault (is_extern x) (crossed_among side (map sorted_name all)) l) (item_names x)) (state side ∙ sym (all_used side xs there order ids are))
+    ∙ ap (first_in wrong) (sym (bare_item x))
+    ∙ in-map wrong bare_name (item_called x)
+    ∙ in_same (λ (c : Called). wrong (bare_name c)) (called_fault (is_extern x) (crossed side) all) (item_called x) (λ k c at. named_walked (is_extern x) side all c)
 
 module _ (wk : ItemWalk) (known : Known) (order : List ℕ) (turned : wk.scope.names.turn.items ≡ map local_id (in_turn (scope_names (item_view wk.item)) order)) (start : Walked) (begun : IsStart wk start) (old : Growing) where
   abbrev is : Interfaces

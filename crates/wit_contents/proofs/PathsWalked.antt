@@ -1,6 +1,6 @@
 -- Interfaces and worlds that are resolved say of used names and of includes what files do.
 use Rattle.std.proofs.Common.{◌≡◌, ℕ, ◌+◌, true, false, List, ◌++◌, length, map, Option, Some, None, ◌⊎◌, IsSome, inl, inr, refl, sym, ap, ◌∙◌, subst, arith, Contains, ◌<◌, zero, suc, Bool, [], ◌∷◌, take}
-use Rattle.wit_contents.proofs.Names.{Address, AddsForeign, AllDiffer, AreFunctions, AreUsableUses, AreWorldsDone, Attribute, Declared, Def, DefinitionPart, DoneScope, ExternPart, Fault, Foreign, ForeignNamed, ForeignVisit, FunctionPart, Id, Include, IncludePart, Interface, InterfaceNamed, Interfaces, InterfacesDone, IsForeignUse, IsFound, IsNameIndex, IsNoWorld, IsOrder, IsPlaced, IsResolvedUse, Local, Names, Ordered, PackageFile, PackageName, Part, Required, ResolvedScope, ScopeName, Source as BorrowedSource, SourceFunction, Target, Turned, TypeDef, UseName, UsePart, UsePath, Used, UsedName, World, WorldArenas, WorldNamed, Worlds, address, all_declared, all_items, any_found, any_some, are_interfaces, are_worlds, at_back, at_contains, at_part, at_prefix, at_split, at_within, bytes_eq, cases_Bool, contains_at, entry_of_item, env_of, find_passes, find_some, first_in, first_named, firsts_has, flat_map_at, flat_map_has, foreign_at, foreign_entry, foreign_interfaces, foreign_use_key, foreign_uses, foreign_worlds, free_functions, functions, if◌then◌else◌, in_order, include_fault, include_path, include_paths, included_fault, includes, interface_address, interface_there, interfaces, interfaces_at, is_foreign, is_none, is_world, is_world_at, item_at, item_name, item_named, item_of, item_rows, item_scopes, item_word, kept_early, keys, leads, length-map, list_any, local_name, lookup-place, lost_use, map_at, meaning, missing_at, name_equal, name_itself, named_at, named_within, needed_before, option_and_then, option_cases, option_map, option_map_or, option_or, ordered_at, own_declared, own_item, own_order, part_includes, parts, path_id, paths_of_world, prefix_resolved_scope, prefix_scopes, resolved_scope, resolved_scope_at, resolved_scope_of, resolved_scopes, resolved_scopes-append, same_address, same_address-equal, same_foreign_use, scope, scope_at, scope_names, scope_of, slice_get, slice_get-map, slice_get_within, some_of, source_target, source_view, stability_fault, unresolved_fault, unstated, use_fault, use_of_foreign, use_of_foreign-equal, use_of_foreign-from, use_view, used_listed, visited, visited_foreign, world_address, world_at, world_entry, world_list, world_missing, worlds, worlds_at, worlds_at-append, worlds_of, worlds_sort}
+use Rattle.wit_contents.proofs.Names.{Address, AddsForeign, AllDiffer, AreFunctions, AreUsableUses, AreWorldsDone, Attribute, Declared, Def, DefinitionPart, DoneScope, ExternPart, Fault, Foreign, ForeignNamed, ForeignVisit, FunctionPart, Id, Include, IncludePart, Interface, InterfaceNamed, Interfaces, InterfacesDone, IsForeignUse, IsFound, IsNameIndex, IsNoWorld, IsOrder, IsPlaced, IsResolvedUse, Local, Names, Ordered, PackageFile, PackageName, Part, Required, ResolvedScope, ScopeName, Source as BorrowedSource, SourceFunction, Target, Turned, TypeDef, UseName, UsePart, UsePath, Used, UsedName, World, WorldArenas, WorldNamed, Worlds, address, all_declared, all_items, any_found, any_some, are_interfaces, are_worlds, at_back, at_contains, at_part, at_prefix, at_split, at_within, bytes_eq, cases_Bool, contains_at, entry_of_item, env_of, find_passes, find_some, first_in, first_named, firsts_has, flat_map_at, flat_map_has, foreign_at, foreign_entry, foreign_interfaces, foreign_use_key, foreign_uses, foreign_worlds, free_functions, functions, if◌then◌else◌, in_order, include_fault, include_path, include_paths, included_fault, includes, interface_address, interface_there, interfaces, interfaces_at, is_foreign, is_none, is_world, is_world_at, item_at, item_name, item_named, item_of, item_rows, item_scopes, item_word, kept_early, keys, leads, length-map, list_any, local_name, lookup-place, lost_use, map_at, meaning, missing_at, name_equal, name_itself, named_at, named_within, needed_before, option_and_then, option_cases, option_map, option_map_or, option_or, ordered_at, own_declared, own_item, own_order, part_includes, parts, path_id, paths_of_world, prefix_resolved_scope, prefix_scopes, resolved_scope, resolved_scope_at, resolved_scope_of, resolved_scopes, resolved_scopes-append, same_address, same_address-equal, same_foreign_use, scope, scope_at, scope_names, scope_of, slice_get, slice_get-map, slice_get_within, some_of, source_target, source_view, stability_fault, unresolved_fault, unstated, use_fault, use_of_foreign, use_of_foreign-equal, use_of_foreign-from, use_view, used_listed, visited, visited_foreign, world_address, world_at, world_entry, world_list, world_missing, worlds, worlds_at, worlds_at-append, worlds_of, worlds_sort, interfaces_sort, lost_listed}
 use Rattle.wit_arena.proofs.Common.{Item, position_or_len, same_item}
 use Rattle.wit_items.proofs.Common.{interface_fault}
 use Rattle.wit_arena.proofs.FreeNames.{free_of, AreStated, free_stated, stated_free, free_names}
@@ -29,6 +29,7 @@ lost_same fns gns id there back = elim (cases_Bool (list_any (bytes_eq id.name.n
 record IsItemAt (files : List PackageFile) (from : Address) (name : List ℕ) (c : ResolvedScope) : Type 0 where
   item : Item
   found : item_at (all_items files) from ≡ Some item
+  sort : is_world item ≡ false
   missing : env_of c.types name ≡ None → meaning (scope_names item) name ≡ None
   meant : (place : ℕ) → env_of c.types name ≡ Some place → (x : ScopeName) × (meaning (scope_names item) name ≡ Some x)
   free : Contains (free_names item) name → Contains c.functions name
@@ -42,7 +43,7 @@ asked_same : (files : List PackageFile) (from : Address) (attributes : List Attr
 asked_same files from attributes n i t = by (env_of i.types n.name.name.now) refl ∙ sym (ap (said_at n) t.found)
   where
     lost : lost_name (free_functions i) n.name ≡ lost_use t.item n.name
-    lost = lost_same (free_functions i) (free_names t.item) n.name t.free t.stated
+    lost = lost_same (free_functions i) (free_names t.item) n.name t.free t.stated ∙ lost_listed t.item t.sort n.name
 
     by : (o : Option ℕ) → env_of i.types n.name.name.now ≡ o → (if is_none o then Some (lost_name (free_functions i) n.name) else None) ≡ (if is_none (meaning (scope_names t.item) n.name.name.now) then Some (lost_use t.item n.name) else None)
     by None free = ap Some lost ∙ sym (ap (λ (m : Option ScopeName). if is_none m then Some (lost_use t.item n.name) else None) (t.missing free))
@@ -98,6 +99,7 @@ module _ (files : List PackageFile) (places : List ℕ) (order : IsOrder (item_r
         record {
           item = v;
           found = subst (λ (s : Address). item_at (all_items files) s ≡ Some v) here (first_named (all_items files) v (all_declared files) differ (are.found j v there));
+          sort = (interfaces_sort (in_order (all_items files) places)).each j v there;
           missing = λ lacks. ap (λ (xs : List ScopeName). meaning xs name) names ∙ unstated files e.0 name done (ap (λ (t : Names). env_of t name) types ∙ lacks);
           meant = λ place has. (
               let p = lookup-place e.0.types name place (ap (λ (t : Names). env_of t name) types ∙ has) in

@@ -1,6 +1,6 @@
 -- The first fault of an interface by tables, and that of a world before its members, is that of the walk of files, where the tables say what the files do.
-use Rattle.std.proofs.Common.{◌≡◌, ℕ, zero, suc, Bool, true, false, List, [], ◌∷◌, ◌++◌, map, Option, Some, None, refl, sym, ap, ◌∙◌, subst, length, ◌==◌}
-use Rattle.wit_contents.proofs.Names.{Called, Declared, Defined, Exported, Fault, ForeignName, Id, Imported, Include, InterfaceItem, Interfaces, Item as BorrowedItem, ItemScope, Name, Outcome, PackageFile, ResourceFunc, ScopeName, SideFunction, SideItem, SourceFunction, Span, TheInline, TheInterface, TheWorld, TypeBody, Used, UsedName, WorldSide, Worlds, about, address, after-append, after_kept, any-map, bytes_eq, called_fault, clash, clash-made, clash-map, codes, crossed, cyclic_at, defined, definition_fault, definition_functions, earliest, fault_in, first_after, first_in, flat_map, flat_map_at, folded_fault, folded_key, free_function, function_fault, functions, functions_imported, handle_fault, if◌then◌else◌, in_order, in_turn, include_fault, includes, includes_fault, interface_fault, interface_part, is_on_side, is_world, item_function, item_stability, item_view, items_on, kept_all, kept_none, local_id, local_name, local_names_fault, map-append, map_at, member_fault, missing_type_at, name_called, name_fault, name_twice, names_of, names_on, name_view, on_side, option_or, or_assoc, or_none, or_none_both, order_fault, order_of, ordered_fault, own_fault, own_use, part_functions, repeat-map, repeat_of, resource_function, role_side, same_side, scope_faults, scope_item, scope_names, setters_fault, side_called, side_items, side_items_functions, side_setters_fault, side_sorted, signed_fault, slice_get, stability_fault, turn_fault, type_word, use_fault, use_view, used, uses_viewed, word_fault, world_head}
+use Rattle.std.proofs.Common.{◌≡◌, ℕ, suc, Bool, true, false, List, [], ◌∷◌, ◌++◌, map, Option, Some, None, refl, sym, ap, ◌∙◌, length, ◌==◌}
+use Rattle.wit_contents.proofs.Names.{Called, Defined, Exported, Fault, ForeignName, Id, Imported, Include, Interfaces, Item as BorrowedItem, ItemScope, Name, Outcome, PackageFile, ScopeName, SideFunction, SideItem, SourceFunction, Used, UsedName, WorldSide, Worlds, about, address, after-append, after_kept, any-map, bytes_eq, called_fault, clash, clash-made, clash-map, codes, crossed, cyclic_at, defined, definition_fault, earliest, fault_in, first_after, first_in, flat_map, folded_fault, folded_key, function_fault, functions, functions_imported, handle_fault, if◌then◌else◌, in_order, in_turn, include_fault, includes, includes_fault, interface_fault, is_on_side, is_world, item_function, item_stability, item_view, items_on, kept_all, kept_none, local_id, local_name, local_names_fault, map-append, member_fault, missing_type_at, name_called, name_fault, name_twice, names_of, names_on, name_view, on_side, option_or, or_assoc, or_none, or_none_both, order_fault, order_of, ordered_fault, own_fault, own_use, repeat-map, repeat_of, role_side, same_side, scope_faults, scope_item, scope_names, setters_fault, side_called, side_items, side_items_functions, side_setters_fault, signed_fault, slice_get, stability_fault, turn_fault, type_word, use_fault, use_view, used, uses_viewed, word_fault, world_head, functions_free}
 use Rattle.wit_arena.proofs.Common.{Item}
 use Rattle.wit_type_tree.specs.declared.types.TypeBody.TheVariants as body
 use Rattle.wit_type_tree.specs.declared.types.ResourceFunc.TheVariants as resource
@@ -8,7 +8,7 @@ use Rattle.wit_tree.specs.declared.tree.InterfaceItem.TheVariants as interface_i
 use Rattle.wit_signatures.specs.FunctionsOfScope.{name_key, name_of_function, name_of_id}
 use Rattle.wit_externs.specs.Clash.{again, again_fault, alone_fault, alone_faults, defined_fault, lone_setters, names_of_items}
 use Rattle.wit_item_entries.specs.ReachedFaults.{local_fault, used_fault, functions_fault}
-use Rattle.wit_item_entries.proofs.NameOrder.{all_used, called}
+use Rattle.wit_item_entries.proofs.NameOrder.{all_used, bare_name}
 use Rattle.wit_syntax.proofs.Setters.{declared_includes}
 use Rattle.wit_items.proofs.Common.{resource_items}
 
@@ -68,39 +68,6 @@ turn_walked ys =
     ∙ clash-map (λ (id : Id). name_key (name_of_id id)) (λ (x y : Id). again (name_of_id x) (name_of_id y)) local_id ys
     ∙ sym (clash-map (λ (c : Called). folded_key c.name) (λ (earlier later : Called). fault_in 17 later.span (clash (codes "name") earlier.name later.name)) name_called ys)
 
--- no function of an interface is what a world imports or exports
-resource_free : (r : Id) (g : ResourceFunc) → is_on_side (resource_function r g).role ≡ false
-resource_free r (resource.Method f) = refl
-resource_free r (resource.Static f) = refl
-resource_free r (resource.Constructor docs attributes span params result) = refl
-
-definition_free : (r : Id) (b : TypeBody) (k : ℕ) (fn : SourceFunction) → slice_get (definition_functions r b) k ≡ Some fn → is_on_side fn.role ≡ false
-definition_free r (body.Resource funcs) k fn at =
-    let g = map_at (resource_function r) funcs.items k fn at in
-    subst (λ (x : SourceFunction). is_on_side x.role ≡ false) g.2 (resource_free r g.0)
-definition_free r (body.Record span fields) k fn at = absurd (cc)
-definition_free r (body.Flags span flags) k fn at = absurd (cc)
-definition_free r (body.Variant span cases) k fn at = absurd (cc)
-definition_free r (body.Enum span cases) k fn at = absurd (cc)
-definition_free r (body.Plain t) k fn at = absurd (cc)
-
-item_free : (i : InterfaceItem) (k : ℕ) (fn : SourceFunction) → slice_get (part_functions (interface_part i)) k ≡ Some fn → is_on_side fn.role ≡ false
-item_free (interface_item.TypeDef d) k fn at = definition_free d.name d.body k fn at
-item_free (interface_item.Use u) k fn at = absurd (cc)
-item_free (interface_item.Func g) zero fn at = let same : free_function g ≡ fn = cc in subst (λ (x : SourceFunction). is_on_side x.role ≡ false) same refl
-item_free (interface_item.Func g) (suc k) fn at = absurd (cc)
-
-items_free : (items : List InterfaceItem) (k : ℕ) (fn : SourceFunction) → slice_get (flat_map part_functions (map interface_part items)) k ≡ Some fn → is_on_side fn.role ≡ false
-items_free items k fn at =
-    let it = flat_map_at part_functions (map interface_part items) k fn at in
-    let p = map_at interface_part items it.0 it.1 it.2 in
-    item_free p.0 it.3.0 fn (ap (λ x. slice_get (part_functions x) it.3.0) p.2 ∙ it.3.1)
-
-declared_free : (d : Declared) → (about d).is_world ≡ false → (k : ℕ) (fn : SourceFunction) → slice_get (flat_map part_functions (about d).parts) k ≡ Some fn → is_on_side fn.role ≡ false
-declared_free (TheInterface i) own k fn at = items_free i.items.items k fn at
-declared_free (TheWorld w) own k fn at = absurd (cc)
-declared_free (TheInline world place x name items) own k fn at = items_free items k fn at
-
 module _ (files : List PackageFile) (steps : ℕ) (inside : Item → Option Fault) (i : Item) (order : List ℕ) where
   abbrev xs : List ScopeName
   xs = scope_names i
@@ -120,7 +87,7 @@ module _ (files : List PackageFile) (steps : ℕ) (inside : Item → Option Faul
   abbrev alone : List SourceFunction → SourceFunction → Option Fault
   alone = alone_fault (word_fault xs) handle xs taken
 
-  called_free : (extern : Bool) (as_crossed : List ℕ → Span → Fault) (before : List Called) (c : Called) → extern ≡ false → called_fault extern as_crossed before c ≡ folded_fault before c
+  called_free : (extern : Bool) (as_crossed : Called → Called → Fault) (before : List Called) (c : Called) → extern ≡ false → called_fault extern as_crossed before c ≡ folded_fault before c
   called_free true as_crossed before c own = absurd (cc)
   called_free false as_crossed before c own = refl
 
@@ -128,12 +95,12 @@ module _ (files : List PackageFile) (steps : ℕ) (inside : Item → Option Faul
   member_walked before fn own =
       let side = role_side fn.role in
       let there = items_on side (map SideFunction before) in
-      let c : Called = record { name = fn.name; span = fn.span } in
+      let c : Called = record { name = fn.name; span = fn.span; sort = codes "func" } in
       let names = taken side ++ names_of_items there in
       let signed : function_fault (signed_fault xs (before ++ fn ∷ []) handle) xs fn ≡ function_fault (signed_fault xs (flat_map item_function (map SideFunction before) ++ fn ∷ []) handle) xs fn = ap (λ (l : List SourceFunction). function_fault (signed_fault xs (l ++ fn ∷ []) handle) xs fn) (sym (resource_items before)) in
-      let as_crossed = crossed side (side_sorted side xs there order) in
-      let folded : again_fault names (name_of_function fn) ≡ folded_fault (side_called side xs there order) c = sym (clash-made (λ (d : Called). folded_key d.name) (λ (earlier later : Called). fault_in 17 later.span (clash (codes "name") earlier.name later.name)) called names (name_of_function fn)) ∙ ap (λ (l : List Called). folded_fault l c) (all_used side xs there order ids refl) in
-      let one : again_fault names (name_of_function fn) ≡ own_fault xs there order (SideFunction fn) = folded ∙ sym (called_free (is_on_side fn.role) as_crossed (side_called side xs there order) c own) ∙ sym (or_none (called_fault (is_on_side fn.role) as_crossed (side_called side xs there order) c)) in
+      let all = side_called side xs there order in
+      let folded : again_fault names (name_of_function fn) ≡ folded_fault all c = ap (λ (l : List Name). again_fault l (name_of_function fn)) (sym (all_used side xs there order ids refl)) ∙ clash-made name_key again bare_name all c in
+      let one : again_fault names (name_of_function fn) ≡ own_fault xs there order (SideFunction fn) = folded ∙ sym (called_free (is_on_side fn.role) (crossed side) all c own) ∙ sym (or_none (called_fault (is_on_side fn.role) (crossed side) all c)) in
       ap (λ (o : Option Fault). option_or o (again_fault names (name_of_function fn))) signed ∙ ap (option_or (function_fault (signed_fault xs (flat_map item_function (map SideFunction before) ++ fn ∷ []) handle) xs fn)) one
 
   members_walked : (before fns : List SourceFunction) → ((k : ℕ) (fn : SourceFunction) → slice_get fns k ≡ Some fn → is_on_side fn.role ≡ false) → first_after alone before fns ≡ first_after member (map SideFunction before) (map SideFunction fns)
@@ -180,7 +147,7 @@ interface_walked files steps inside is s outcome sort named say =
     let called_names = first_after folded_fault [] (map name_called (in_turn xs order)) in
     let members = first_after (member_fault files steps inside i order) [] (side_items i) in
     let names_are : option_or uses twice ≡ names = names_walked files is us xs (uses_viewed s.names.now ∙ ap used named) say in
-    let members_are : own ≡ members = members_walked files steps inside i order [] fns (declared_free i.declared sort) ∙ ap (first_after (member_fault files steps inside i order) []) (sym (side_items_functions i sort)) in
+    let members_are : own ≡ members = members_walked files steps inside i order [] fns (functions_free i sort) ∙ ap (first_after (member_fault files steps inside i order) []) (sym (side_items_functions i sort)) in
     let nothing : None ≡ first_in (include_fault files i.top) (includes i) = sym (ap (first_in (include_fault files i.top)) (declared_includes i.declared sort)) in
     let last : option_or stable (option_or (option_or uses twice) (option_or round (option_or definitions (option_or folded (option_or own (option_or setters None)))))) ≡ earliest (scope_faults files steps inside i outcome) = rw (names_are, turn_walked (in_turn xs order), members_are, setters_walked i sort, ← nothing) refl in
     by_tables ∙ regroup stable uses twice round definitions folded own setters ∙ last

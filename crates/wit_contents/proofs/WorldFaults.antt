@@ -1,6 +1,6 @@
 -- The first fault of a world: of its attributes, of its names, of its includes, or of what is on its sides.
 use Rattle.std.proofs.Common.{◌≡◌, ℕ, ◌+◌, Bool, false, true, List, [], ◌∷◌, ◌++◌, drop, length, map, take, Option, Some, None, refl, sym, ap, ◌∙◌, subst, All, ◌<◌, get_or, ◌==◌, arith}
-use Rattle.wit_contents.proofs.Names.{AddsTurn, AreKeyed, Declared, EndsInTurn, Exported, Fault, Finds, FindsNames, FindsSides, Id, Imported, Include, IsItemOf, IsNext, IsOutcome, IsRightOfWorld, IsSeen, IsWalk, Item as BorrowedItem, ItemWalk, Outcome, PackageFile, ParseError, Reports, ResolvedScope, Result, ScopeName, SourceFunction, TheInline, TheInterface, TheWorld, TopName, TypeDef, TypeOwner, Worlds, about, all_declared, all_items, append-nil, at_contains, declared_view, eqb-suc-zero, filter, filter-append, filter_map-append, finds_same, first_after, first_in, functions, if◌then◌else◌, in-append, in-more, in_order, in_turn, includes, includes_fault, is_inside, item_in, item_stability, item_view, kept_next, local_id, names_at_top, names_fault, name_view, option_map, option_or, order_of, reports_back, reports_prefix, reports_same, resolved_scopes_of, rows_of, scope_names, setters_fault, side_items, side_setters_fault, sides_fault, slice_get, slice_get-get_or, slice_get-map, take-append-drop, turn_fault, world_head, Address, AddsMembers, AddsSides, AddsWorld, AllDiffer, AreIncludes, AreSideItems, Borrowed, Entry, HavePlaces, Interface, Interfaces, IsStart, IsTurn, IsWorld, MemberTest, Name, Names, Required, SideItem, World, WorldSide, address, and_parts, arenas, at_back, at_prefix, declared_metadata, eqb-true, flat_map, function_of, functions_items, in_turn_distinct, inline_items, interfaces_at, is_ascii_uppercase, item_function, list_all, list_any, names_on, nil_from_length, no_clashes, none_both, part_functions, part_items, prefix_of, puts_nothing, settled, stage, type_imports, world_part, worlds_at}
+use Rattle.wit_contents.proofs.Names.{AddsTurn, AreKeyed, Declared, EndsInTurn, Exported, Fault, Finds, FindsNames, FindsSides, Id, Imported, Include, IsItemOf, IsNext, IsOutcome, IsRightOfWorld, IsSeen, IsWalk, Item as BorrowedItem, ItemWalk, Outcome, PackageFile, ParseError, Reports, ResolvedScope, Result, ScopeName, SourceFunction, TheInline, TheInterface, TheWorld, TopName, TypeDef, TypeOwner, Worlds, about, all_declared, all_items, append-nil, at_contains, declared_view, eqb-suc-zero, filter, filter-append, filter_map-append, finds_same, first_after, first_in, functions, if◌then◌else◌, in-append, in-more, in_order, in_turn, includes, includes_fault, is_inside, item_in, item_stability, item_view, kept_next, local_id, names_at_top, names_fault, name_view, option_map, option_or, order_of, reports_back, reports_prefix, reports_same, resolved_scopes_of, rows_of, scope_names, setters_fault, side_items, side_setters_fault, sides_fault, slice_get, slice_get-get_or, slice_get-map, take-append-drop, turn_fault, world_head, Address, AddsMembers, AddsSides, AddsWorld, AllDiffer, AreIncludes, AreSideItems, Borrowed, Entry, HavePlaces, Interface, Interfaces, IsStart, IsTurn, IsWorld, MemberTest, Name, Names, Required, SideItem, World, WorldSide, address, and_parts, arenas, at_back, at_prefix, declared_metadata, eqb-true, flat_map, function_of, in_turn_distinct, inline_items, interfaces_at, is_ascii_uppercase, item_function, list_all, list_any, names_on, nil_from_length, no_clashes, none_both, part_functions, part_items, prefix_of, puts_nothing, settled, stage, type_imports, world_part, worlds_at, functions_parts}
 use Rattle.wit_contents.specs.declared.walk.Growing.{Growing}
 use Rattle.wit_contents.specs.declared.walk.Walked.{Walked}
 use Rattle.wit_contents.specs.declared.walk.WorldScope.{WorldScope}
@@ -157,7 +157,7 @@ among_kept keep wrong ws places k p w e next at kept none own =
 pub walk_there : (is : Interfaces) (i : BorrowedItem) (s : WorldScope) (world : Written) (names : List Borrowed) → IsWorldOf is i → declared_view i.declared ≡ TheWorld world → IsTurn (scope_names (item_view i)) s.names.turn.items → map function_view s.functions.items ≡ flat_map part_functions (map world_part world.items.items) → names ≡ i.names.items → AreResults s.results (map name_view names) → s.closed ≡ none_of (includes (item_view i)) → IsWalk (record { item = i; scope = s; interfaces = is })
 walk_there is i s world names of declared turn functions lent results closed = record {
   world = of;
-  functions = functions ∙ ap (λ (d : Declared). flat_map part_functions (about d).parts) (sym declared);
+  functions = functions ∙ ap (λ (d : Declared). flat_map part_functions (about d).parts) (sym declared) ∙ sym (functions_parts (item_view i));
   results = subst (AreResults s.results) (ap (map name_view) lent ∙ of.item.named) results;
   turn = turn;
   closed = closed;
@@ -234,7 +234,7 @@ by_includes i [] none = ap sides_setters none
 by_includes i (n ∷ ns) none = ap (λ (b : Bool). if b then option_or (side_setters_fault i Imported) (side_setters_fault i Exported) else None) (eqb-suc-zero (length ns))
 
 pub setters_none : (i : Item) → side_items i ≡ [] → setters_fault i ≡ None
-setters_none i empty = by_includes i (includes i) (functions_items i ∙ ap (flat_map item_function) empty)
+setters_none i empty = by_includes i (includes i) (ap (flat_map item_function) empty)
 
 -- types are no functions
 no_setter : (xs : List ScopeName) (types : Names) → list_any (λ (e : Entry). is_setter (function_of e.1)) (type_imports xs types) ≡ false

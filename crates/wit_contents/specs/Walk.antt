@@ -3,7 +3,7 @@ use Rattle.std.specs.Prelude.{◌≡◌, ◌+◌, ◌++◌, ◌∷◌, [], ℕ, 
 use Rattle.wit_contents.specs.Names.{Address, AddsSides, Appends, AreSideItems, BorrowedItem, EndsIn, Fault, Function, Id, Interface, Interfaces, IsExtended, IsItemOf, Item, Link, ParseError, Required, ScopeName, SideFunction, SideInline, SideItem, SideLink, SourceFunction, TypeDef, UsePath, WorldSide, address, entries_of, env_of, flat_map, functions as the_functions, includes, inline_after, interfaces_at, is_world, item_function, item_view, items_on, linked_fault, local_id, name_of_id, names_on, none_of, option_map_or, option_or, part_items, path_place, prefix_of, resolved_scopes_of, resource_function, scope_names, side_items, signed_by, type_imports, world_part}
 use Rattle.wit_type_tree.specs.declared.types.ResourceFunc.{ResourceFunc}
 use Rattle.wit_tree.specs.declared.tree.WorldItem.{WorldItem}
-use Rattle.wit_walk.specs.Members.{item_sorted}
+use Rattle.wit_walk.specs.Sorts.{item_sorted}
 use Rattle.wit_sides.specs.SideNames.{defined_on}
 use Rattle.wit_rules.specs.Signatures.{function_view, AreResults}
 use Rattle.wit_externs.specs.Clash.{names_of_items, bare_places, linked_on}

@@ -1,7 +1,7 @@
 -- Names on a side, as they are called there, and their keys.
-use Rattle.std.proofs.Common.{◌≡◌, ℕ, false, List, [], ◌∷◌, ◌++◌, map, refl, sym, ap, ◌∙◌, subst, length, Option, Some, None, inl, inr}
+use Rattle.std.proofs.Common.{◌≡◌, ℕ, false, List, [], ◌∷◌, ◌++◌, map, refl, sym, ap, ◌∙◌, subst, length, Option, Some, None, inl, inr, ap₂, codes}
 use denote.Ref.{Bor}
-use Rattle.wit_items.proofs.Common.{any-map, AllDiffer, Id, ScopeName, append-nil, in_turn_distinct, is_ascii_uppercase, list_any, lower_case, map_map, Exported, Imported, SideFunction, WorldSide, differ_none, names_on, nil_from_length, Called, Name, SideInline, SideItem, SideLink, called_key, flat_map, in_turn, item_called, items_on, local_id, map-append, name_called, option_map_or, side_called, Declared, SourceFunction, TheInline, TheInterface, TheWorld, about, cases_Bool, cond-false, cond-true, functions, interface_imported, is_world, on_side, part_functions, role_side, same_side}
+use Rattle.wit_items.proofs.Common.{any-map, AllDiffer, Id, ScopeName, append-nil, in_turn_distinct, is_ascii_uppercase, list_any, lower_case, map_map, Exported, Imported, SideFunction, WorldSide, differ_none, names_on, nil_from_length, Called, Name, SideInline, SideItem, SideLink, called_key, flat_map, in_turn, item_called, items_on, local_id, map-append, name_called, option_map_or, side_called, Declared, SourceFunction, TheInline, TheInterface, TheWorld, about, cases_Bool, cond-false, cond-true, functions, interface_imported, is_world, on_side, part_functions, role_side, same_side, functions_parts}
 use Rattle.wit_names.proofs.Labels.{folded_key-label}
 use Rattle.wit_refusals.proofs.Cases.{texts-lower, names-folded}
 use Rattle.wit_signatures.specs.FunctionsOfScope.{name_of_id, name_key, name_of_function}
@@ -42,49 +42,40 @@ pub names_alone : (side : WorldSide) (xs : List ScopeName) (ids : List Id) (hs :
 names_alone side xs ids hs none t lower = subst (λ (l : List BorrowedFunction). AllDiffer (map name_key (all_on side ids (map SideFunction (map function_view l))))) (sym (nil_from_length hs none)) (alone side xs ids t lower)
 
 -- Names that are taken on a side, as they are called there: where their keys differ, so do those of all that is called.
--- a name as it is called
-abbrev pub called : Name → Called
-called n = record { name = n.0; span = n.1 }
+-- what is called, without the word for it
+abbrev pub bare_name : Called → Name
+bare_name c = (c.name, c.span)
 
-called_id : (o : Option Id) → map called (option_map_or (λ id. name_of_id id ∷ []) o []) ≡ option_map_or (λ (id : Id). (record { name = id.name.now; span = id.span } ∷ [])) o []
-called_id None = refl
-called_id (Some id) = refl
+bare_id : (o : Option Id) → map bare_name (option_map_or (λ (id : Id). (record { name = id.name.now; span = id.span; sort = codes "interface" } ∷ [])) o []) ≡ option_map_or (λ id. name_of_id id ∷ []) o []
+bare_id None = refl
+bare_id (Some id) = refl
 
-pub called_item : (x : SideItem) → map called (item_names x) ≡ item_called x
-called_item (SideFunction fn) = refl
-called_item (SideLink link) = called_id link.name
-called_item (SideInline x name items) = refl
+pub bare_item : (x : SideItem) → map bare_name (item_called x) ≡ item_names x
+bare_item (SideFunction fn) = refl
+bare_item (SideLink link) = bare_id link.name
+bare_item (SideInline x name items) = refl
 
-called_items : (items : List SideItem) → map called (names_of_items items) ≡ flat_map item_called items
-called_items [] = refl
-called_items (x ∷ items) =
-    map-append called (item_names x) (names_of_items items)
-    ∙ ap (λ (l : List Called). l ++ map called (names_of_items items)) (called_item x)
-    ∙ ap (λ (l : List Called). item_called x ++ l) (called_items items)
+bare_items : (items : List SideItem) → map bare_name (flat_map item_called items) ≡ names_of_items items
+bare_items [] = refl
+bare_items (x ∷ items) = map-append bare_name (item_called x) (flat_map item_called items) ∙ ap₂ (λ a b. a ++ b) (bare_item x) (bare_items items)
 
-called_names : (xs : List ScopeName) → map called (map name_of_id (map local_id xs)) ≡ map name_called xs
-called_names [] = refl
-called_names (x ∷ xs) = ap (λ l. name_called x ∷ l) (called_names xs)
+bare_names : (xs : List ScopeName) → map bare_name (map name_called xs) ≡ map name_of_id (map local_id xs)
+bare_names [] = refl
+bare_names (x ∷ xs) = ap (λ l. name_of_id (local_id x) ∷ l) (bare_names xs)
 
-called_on : (side : WorldSide) (xs : List ScopeName) (ids : List Id) → ids ≡ map local_id xs → map called (names_on side (map name_of_id ids)) ≡ map name_called (names_on side xs)
-called_on Imported xs ids are = ap (λ (l : List Id). map called (map name_of_id l)) are ∙ called_names xs
-called_on Exported xs ids are = refl
+bare_on : (side : WorldSide) (xs : List ScopeName) (ids : List Id) → ids ≡ map local_id xs → map bare_name (map name_called (names_on side xs)) ≡ names_on side (map name_of_id ids)
+bare_on Imported xs ids are = bare_names xs ∙ ap (map name_of_id) (sym are)
+bare_on Exported xs ids are = refl
 
 -- the names of a scope in turn on a side, and then those of what comes after them
-pub all_used : (side : WorldSide) (xs : List ScopeName) (items : List SideItem) (order : List ℕ) (ids : List Id) → ids ≡ map local_id (in_turn xs order) → map called (names_on side (map name_of_id ids) ++ names_of_items items) ≡ map name_called (names_on side (in_turn xs order)) ++ flat_map item_called items
+pub all_used : (side : WorldSide) (xs : List ScopeName) (items : List SideItem) (order : List ℕ) (ids : List Id) → ids ≡ map local_id (in_turn xs order) → map bare_name (side_called side xs items order) ≡ names_on side (map name_of_id ids) ++ names_of_items items
 all_used side xs items order ids are =
-    map-append called (names_on side (map name_of_id ids)) (names_of_items items)
-    ∙ ap (λ (l : List Called). l ++ map called (names_of_items items)) (called_on side (in_turn xs order) ids are)
-    ∙ ap (λ (l : List Called). map name_called (names_on side (in_turn xs order)) ++ l) (called_items items)
-
--- the keys of names are those of what they are called
-keys_called : (names : List Name) → map called_key (map called names) ≡ map name_key names
-keys_called [] = refl
-keys_called (n ∷ ns) = ap (λ l. name_key n ∷ l) (keys_called ns)
+    map-append bare_name (map name_called (names_on side (in_turn xs order))) (flat_map item_called items)
+    ∙ ap₂ (λ a b. a ++ b) (bare_on side (in_turn xs order) ids are) (bare_items items)
 
 -- where the keys of what is taken on a side differ, so do those of all that is called there
 pub differ_called : (side : WorldSide) (xs : List ScopeName) (items : List SideItem) (order : List ℕ) (ids : List Id) → ids ≡ map local_id (in_turn xs order) → AllDiffer (map name_key (all_on side ids items)) → AllDiffer (map called_key (side_called side xs (items_on side items) order))
-differ_called side xs items order ids are h = subst AllDiffer (sym (keys_called (all_on side ids items)) ∙ ap (map called_key) (all_used side xs (items_on side items) order ids are)) h
+differ_called side xs items order ids are h = subst AllDiffer (ap (map name_key) (sym (all_used side xs (items_on side items) order ids are)) ∙ map_map name_key bare_name (side_called side xs (items_on side items) order)) h
 
 -- An interface has functions alone on its sides, and they are where imports do.
 declared_imported : (d : Declared) → (about d).is_world ≡ false → on_side Imported (flat_map part_functions (about d).parts) ≡ flat_map part_functions (about d).parts
@@ -93,7 +84,7 @@ declared_imported (TheWorld w) sort = absurd (let f : ⊥ = cc in f)
 declared_imported (TheInline world place x name items) sort = interface_imported items
 
 pub all_imported : (item : Item) → is_world item ≡ false → on_side Imported (functions item) ≡ functions item
-all_imported item sort = declared_imported item.declared sort
+all_imported item sort = ap (on_side Imported) (functions_parts item) ∙ declared_imported item.declared sort ∙ sym (functions_parts item)
 
 -- the names of functions that a world would import
 names_functions : (fns : List SourceFunction) → names_of_items (items_on Imported (map SideFunction fns)) ≡ map name_of_function (on_side Imported fns)

@@ -2,7 +2,7 @@
 use Rattle.std.proofs.Common.{ℕ, List, ◌∙◌, ◌≡◌, zero, suc, map, Some, IsSome, refl, ap, subst, arith, true, false, cond, [], ◌∷◌, ◌++◌, Option, None, inl, inr, nat_eq, take, sym}
 use Rattle.std.specs.List.{find}
 use denote.Ref.{Bor}
-use Rattle.wit_items.proofs.Common.{IsWorld, Metadata, Span, World, Defined, DefinitionPart, Env, ExternPart, FunctionPart, Id, IncludePart, Names, Part, ResourceFunc, ScopeName, SourceFunction, TypeBody, UsePart, definition_functions, env_of, extern_at, flat_map_at, flat_map_has, free_function, functions, in_turn, in_turn_has, local_name, local_names, lookup-listed, map_at, names_in, option_map, part_functions, part_names, parts, resource_function, scope_names, slice_get, slice_get-map, AreDistinct, body_ok, bytes_eq, differ_at, differ_by, find-append, insert_entry, lookup, meaning, meant_ok, name_cases, name_itself, option_or, or_none, pointwise, «Type» as Written, Address, AddsAfter, AddsFunctions, AllDiffer, AreEnded, Function, Imported, Name, Required, ResolvedScope, SideFunction, SideItem, TypeDef, TypeOwner, address, all_handles, all_handles-append, ended_append, ended_more, flat_map, function_name, is_ascii_uppercase, is_world, list_any, made_name, map_map, name_types, on_side, side_items, side_items_functions, written_types}
+use Rattle.wit_items.proofs.Common.{IsWorld, Metadata, Span, World, Defined, DefinitionPart, Env, ExternPart, FunctionPart, Id, IncludePart, Names, Part, ResourceFunc, ScopeName, SourceFunction, TypeBody, UsePart, definition_functions, env_of, extern_at, flat_map_has, free_function, functions, in_turn, in_turn_has, local_name, local_names, lookup-listed, map_at, names_in, option_map, part_functions, part_names, parts, resource_function, scope_names, slice_get, slice_get-map, AreDistinct, body_ok, bytes_eq, differ_at, differ_by, find-append, insert_entry, lookup, meaning, meant_ok, name_cases, name_itself, option_or, or_none, pointwise, «Type» as Written, Address, AddsAfter, AddsFunctions, AllDiffer, AreEnded, Function, Imported, Name, Required, ResolvedScope, SideFunction, SideItem, TypeDef, TypeOwner, address, all_handles, all_handles-append, ended_append, ended_more, flat_map, function_name, is_ascii_uppercase, is_world, list_any, made_name, map_map, name_types, on_side, side_items, side_items_functions, written_types, part_of_function}
 use Rattle.wit_items.specs.declared.metadata.ItemMetadata.{ItemMetadata}
 use Rattle.wit_items.specs.BorrowedItems.{metadata_view, AreOf}
 use Rattle.wit_arena.proofs.Common.{Item}
@@ -61,7 +61,7 @@ module _ (item : Item) (env : Env) (has : (i : ℕ) (x : ScopeName) → slice_ge
   pub owners : HaveOwners env (functions item)
   owners = record {
     each = λ k fn at. (
-        let p = flat_map_at part_functions (parts item) k fn at in
+        let p = part_of_function item k fn at in
         part_owner p.0 p.1 p.3.0 fn p.2 p.3.1);
   }
 

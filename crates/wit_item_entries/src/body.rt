@@ -1,9 +1,8 @@
 //! What is stated of an item and its names, the same of an interface and of a world, and the functions of an
 //! interface.
 ghost use Rattle.std.specs.Prelude.{◌≡◌, ◌<◌, IfOk, OnOk, false, length, map};
-ghost use Rattle.wit_syntax.specs.Function.{functions};
 ghost use Rattle.wit_syntax.specs.Source.{scope_names as the_names, declared_metadata, is_world};
-ghost use Rattle.wit_syntax.specs.Sides.{SideFunction};
+ghost use Rattle.wit_syntax.specs.Sides.{SideFunction, functions};
 ghost use Rattle.wit_arena.specs.Resolving.{env_of, names_in};
 ghost use Rattle.wit_entries.specs.EntryFaults.{IsExtended};
 ghost use Rattle.wit_rules.specs.Signatures.{function_view};

@@ -5,10 +5,11 @@ ghost use Rattle.std.specs.List.{flat_map};
 ghost use Rattle.indexmap.specs.IndexMap.{insert_entry};
 ghost use Rattle.wit_syntax.specs.Repeats.{AllDiffer};
 ghost use Rattle.wit_syntax.specs.Source.{interface_part, is_world, local_name, world_part};
-ghost use Rattle.wit_syntax.specs.Function.{definition_functions, extern_functions, functions as the_functions, part_functions};
+ghost use Rattle.wit_syntax.specs.Function.{definition_functions, extern_functions, part_functions};
 ghost use Rattle.wit_arena.specs.SourceFunctions.{placed_functions};
 ghost use Rattle.wit_rules.specs.Signatures.{function_view, stated_ok, AreResults};
 ghost use Rattle.wit_syntax.specs.SignatureRules.{body_ok};
+ghost use Rattle.wit_syntax.specs.Sides.{functions as the_functions};
 ghost use Rattle.wit_items.specs.BorrowedItems.{scope_item};
 ghost use Rattle.wit_scopes.specs.BorrowedNames.{name_view};
 

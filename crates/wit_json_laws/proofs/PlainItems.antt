@@ -1,6 +1,6 @@
 -- The items of plain trees, and what they name of other packages.
 use Rattle.std.proofs.Common.{ℕ, Bool, true, false, cond, List, [], ◌∷◌, ◌++◌, Option, Some, None, Contains, inl, inr, refl, sym, subst}
-use Rattle.wit_arena.proofs.Common.{All, Attribute, DefinitionPart, Exported, Extern, ExternKind, ExternPart, ForeignUse, ForeignVisit, FunctionPart, IfSome, Imported, IncludePart, IsUsedAt, IsWritten, Item, PackageFile, Part, SideInline, TheInterface, TheWorld, TopName, UsePart, UsePath, WorldSide, about, all_items, all_scopes, at_contains, at_side, declaration_visits, declared_items, extern_paths, extern_visits, file_items, flat_map, foreign_uses, foreign_visits, functions, inline_items, inline_items_at, inline_uses, last_header, option_map, option_or, part_functions, part_items, part_names, part_uses, part_visits, parts, path_visits, same_side, scope_names, scopes_either, side_items, top_names, used_at, uses, walk}
+use Rattle.wit_arena.proofs.Common.{All, Attribute, DefinitionPart, Exported, Extern, ExternKind, ExternPart, ForeignUse, ForeignVisit, FunctionPart, IfSome, Imported, IncludePart, IsUsedAt, IsWritten, Item, PackageFile, Part, SideInline, TheInterface, TheWorld, TopName, UsePart, UsePath, WorldSide, about, all_items, all_scopes, at_contains, at_side, declaration_visits, declared_items, extern_paths, extern_visits, file_items, flat_map, foreign_uses, foreign_visits, functions, functions_parts, inline_items, inline_items_at, inline_uses, last_header, option_map, option_or, part_functions, part_items, part_names, part_uses, part_visits, parts, path_visits, same_side, scope_names, scopes_either, side_items, top_names, used_at, uses, walk}
 use Rattle.wit_syntax.proofs.Common.{AstItem, Use}
 use Rattle.wit_tree.specs.declared.tree.AstItem.TheVariants as ast
 use Rattle.wit_tree.specs.declared.tree.ExternKind.TheVariants as extern
@@ -19,7 +19,7 @@ pub record IsPlainScope (i : Item) : Type 0 where
 
 -- ---- what follows for an item
 pub functions_plain : (i : Item) → IsPlainScope i → All IsPlainSource (functions i)
-functions_plain i h = all_flat IsPlainSource part_functions (parts i) (λ k p at. part_functions_plain p (at_all IsPlainPart (parts i) h.parts k p at))
+functions_plain i h = subst (All IsPlainSource) (sym (functions_parts i)) (all_flat IsPlainSource part_functions (parts i) (λ k p at. part_functions_plain p (at_all IsPlainPart (parts i) h.parts k p at)))
 
 pub names_plain : (i : Item) → IsPlainScope i → All IsPlainScopeName (scope_names i)
 names_plain i h = all_flat IsPlainScopeName (part_names i.top) (parts i) (λ k p at. part_names_plain i.top p (at_all IsPlainPart (parts i) h.parts k p at))

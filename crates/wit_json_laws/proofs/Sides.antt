@@ -1,5 +1,5 @@
 -- The keys of what a world has on a side: names, and places of interfaces without one.
-use Rattle.std.proofs.Common.{◌≡◌, ℕ, zero, suc, ◌<◌, Bool, true, false, cond, List, [], ◌∷◌, ◌++◌, length, map, Option, Some, None, inl, inr, refl, sym, ap, ◌∙◌, subst, arith}
+use Rattle.std.proofs.Common.{◌≡◌, ℕ, zero, suc, ◌<◌, Bool, true, false, cond, List, [], ◌∷◌, ◌++◌, length, map, Option, Some, None, inl, inr, refl, sym, ap, ◌∙◌, subst, arith, codes}
 use Rattle.wit_arena.proofs.Common.{Address, AllDiffer, Called, Def, Function, Id, Item, Key, Link, ScopeName, SideFunction, SideInline, SideItem, SideLink, TopName, WorldItem, WorldKey, WorldSide, address, at_split, cons_option, differ_none, entries_on, flat_map, flat_map_at, flat_map_has, function_in, function_of, inline_entry, item_called, item_inline, items_on, link_item, link_key, local_id, local_name, map-append, name_called, name_imports, option_map_or, path_scope, role_side, same_side, scope_place, side_entries, slice_get}
 use Rattle.wit_model.specs.declared.world.WorldItem.TheVariants as item
 use Rattle.wit_model.specs.declared.world.WorldKey.TheVariants as key
@@ -93,7 +93,7 @@ more_at_names true x es one rest zero e at = (let same : x ≡ e = cc in subst (
 more_at_names true x es one rest (suc k) e at = rest k e at
 more_at_names false x es one rest k e at = rest k e at
 
-link_names : (name : Option Id) (place : ℕ) → key_names (link_key name place) ≡ map called_name (option_map_or (λ (id : Id). (record { name = id.name.now; span = id.span } ∷ [])) name [])
+link_names : (name : Option Id) (place : ℕ) → key_names (link_key name place) ≡ map called_name (option_map_or (λ (id : Id). (record { name = id.name.now; span = id.span; sort = codes "interface" } ∷ [])) name [])
 link_names None place = refl
 link_names (Some id) place = refl
 

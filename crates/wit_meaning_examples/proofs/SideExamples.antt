@@ -88,7 +88,7 @@ module _ (ptr : Ptr) (alloc : Global) where
       no_rows,
       (
         codes "name `F` conflicts with previous name `f`",
-        (record { name = codes "F"; span = at 52 53 }, (0, 1, lit< tt, record { name = codes "f"; span = at 34 35 }, refl, refl, refl), refl),
+        (record { name = codes "F"; span = at 52 53; sort = codes "func" }, (0, 1, lit< tt, record { name = codes "f"; span = at 34 35; sort = codes "func" }, refl, refl, refl), refl),
       ),
     ))
 
@@ -106,9 +106,9 @@ module _ (ptr : Ptr) (alloc : Global) where
       SideFunction (plain Imported (at 52 53) (at 55 59)),
       refl,
       (Imported, f_at (at 52 53), form.Plain, refl),
-      record { name = codes "f"; span = at 52 53 },
+      record { name = codes "f"; span = at 52 53; sort = codes "func" },
       refl,
-      record { name = codes "f"; span = at 34 35 },
+      record { name = codes "f"; span = at 34 35; sort = codes "func" },
       (0, lit< tt, refl),
       refl,
       codes "import `f` conflicts with prior func of same name",
@@ -220,9 +220,9 @@ module _ (ptr : Ptr) (alloc : Global) where
       SideFunction (plain Imported (at 47 48) (at 50 54)),
       refl,
       (Imported, f_at (at 47 48), form.Plain, refl),
-      record { name = codes "f"; span = at 47 48 },
+      record { name = codes "f"; span = at 47 48; sort = codes "func" },
       refl,
-      record { name = codes "f"; span = at 32 33 },
+      record { name = codes "f"; span = at 32 33; sort = codes "type" },
       (0, lit< tt, refl),
       refl,
       codes "import `f` conflicts with prior type of same name",

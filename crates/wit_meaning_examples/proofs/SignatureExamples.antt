@@ -129,7 +129,7 @@ module _ (ptr : Ptr) (alloc : Global) where
       one_order (codes "r"),
       (
         codes "name `[method]r.r` conflicts with previous name `r`",
-        (record { name = codes "[method]r.r"; span = at 44 45 }, (0, 1, lit< tt, record { name = codes "r"; span = at 40 41 }, refl, refl, refl), refl),
+        (record { name = codes "[method]r.r"; span = at 44 45; sort = codes "func" }, (0, 1, lit< tt, record { name = codes "r"; span = at 40 41; sort = codes "type" }, refl, refl, refl), refl),
       ),
     ))
 

@@ -1,6 +1,6 @@
 -- The functions of a package that files make have the marks of their kinds in their names.
 use Rattle.std.proofs.Common.{◌≡◌, ℕ, zero, suc, List, [], ◌∷◌, ◌++◌, map, Option, Some, None, inl, inr, refl, ap, subst, ◌==◌, sym, ◌∙◌}
-use Rattle.wit_items.proofs.Common.{Address, Def, Docs, Exported, Function, FunctionKey, HasMarkOf, Imported, Interface, Key, Link, Makes, PackageFile, SourceFunction, Span, Stability, TypeOwner, UnresolvedPackage, World, WorldKey, WorldSide, address, at_split, flat_map, flat_map_at, foreign_interface, foreign_interfaces, foreign_world, foreign_worlds, function_in, functions, functions_of, interface_functions, interface_scopes, item_functions, item_link, keyed, link_item, map_at, mark_of, names_in_turn, option_map_or, own_interface, own_interfaces, own_world, path_scope, scope_place, side_items, slice_get, world_functions, world_scopes, worlds_of, DefinitionPart, ExternPart, FuncForm, FunctionPart, HasMark, Id, Part, ResourceFunc, TypeBody, accessor, codes, definition_functions, extern_at, freestanding_kind, list_any, list_any-append, method_kind, or_left, or_right, part_functions, parts, resource_function, role_kind, same_some, static_kind}
+use Rattle.wit_items.proofs.Common.{Address, Def, Docs, Exported, Function, FunctionKey, HasMarkOf, Imported, Interface, Key, Link, Makes, PackageFile, SourceFunction, Span, Stability, TypeOwner, UnresolvedPackage, World, WorldKey, WorldSide, address, at_split, flat_map, flat_map_at, foreign_interface, foreign_interfaces, foreign_world, foreign_worlds, function_in, functions, functions_of, interface_functions, interface_scopes, item_functions, item_link, keyed, link_item, map_at, mark_of, names_in_turn, option_map_or, own_interface, own_interfaces, own_world, path_scope, scope_place, side_items, slice_get, world_functions, world_scopes, worlds_of, DefinitionPart, ExternPart, FuncForm, FunctionPart, HasMark, Id, Part, ResourceFunc, TypeBody, accessor, codes, definition_functions, extern_at, freestanding_kind, list_any, list_any-append, method_kind, or_left, or_right, part_functions, resource_function, role_kind, same_some, static_kind, part_of_function}
 use Rattle.wit_arena.proofs.Common.{Item}
 use Rattle.wit_parser.proofs.EachMade.{Each, Entry, exports_each, imports_each, members_each}
 use Rattle.wit_parser.proofs.Images.{images_at}
@@ -59,7 +59,7 @@ part_marked _ k fn at = absurd (let f : ⊥ = cc in f)
 -- so it is with the functions of an item
 pub written_marked : (i : Item) (k : ℕ) (fn : SourceFunction) → slice_get (functions i) k ≡ Some fn → IsMarked fn
 written_marked i k fn at =
-    let it = flat_map_at part_functions (parts i) k fn at in
+    let it = part_of_function i k fn at in
     part_marked it.1 it.3.0 fn it.3.1
 
 abbrev IsMarkedFunction : Function → Type 0

@@ -1,12 +1,11 @@
 -- At each address of a package is a scope that it knows by its place.
 use Rattle.std.proofs.Common.{◌≡◌, ℕ, ◌+◌, List, length, Some, None, inl, inr, refl, sym, ap, ◌∙◌, eqb-true, eq-eqb, [], Option, subst, arith, zero, suc, ◌∷◌, ◌++◌}
-use Rattle.wit_items.proofs.Common.{Address, InlineAt, IsLegal, Makes, PackageFile, SourceFunction, TypeOwner, UnresolvedPackage, World, WorldSide, about, address, at_back, at_prefix, at_split, declared_called, find_at, find_passes, find_some, flat_map, flat_map_at, flat_map_has, foreign_interface, foreign_interface-none, foreign_interfaces, foreign_world, foreign_worlds, functions_apart, functions_are, functions_items, includes, inline_inside, inline_interface, inline_items, inline_items_at, inline_owner, interface_address, interface_scope, interface_scopes, interfaces_of, interfaces_on, interfaces_sort, is_inside, item_name, keys, laid_scope, length-map, map, names_in_turn, nat_eq, option_map, option_map_or, option_or, own_interface, own_interfaces, own_world, same_some, side_items, slice_get, take, turn_is, visited, world_address, world_functions, world_interfaces, world_owner_at, world_scope, world_scopes, world_types, worlds_of, worlds_sort, DoneScope, IsItem, ScopeName, SideFunction, SideInline, SideItem, SideLink, Turned, after_one, at_part, function_turn, functions, functions_at, interface_turn, item_function, item_turns, map_at, names_turn, scope, turns_of_world, turns_on_sides}
+use Rattle.wit_items.proofs.Common.{Address, InlineAt, IsLegal, Makes, PackageFile, SourceFunction, TypeOwner, UnresolvedPackage, World, WorldSide, about, address, at_back, at_prefix, at_split, declared_called, find_at, find_passes, find_some, flat_map, flat_map_at, flat_map_has, foreign_interface, foreign_interface-none, foreign_interfaces, foreign_world, foreign_worlds, functions_apart, functions_are, includes, inline_inside, inline_interface, inline_items, inline_items_at, inline_owner, interface_address, interface_scope, interface_scopes, interfaces_of, interfaces_on, interfaces_sort, is_inside, item_name, keys, laid_scope, length-map, map, names_in_turn, nat_eq, option_map, option_map_or, option_or, own_interface, own_interfaces, own_world, same_some, side_items, slice_get, take, turn_is, visited, world_address, world_functions, world_interfaces, world_owner_at, world_scope, world_scopes, world_types, worlds_of, worlds_sort, DoneScope, IsItem, ScopeName, SideFunction, SideInline, SideItem, SideLink, Turned, after_one, at_part, function_turn, functions, functions_at, interface_turn, item_function, item_turns, map_at, names_turn, scope, turns_of_world, turns_on_sides}
 use Rattle.wit_arena.proofs.Common.{Item}
 use Rattle.wit_arena.proofs.InlineOwners.{IsInlineEntry, world_entries, world_entry}
 use Rattle.wit_parser.proofs.Images.{images_at}
 use Rattle.wit_parser.proofs.KnownScopes.{own_world_at, HasScope, named_world-label, interface_owner, world_owner, own_interface_at, foreign_interface_known, foreign_world_known, own_interface_known, IsKnown}
 use Rattle.wit_parser.proofs.PartsOrders.{no_two, are_interfaces, interface_listed, ord, world_item, world_listed, interface_item, world_sides, world_typed}
-use Rattle.wit_arena.proofs.FreeNames.{AreStated}
 use Rattle.wit_arena.proofs.Settled.{stated_settled}
 use Rattle.wit_arena.proofs.Faithful.{IsOwnerOf}
 use Rattle.wit_types.specs.declared.types.TypeOwner.TheVariants as owner
@@ -126,7 +125,7 @@ module _ (files : List PackageFile) (p : UnresolvedPackage) (legal : IsLegal fil
       let here = own_world_at files p legal m k w at in
       let id = (about w.declared).id in
       let sort = (worlds_sort m.items).each k w at in
-      let stated = subst (λ (l : List SourceFunction). AreStated l s.functions (world_functions x)) (sym (functions_items w)) (stated_settled (interface_scopes files m.items) w.top (names_in_turn m.order w) (world_types x) (side_items w) s.functions (map address (inline_items w)) (includes w) s.imports.0 s.exports.0 x s.imports.2 s.exports.2 s.imports.1 s.exports.1) in
+      let stated = stated_settled (interface_scopes files m.items) w.top (names_in_turn m.order w) (world_types x) (side_items w) s.functions (map address (inline_items w)) (includes w) s.imports.0 s.exports.0 x s.imports.2 s.exports.2 s.imports.1 s.exports.1 in
       record {
         scope = laid_scope (owner.World place) o (world_types x) s.functions (world_functions x) [];
         address = refl;
@@ -256,7 +255,7 @@ module _ (files : List PackageFile) (p : UnresolvedPackage) (legal : IsLegal fil
 
   -- what is on the sides of a world
   on_sides : (k : ℕ) (w : Item) → slice_get (worlds_of m.items) k ≡ Some w → (j : ℕ) (turn : Turned) → slice_get (turns_on_sides m.order (address w) (side_items w) (inline_items w)) j ≡ Some turn → IsPartOf scopes turn
-  on_sides k w at = side_parts (IsPartOf scopes) m.order (address w) (side_items w) (inline_items w) (λ j fn fn_at. function_part scopes (interface_turn m.order w) j fn (ap (λ (l : List SourceFunction). slice_get l j) (functions_items w) ∙ fn_at) (world_part k w at)) (λ j i i_at. (
+  on_sides k w at = side_parts (IsPartOf scopes) m.order (address w) (side_items w) (inline_items w) (λ j fn fn_at. function_part scopes (interface_turn m.order w) j fn fn_at (world_part k w at)) (λ j i i_at. (
       let n = flat_map_has inline_items (worlds_of m.items) k j w i at i_at in
       interface_part (length (interfaces_of m.items) + n.0) i (at_back (interfaces_of m.items) (flat_map inline_items (worlds_of m.items)) n.0 i n.1)))
 

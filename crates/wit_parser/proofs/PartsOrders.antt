@@ -1,6 +1,6 @@
 -- All that an item names occurs, and all that is taken from another package.
 use Rattle.std.proofs.Common.{◌≡◌, ℕ, zero, Some, refl, subst, suc, ◌+◌, List, [], ◌∷◌, length, inl, inr, sym, ap, ◌∙◌, arith, not, map, ◌++◌}
-use Rattle.wit_items.proofs.Common.{Address, Def, Defined, DefinitionPart, ExternPart, ForeignVisit, FunctionPart, Has, Id, IsItem, IsLegal, IsSeen, Key, Makes, PackageFile, Part, ResourceFunc, ScopeName, Shape, SideFunction, SideInline, SideItem, SideLink, SourceFunction, Turned, TypeBody, Unknown, UnresolvedPackage, Whole, Word, address, all_function_occurrences, all_occurrences, at_back, at_part, at_prefix, definition_functions, expr_of, exprs_of, extern_at, firsts_at, flat_map, flat_map_at, flat_map_has, foreign_use_occurrence, foreign_uses, free_function, function_turn as turn_of_function, functions, functions_items, inline_items, interface_turn, interfaces_of, item_function, item_inline, item_turns, keys, length-inline_after, local_name, map, map_at, name_occurrences, names_in_turn, names_turn, option_map, own_interfaces, part_functions, part_names, parts, resource_function, same_foreign_use, scope, scope_names, shape_occurrences, shapes_occurrences, side_items, signature, slice_get, slice_get-map, turn_occurrences, turns_of_world, turns_on_sides, used_name_at, visited, words, worlds_of, AreAddresses, AreItems, Ordered, all_addresses, are_items, distinct_items, foreign_interfaces, foreign_worlds, inline_scopes, interface_scopes, interfaces_sort, is_world, item_scopes, items_kept, world_scopes, worlds_sort, AreSideItems, Exported, HasSides, HasTypes, Imported, Type_, World, WorldItem, WorldKey, WorldSide, entries_on, function_in, import_types, includes, local_id, map_map, name_imports, name_places, own_types, own_world, settled, settled_none, settled_types, type_imports, world_entries, world_types}
+use Rattle.wit_items.proofs.Common.{Address, Def, Defined, DefinitionPart, ExternPart, ForeignVisit, FunctionPart, Has, Id, IsItem, IsLegal, IsSeen, Key, Makes, PackageFile, Part, ResourceFunc, ScopeName, Shape, SideFunction, SideInline, SideItem, SideLink, SourceFunction, Turned, TypeBody, Unknown, UnresolvedPackage, Whole, Word, address, all_function_occurrences, all_occurrences, at_back, at_part, at_prefix, definition_functions, expr_of, exprs_of, extern_at, firsts_at, flat_map, flat_map_at, flat_map_has, foreign_use_occurrence, foreign_uses, free_function, function_turn as turn_of_function, functions, inline_items, interface_turn, interfaces_of, item_function, item_inline, item_turns, keys, length-inline_after, local_name, map, map_at, name_occurrences, names_in_turn, names_turn, option_map, own_interfaces, part_functions, part_names, parts, resource_function, same_foreign_use, scope, scope_names, shape_occurrences, shapes_occurrences, side_items, signature, slice_get, slice_get-map, turn_occurrences, turns_of_world, turns_on_sides, used_name_at, visited, words, worlds_of, AreAddresses, AreItems, Ordered, all_addresses, are_items, distinct_items, foreign_interfaces, foreign_worlds, inline_scopes, interface_scopes, interfaces_sort, is_world, item_scopes, items_kept, world_scopes, worlds_sort, AreSideItems, Exported, HasSides, HasTypes, Imported, Type_, World, WorldItem, WorldKey, WorldSide, entries_on, function_in, import_types, includes, local_id, map_map, name_imports, name_places, own_types, own_world, settled, settled_none, settled_types, type_imports, world_entries, world_types, part_of_function}
 use Rattle.wit_arena.proofs.Common.{Item}
 use Rattle.wit_walk.proofs.Common.{Of, Prim, Names}
 use Rattle.wit_parser.proofs.PartsTurns.{IsPresent, RolePresent, FunctionPresent, has_last, has_of, has_back, has_prefix, NamesPresent, name_has, names_seen, signature_known, functions_in-are, name_places-are}
@@ -69,7 +69,7 @@ module _ (i : Item) (s : Address) (a : Key → Type 0) (known : (p : ℕ) (x : S
 
   -- the resource of a function is a name of its item
   pub role_present : (k : ℕ) (fn : SourceFunction) → slice_get (functions i) k ≡ Some fn → RolePresent a s fn.role
-  role_present k fn at = let it = flat_map_at part_functions (parts i) k fn at in of_part it.0 it.1 it.2 it.3.0 fn it.3.1
+  role_present k fn at = let it = part_of_function i k fn at in of_part it.0 it.1 it.2 it.3.0 fn it.3.1
 
 -- a type that is written occurs in its occurrences, where its words are known
 shape_has : (s : Address) (x : Shape) (a : Key → Type 0) → ((k : ℕ) (id : Id) → slice_get (words x) k ≡ Some id → a (Def s id.name.now)) → ((k : Key) → Has (keys (shape_occurrences s Unknown x)) k → a k) → IsPresent a (expr_of s x)
@@ -177,7 +177,7 @@ module _ (files : List PackageFile) (p : UnresolvedPackage) (legal : IsLegal fil
       let names = names_turn s (names_in_turn m.order w) in
       let first = world_turn n 0 w names at refl in
       item_seen w (world_item files p legal m n w at) (λ k has. turn_seen first.0 names first.1 k (has_prefix (flat_map (name_occurrences s) (names_in_turn m.order w)) [] k has)) (λ j fn there k has. (
-      let it = function_turn m.order s (side_items w) (inline_items w) j fn (ap (λ (l : List SourceFunction). slice_get l j) (sym (functions_items w)) ∙ there) in
+      let it = function_turn m.order s (side_items w) (inline_items w) j fn there in
       let one = world_turn n (suc it.0) w (turn_of_function s fn) at it.1 in
       turn_seen one.0 (turn_of_function s fn) one.1 k (has_prefix (flat_map (shape_occurrences s Unknown) (signature fn)) [] k has)))
 
@@ -198,10 +198,8 @@ module _ (files : List PackageFile) (p : UnresolvedPackage) (legal : IsLegal fil
 
   side_is : (side : WorldSide) → AreSideItems ss i.top side (side_items i) (map (function_in m.id (address i)) (functions i)) (map address (inline_items i)) (entries_on side (world_entries m.id ss i))
   side_is side =
-      let function = function_in m.id (address i) in
       let placed : HasPlaces ss (world_scopes files m.items) i = has_places files legal m.items m.in_order k i at in
-      let here = side_entries-are ss function (λ fn. refl) i.top side (side_items i) (inline_items i) (sym (length-inline_after i [] (side_items i))) placed.links placed.inside in
-      subst (λ (l : List SourceFunction). AreSideItems ss i.top side (side_items i) (map function l) (map address (inline_items i)) (entries_on side (world_entries m.id ss i))) (sym (functions_items i)) here
+      side_entries-are ss (function_in m.id (address i)) (λ fn. refl) i.top side (side_items i) (inline_items i) (sym (length-inline_after i [] (side_items i))) placed.links placed.inside
 
   abbrev types : List (List ℕ × ℕ)
   types = name_places m.id (address i) (names_in_turn m.order i)

@@ -112,7 +112,7 @@ pub use Rattle.wit_syntax.proofs.JoinedItems.{AreTwins, bare, inline_twins, name
 pub use Rattle.wit_syntax.proofs.JoinedLists.{filter-map, find-map, flat_map-flat_map, flat_map-map, map-flat_map, map_by}
 pub use Rattle.wit_syntax.proofs.JoinedTrees.{foreign_uses_alike, scope_alike, used_names}
 pub use Rattle.wit_syntax.proofs.Kept.{HasNot, after_one, differ_cons, differ_head, differ_tail, kept_at, kept_differ, kept_early, kept_has, kept_next, kept_past}
-pub use Rattle.wit_syntax.proofs.Legal.{function_name, functions_differ, functions_items, no_crossed, no_cyclic_edge, no_fold, no_missing_edge, resource_items}
+pub use Rattle.wit_syntax.proofs.Legal.{function_name, functions_differ, no_crossed, no_cyclic_edge, no_fold, no_missing_edge}
 pub use Rattle.wit_syntax.proofs.Lists.{append-cancel, at_back, at_either, at_prefix, at_seam, at_split, at_take, at_within, filter_map_more, flat_map_at, flat_map_has, map_at, map_map, read_map, take_prefix, take_seam}
 pub use Rattle.wit_syntax.proofs.Names.{lookup-at, lookup-insert_entry, lookup-place, name_cases, name_equal, name_itself, names-insert_entry}
 pub use Rattle.wit_syntax.proofs.NeededPaths.{needed-paths}
@@ -121,7 +121,7 @@ pub use Rattle.wit_syntax.proofs.Refusing.{refused_weaker}
 pub use Rattle.wit_syntax.proofs.Repeated.{called_key, differ_at, differ_by, differ_join, differ_more, differ_none, function_called, key_at, no_repeat}
 pub use Rattle.wit_syntax.proofs.Rows.{fresh_row, item_row_at, row_of, rows_more}
 pub use Rattle.wit_syntax.proofs.Scopes.{AreDeclared, addresses_differ, all_declared, first_named, found_by, inline_differ, inside_one, named_found, scope_item_at, scopes_declared, scopes_either, scopes_inline}
-pub use Rattle.wit_syntax.proofs.Sides.{called_functions, functions_imported, interface_imported, kept_all, kept_none, links_none, side_items_functions}
+pub use Rattle.wit_syntax.proofs.Sides.{called_functions, functions_imported, functions_parts, interface_imported, kept_all, kept_none, links_none, part_of_function, resource_items, side_items_functions}
 pub use Rattle.wit_syntax.proofs.Tables.{none_if, place_of-Some}
 pub use Rattle.wit_syntax.proofs.Turns.{AreOwn, at_part, defined_at, defined_has, distinct_names, distinct_none, either_at, in_order_all, in_order_among, in_turn_among, in_turn_distinct, in_turn_has, names_within, used_at, used_has, used_is}
 pub use Rattle.wit_syntax.proofs.Unnoted.{unbroken_metadata}
@@ -133,7 +133,7 @@ pub use Rattle.wit_syntax.specs.ExternPart.{extern_paths, same_side}
 pub use Rattle.wit_syntax.specs.Fault.{Cyclic, Fault, Missing, as_stated, cyclic_at, fault, fault_in, fault_of, function_as_type, function_used, interface_there, item_twice, linked_twice, lone_setter, missing_at, missing_type_at, name_twice, no_resource, param_twice, top_twice, world_there}
 pub use Rattle.wit_syntax.specs.Foreign.{ForeignVisit, declaration_visits, extern_visits, foreign_at, foreign_interfaces, foreign_items, foreign_packages, foreign_visits, foreign_worlds, part_visits, path_visits, same_item, visited}
 pub use Rattle.wit_syntax.specs.Form.{AliasForm, BorrowForm, EnumForm, FixedLengthListForm, FlagsForm, Form, FutureForm, ListForm, MapForm, Member, OptionForm, OwnForm, RecordForm, ResourceForm, ResultForm, StreamForm, TupleForm, UnknownForm, VariantForm}
-pub use Rattle.wit_syntax.specs.Function.{Constructor, Freestanding, Method, OnSide, Role, SourceFunction, SourceParam, Static, accessor, all_params, all_types, constructor_of, definition_functions, extern_functions, free_function, functions, item_types, name_types, part_functions, resource_function, role_names, self_param, side_function, signature, written_param, written_types}
+pub use Rattle.wit_syntax.specs.Function.{Constructor, Freestanding, Method, OnSide, Role, SourceFunction, SourceParam, Static, accessor, all_params, all_types, constructor_of, definition_functions, extern_functions, free_function, name_types, part_functions, resource_function, role_names, self_param, side_function, signature, written_param, written_types}
 pub use Rattle.wit_syntax.specs.Metadata.{AreMetadata, DeprecatedAlone, DeprecatedTwice, IsBrokenMetadata, IsBrokenStability, IsTwice, Metadata, SinceAndUnstable, SinceTwice, UnstableTwice, deprecation, docs_of, first_known, metadata, no_docs, stability_of}
 pub use Rattle.wit_syntax.specs.NameEnds.{AtForeign, AtResource, Elsewhere, End, EndsAt, IsNoResource, named_end, shape_end}
 pub use Rattle.wit_syntax.specs.Node.{Head, Leaf, Named, Nothing, Tree, Unnamed, node_map, primitive_type}
@@ -141,7 +141,7 @@ pub use Rattle.wit_syntax.specs.Repeats.{AllDiffer, IsRepeatAt, firsts}
 pub use Rattle.wit_syntax.specs.ScopeTables.{AreDistinct, defined, in_order, in_turn, include_path, include_paths, includes, interfaces_of, is_defined, item_row, item_rows, local_names, local_target, needed_ids, needed_paths, part_includes, part_uses, rows_of, use_path, use_paths, used, uses, worlds_of}
 pub use Rattle.wit_syntax.specs.ScopesOfTrees.{scope, source_node, source_tree}
 pub use Rattle.wit_syntax.specs.Shape.{More, Of, Prim, Shape, Shapes, Word, all_handles, all_shapes, all_words, body_of, handles, head, member, one, row_handles, row_shapes, shape_of, words}
-pub use Rattle.wit_syntax.specs.Sides.{CrossedTwice, FoldedTwice, FunctionKey, InterfaceMetadata, IsBrokenSides, IsCrossedTwice, IsExternPart, IsFoldedTwice, Link, SideFunction, SideInline, SideItem, SideLink, all_scopes, extern_items, extern_link, function_key, inline_after, inline_item, inline_items, interface_attributes, is_interface, item_called, item_function, item_inline, item_link, item_side, items_on, names_on, on_side, part_items, role_side, side_called, side_items}
+pub use Rattle.wit_syntax.specs.Sides.{CrossedTwice, FoldedTwice, FunctionKey, InterfaceMetadata, IsBrokenSides, IsCrossedTwice, IsExternPart, IsFoldedTwice, Link, SideFunction, SideInline, SideItem, SideLink, all_scopes, extern_items, extern_link, function_key, inline_after, inline_item, inline_items, interface_attributes, is_interface, item_called, item_function, item_inline, item_link, item_side, items_on, names_on, on_side, part_items, role_side, side_called, side_items, functions, item_types}
 pub use Rattle.wit_syntax.specs.SignatureRules.{BrokenMetadata, BrokenTypes, Called, ConstructorOfOther, ConstructorWithoutResult, DuplicateParam, GetterGiven, GetterWithoutResult, IsBrokenFunction, IsConstructorOfOther, IsConstructorWithoutResult, IsEntered, IsGetterGiven, IsGetterWithoutResult, IsNoType, IsSetterGiven, IsSetterWithResult, IsUnpairedSetter, IsWrittenAs, MissingInSignature, OfFunction, OfNothing, SetterGiven, SetterWithResult, body_ok, meant_ok, name_called, ok_of, ok_span, result_ok, type_span}
 pub use Rattle.wit_syntax.specs.Source.{Declared, Defined, DefinitionPart, ExternPart, Foreign, ForeignName, ForeignUse, FunctionPart, IncludePart, Item, Local, Part, Place, ScopeName, Target, TheInline, TheInterface, TheWorld, TopName, UsePart, Used, about, about_name, address, all_items, all_uses, at_side, declared_items, declared_metadata, file_items, first_foreign_uses, foreign_names, foreign_uses, inline_uses, interface_part, is_world, item_at, item_name, item_named, leads, local_id, local_name, meaning, named_node, own_uses, part_names, parts, path_id, path_scope, placed, scope_names, target_scope, top_name, top_names, walk, world_part}
 pub use Rattle.wit_syntax.specs.Shorthand.{around, item_word, name_word, same_foreign_use, top_text, type_word, use_of_foreign}

@@ -9,12 +9,12 @@ use Rattle.wit_syntax.specs.NameEnds.{End, Elsewhere, named_end, shape_end, Ends
 use Rattle.wit_syntax.specs.Fault.{Fault, missing_at}
 use Rattle.wit_syntax.specs.Shorthand.{item_word}
 use Rattle.wit_syntax.specs.Foreign.{ForeignVisit}
-use Rattle.wit_syntax.specs.Function.{functions, all_types, item_types}
+use Rattle.wit_syntax.specs.Function.{all_types}
 use Rattle.wit_syntax.specs.Form.{Form, AliasForm}
 use Rattle.wit_syntax.specs.Shape.{Shape, Shapes, Word, More}
 use Rattle.wit_syntax.specs.Source.{TopName, Item, address, all_items, ScopeName, scope_names, parts, local_name, meaning, about_name, Used}
 use Rattle.wit_syntax.specs.ScopesOfTrees.{scope}
-use Rattle.wit_syntax.specs.Sides.{side_items, IsFoldedTwice, IsCrossedTwice, IsBrokenSides, FoldedTwice, CrossedTwice, all_scopes, InterfaceMetadata}
+use Rattle.wit_syntax.specs.Sides.{side_items, IsFoldedTwice, IsCrossedTwice, IsBrokenSides, FoldedTwice, CrossedTwice, all_scopes, InterfaceMetadata, functions, item_types}
 use Rattle.wit_syntax.specs.Broken
 use Rattle.wit_syntax.specs.Broken.{last_header, IsBrokenScope, IsBrokenItems, IsBrokenNames, IsLinkedTwice, IsBroken, IsLegal}
 use Rattle.wit_syntax.proofs.Headers.{no_header}

@@ -8,23 +8,20 @@ use Rattle.std.proofs.lemmas.List.{take-append-drop}
 use Rattle.std.proofs.lemmas.Option.{slice_get_within}
 use Rattle.wit_names.specs.Folded.{folded_key}
 use Rattle.wit_type_tree.specs.declared.leaves.Id.{Id}
-use Rattle.wit_tree.specs.declared.tree.Extern.{Extern}
-use Rattle.wit_tree.specs.declared.tree.ExternKind.{ExternKind}
-use Rattle.wit_tree.specs.declared.tree.ExternKind.TheVariants as extern
 use Rattle.wit_graph.specs.Table.{Row, target, Leads, IsOrder}
 use Rattle.wit_graph.proofs.Tables.{not_missing}
 use Rattle.wit_graph.proofs.Forward.{no_cycle}
 use Rattle.wit_graph.proofs.SameEdges.{one_answer}
-use Rattle.wit_syntax.specs.Source.{Part, DefinitionPart, UsePart, IncludePart, FunctionPart, ExternPart, Item, parts, ScopeName}
+use Rattle.wit_syntax.specs.Source.{ScopeName}
 use Rattle.wit_syntax.specs.Words.{words_of}
 use Rattle.wit_syntax.specs.Fault.{Fault, fault}
 use Rattle.wit_syntax.specs.ScopeTables.{rows_of, in_turn}
 use Rattle.wit_syntax.specs.Bodies.{IsRepeated}
-use Rattle.wit_syntax.specs.Function.{SourceFunction, definition_functions, extern_functions, part_functions, functions}
+use Rattle.wit_syntax.specs.Function.{SourceFunction}
 use Rattle.wit_syntax.specs.SignatureRules.{Called, name_called}
 use Rattle.wit_tree.specs.declared.tree.WorldSide.{WorldSide}
 use Rattle.wit_syntax.specs.ExternPart.{same_side}
-use Rattle.wit_syntax.specs.Sides.{role_side, function_key, names_on, SideItem, SideFunction, SideLink, SideInline, extern_items, part_items, side_items, item_function, item_side, items_on, item_called, side_called, IsFoldedTwice, IsCrossedTwice}
+use Rattle.wit_syntax.specs.Sides.{role_side, function_key, names_on, SideItem, SideFunction, SideLink, SideInline, item_function, item_side, items_on, item_called, side_called, IsFoldedTwice, IsCrossedTwice}
 use Rattle.wit_syntax.specs.Broken.{IsMissingEdge, IsCyclicEdge}
 use Rattle.wit_syntax.specs.Repeats.{AllDiffer}
 use Rattle.wit_syntax.proofs.Repeated.{no_repeat, differ_by, differ_at, called_key, function_called}
@@ -179,29 +176,3 @@ functions_differ xs items order least legal = differ_by function_key (flat_map i
     | inr rest_after ↦ absurd (legal (fault 17 x.span) (function_twice xs items order least j i y x rest_after at_y at_x (sym same)))
   ]
 ])
-
--- functions as what is on a side, and back
-pub resource_items : (fns : List SourceFunction) → flat_map item_function (map SideFunction fns) ≡ fns
-resource_items [] = refl
-resource_items (fn ∷ fns) = ap (λ l. fn ∷ l) (resource_items fns)
-
--- the functions of an item are those among what is on its sides
-pub functions_items : (i : Item) → functions i ≡ flat_map item_function (side_items i)
-functions_items i = by_parts (parts i)
-  where
-    extern_function : (x : Extern) (kind : ExternKind) → extern_functions x kind ≡ flat_map item_function (extern_items x kind)
-    extern_function x (extern.Interface name items) = refl
-    extern_function x (extern.Path path) = refl
-    extern_function x (extern.Func name f) = refl
-    extern_function x (extern.NamedPath name path) = refl
-
-    part_function : (p : Part) → part_functions p ≡ flat_map item_function (part_items p)
-    part_function (DefinitionPart d) = sym (resource_items (definition_functions d.name d.body))
-    part_function (UsePart u) = refl
-    part_function (IncludePart n) = refl
-    part_function (FunctionPart f) = refl
-    part_function (ExternPart x) = extern_function x x.kind
-
-    by_parts : (ps : List Part) → flat_map part_functions ps ≡ flat_map item_function (flat_map part_items ps)
-    by_parts [] = refl
-    by_parts (p ∷ ps) = ap (λ l. l ++ flat_map part_functions ps) (part_function p) ∙ ap (λ l. flat_map item_function (part_items p) ++ l) (by_parts ps) ∙ sym (flat_map-append item_function (part_items p) (flat_map part_items ps))

@@ -1,6 +1,6 @@
 -- Repeats among the keys of items.
 use Rattle.std.proofs.Common.{◌≡◌, ℕ, ◌+◌, List, [], ◌∷◌, ◌++◌, length, Some, inl, inr, sym, ap, ◌∙◌, arith}
-use Rattle.std.specs.Prelude.{slice_get, map}
+use Rattle.std.specs.Prelude.{slice_get, map, codes}
 use Rattle.std.specs.Option.{option_map}
 use Rattle.std.proofs.lemmas.Option.{slice_get-map}
 use Rattle.wit_syntax.specs.Bodies.{IsRepeated}
@@ -12,7 +12,7 @@ use Rattle.wit_syntax.proofs.Lists.{at_either, at_split, map_at}
 
 -- a function by its name, and the key by which names of a scope are distinguished
 abbrev pub function_called : SourceFunction → Called
-function_called fn = record { name = fn.name; span = fn.span }
+function_called fn = record { name = fn.name; span = fn.span; sort = codes "func" }
 
 abbrev pub called_key : Called → List ℕ
 called_key c = folded_key c.name

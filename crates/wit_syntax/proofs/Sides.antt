@@ -3,21 +3,25 @@ use Rattle.std.proofs.Common.{◌≡◌, ℕ, zero, suc, Bool, true, false, List
 use Rattle.std.specs.Prelude.{slice_get, map}
 use Rattle.std.specs.List.{filter, flat_map}
 use Rattle.std.proofs.lemmas.Bool.{cases_Bool, cond-true, cond-false}
+use Rattle.std.proofs.lemmas.Grind.{flat_map-append}
 use Rattle.std.proofs.lemmas.List.{map-append}
 use Rattle.wit_type_tree.specs.declared.leaves.Id.{Id}
 use Rattle.wit_type_tree.specs.declared.types.TypeBody.{TypeBody}
 use Rattle.wit_type_tree.specs.declared.types.TypeBody.TheVariants as body
 use Rattle.wit_type_tree.specs.declared.types.ResourceFunc.{ResourceFunc}
 use Rattle.wit_type_tree.specs.declared.types.ResourceFunc.TheVariants as resource
+use Rattle.wit_tree.specs.declared.tree.Extern.{Extern}
+use Rattle.wit_tree.specs.declared.tree.ExternKind.{ExternKind}
+use Rattle.wit_tree.specs.declared.tree.ExternKind.TheVariants as extern
 use Rattle.wit_tree.specs.declared.tree.InterfaceItem.{InterfaceItem}
 use Rattle.wit_tree.specs.declared.tree.InterfaceItem.TheVariants as interface_item
 use Rattle.wit_tree.specs.declared.tree.WorldSide.{WorldSide}
 use Rattle.wit_tree.specs.declared.tree.WorldSide.TheVariants.{Imported}
-use Rattle.wit_syntax.specs.Source.{Declared, TheInterface, TheWorld, TheInline, interface_part, Item, is_world, about}
-use Rattle.wit_syntax.specs.Function.{SourceFunction, free_function, resource_function, definition_functions, part_functions, functions}
+use Rattle.wit_syntax.specs.Source.{Declared, TheInterface, TheWorld, TheInline, interface_part, Part, DefinitionPart, UsePart, IncludePart, FunctionPart, ExternPart, parts, Item, is_world, about}
+use Rattle.wit_syntax.specs.Function.{SourceFunction, free_function, resource_function, definition_functions, extern_functions, part_functions}
 use Rattle.wit_syntax.specs.ExternPart.{same_side}
 use Rattle.wit_syntax.specs.SignatureRules.{Called}
-use Rattle.wit_syntax.specs.Sides.{role_side, on_side, SideItem, SideFunction, part_items, side_items, item_link, links, items_on, item_called}
+use Rattle.wit_syntax.specs.Sides.{role_side, on_side, SideItem, SideFunction, extern_items, part_items, side_items, item_function, functions, item_link, links, items_on, item_called}
 use Rattle.wit_syntax.proofs.Lists.{flat_map_at, map_at}
 use Rattle.wit_syntax.proofs.Repeated.{function_called}
 
@@ -29,6 +33,36 @@ kept_all test (x ∷ xs) pass = cond-true (test x) (x ∷ filter test xs) (filte
 pub kept_none : {X : Type 0} (test : X → Bool) (xs : List X) → ((i : ℕ) (x : X) → slice_get xs i ≡ Some x → test x ≡ false) → filter test xs ≡ []
 kept_none test [] fail = refl
 kept_none test (x ∷ xs) fail = cond-false (test x) (x ∷ filter test xs) (filter test xs) (fail 0 x refl) ∙ kept_none test xs (λ i. fail (suc i))
+
+-- functions as what is on a side, and back
+pub resource_items : (fns : List SourceFunction) → flat_map item_function (map SideFunction fns) ≡ fns
+resource_items [] = refl
+resource_items (fn ∷ fns) = ap (λ l. fn ∷ l) (resource_items fns)
+
+-- the functions of an item are those of its parts
+pub functions_parts : (i : Item) → functions i ≡ flat_map part_functions (parts i)
+functions_parts i = by_parts (parts i)
+  where
+    of_extern : (x : Extern) (kind : ExternKind) → flat_map item_function (extern_items x kind) ≡ extern_functions x kind
+    of_extern x (extern.Interface name items) = refl
+    of_extern x (extern.Path path) = refl
+    of_extern x (extern.Func name f) = refl
+    of_extern x (extern.NamedPath name path) = refl
+
+    of_part : (p : Part) → flat_map item_function (part_items p) ≡ part_functions p
+    of_part (DefinitionPart d) = resource_items (definition_functions d.name d.body)
+    of_part (UsePart u) = refl
+    of_part (IncludePart n) = refl
+    of_part (FunctionPart f) = refl
+    of_part (ExternPart x) = of_extern x x.kind
+
+    by_parts : (ps : List Part) → flat_map item_function (flat_map part_items ps) ≡ flat_map part_functions ps
+    by_parts [] = refl
+    by_parts (p ∷ ps) = flat_map-append item_function (part_items p) (flat_map part_items ps) ∙ ap (λ l. l ++ flat_map item_function (flat_map part_items ps)) (of_part p) ∙ ap (λ l. part_functions p ++ l) (by_parts ps)
+
+-- each is one of a part
+pub part_of_function : (i : Item) (k : ℕ) (fn : SourceFunction) → slice_get (functions i) k ≡ Some fn → (m : ℕ) × (p : Part) × (slice_get (parts i) m ≡ Some p) × ((j : ℕ) × (slice_get (part_functions p) j ≡ Some fn))
+part_of_function i k fn at = flat_map_at part_functions (parts i) k fn (ap (λ l. slice_get l k) (sym (functions_parts i)) ∙ at)
 
 -- all functions of an interface are imported
 resource_imported : (r : Id) (g : ResourceFunc) → role_side (resource_function r g).role ≡ Imported
@@ -68,7 +102,7 @@ declared_imported (TheWorld w) own k fn at = absurd (let f : ⊥ = cc in f)
 declared_imported (TheInline world place x name items) own k fn at = interface_side items k fn at
 
 pub functions_imported : (i : Item) → is_world i ≡ false → (k : ℕ) (fn : SourceFunction) → slice_get (functions i) k ≡ Some fn → role_side fn.role ≡ Imported
-functions_imported i own k fn at = declared_imported i.declared own k fn at
+functions_imported i own k fn at = declared_imported i.declared own k fn (ap (λ l. slice_get l k) (sym (functions_parts i)) ∙ at)
 
 -- where all are functions, what is called on a side are these
 pub called_functions : (side : WorldSide) (fns : List SourceFunction) → flat_map item_called (items_on side (map SideFunction fns)) ≡ map function_called (on_side side fns)
@@ -97,7 +131,7 @@ declared_functions (TheWorld w) own = absurd (let f : ⊥ = cc in f)
 declared_functions (TheInline world place x name items) own = interface_functions items
 
 pub side_items_functions : (i : Item) → is_world i ≡ false → side_items i ≡ map SideFunction (functions i)
-side_items_functions i own = declared_functions i.declared own
+side_items_functions i own = declared_functions i.declared own ∙ ap (map SideFunction) (sym (functions_parts i))
 
 -- and no path
 no_link : (fns : List SourceFunction) → flat_map item_link (map SideFunction fns) ≡ []

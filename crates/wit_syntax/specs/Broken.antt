@@ -28,8 +28,8 @@ use Rattle.wit_syntax.specs.Words.{mismatch}
 use Rattle.wit_syntax.specs.Source.{path_id, path_scope, Target, Local, Foreign, leads, TopName, top_names, Item, item_name, is_world, all_items, item_named, ScopeName, Used, Defined, local_id, local_name, scope_names, meaning, address, about}
 use Rattle.wit_syntax.specs.Shorthand.{item_word, name_word, top_text, type_word}
 use Rattle.wit_syntax.specs.Foreign.{ForeignVisit, foreign_visits, foreign_at}
-use Rattle.wit_syntax.specs.Function.{SourceFunction, functions, item_types, role_names}
-use Rattle.wit_syntax.specs.Sides.{on_side, all_scopes, Link, SideLink, side_items, items_on, IsBrokenSides}
+use Rattle.wit_syntax.specs.Function.{SourceFunction, role_names}
+use Rattle.wit_syntax.specs.Sides.{on_side, all_scopes, Link, SideLink, side_items, items_on, IsBrokenSides, functions, item_types}
 use Rattle.wit_syntax.specs.SignatureRules.{IsNoType, IsBrokenFunction, IsUnpairedSetter}
 use Rattle.wit_syntax.specs.NameEnds.{IsNoResource}
 use Rattle.wit_syntax.specs.ScopesOfTrees.{scope}

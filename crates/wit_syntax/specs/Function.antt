@@ -23,7 +23,7 @@ use Rattle.wit_type_tree.specs.declared.types.ResourceFunc.TheVariants as resour
 use Rattle.wit_type_tree.specs.TypeParts.{body_types}
 use Rattle.wit_syntax.specs.Form.{BorrowForm}
 use Rattle.wit_syntax.specs.Shape.{Shape, Word, Of, one, shape_of}
-use Rattle.wit_syntax.specs.Source.{Item, Part, DefinitionPart, FunctionPart, ExternPart, parts, ScopeName, Defined, scope_names}
+use Rattle.wit_syntax.specs.Source.{Part, DefinitionPart, FunctionPart, ExternPart, ScopeName, Defined}
 
 -- what a function is: by itself in an interface, of a resource, or by itself on a side of a world
 pub data Role : Type 0 where
@@ -113,10 +113,6 @@ part_functions (FunctionPart f) = free_function f ∷ []
 part_functions (ExternPart x) = extern_functions x x.kind
 part_functions _ = []
 
--- the functions of an item, in source order
-abbrev pub functions : Item → List SourceFunction
-functions i = flat_map part_functions (parts i)
-
 -- the names of the functions that are no resource's
 abbrev pub role_names : Role → List (List ℕ)
 role_names (Freestanding id form) = id.name.now ∷ []
@@ -131,10 +127,6 @@ name_types _ = []
 -- the types that are written in names of a scope, and then in its functions
 abbrev pub all_types : List ScopeName → List SourceFunction → List Written
 all_types xs fns = flat_map name_types xs ++ flat_map written_types fns
-
--- those that are written in an item
-abbrev pub item_types : Item → List Written
-item_types i = all_types (scope_names i) (functions i)
 
 -- the types of a function, in the order in which they are resolved
 abbrev pub signature : SourceFunction → List Shape

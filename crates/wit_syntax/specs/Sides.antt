@@ -1,5 +1,5 @@
 -- What is on a side of a world, and what must not be there twice. The names of an interface are as those that a world imports.
-use Rattle.std.specs.Prelude.{◌≡◌, ℕ, Bool, true, false, List, [], ◌∷◌, ◌++◌, length, Option, Some, None, ⊤, map, take, Contains, slice_get}
+use Rattle.std.specs.Prelude.{◌≡◌, ℕ, Bool, true, false, List, [], ◌∷◌, ◌++◌, codes, length, Option, Some, None, ⊤, map, take, Contains, slice_get}
 use Rattle.std.specs.List.{filter, flat_map}
 use Rattle.std.specs.Option.{option_map_or}
 use Rattle.wit_type_tree.specs.declared.leaves.Id.{Id}
@@ -9,6 +9,7 @@ use Rattle.wit_tree.specs.declared.tree.Extern.{Extern}
 use Rattle.wit_tree.specs.declared.tree.ExternKind.{ExternKind}
 use Rattle.wit_tree.specs.declared.tree.ExternKind.TheVariants as extern
 use Rattle.wit_type_tree.specs.declared.types.FuncForm.{FuncForm}
+use Rattle.wit_type_tree.specs.declared.types.«Type».{«Type» as Written}
 use Rattle.wit_tree.specs.declared.tree.InterfaceItem.{InterfaceItem}
 use Rattle.wit_tree.specs.declared.tree.PackageFile.{PackageFile}
 use Rattle.wit_tree.specs.declared.tree.UsePath.{UsePath}
@@ -21,7 +22,7 @@ use Rattle.wit_syntax.specs.Metadata.{IsBrokenMetadata}
 use Rattle.wit_syntax.specs.Bodies.{IsSecondIn}
 use Rattle.wit_syntax.specs.Source.{TheInline, Part, DefinitionPart, FunctionPart, ExternPart, Item, item_name, parts, all_items, ScopeName, scope_names}
 use Rattle.wit_syntax.specs.ScopeTables.{rows_of, in_turn}
-use Rattle.wit_syntax.specs.Function.{Role, OnSide, SourceFunction, definition_functions, free_function, side_function}
+use Rattle.wit_syntax.specs.Function.{Role, OnSide, SourceFunction, definition_functions, free_function, side_function, all_types}
 use Rattle.wit_syntax.specs.SignatureRules.{Called, name_called}
 use Rattle.wit_names.specs.Folded.{folded_key}
 
@@ -80,6 +81,14 @@ abbrev pub item_function : SideItem → List SourceFunction
 item_function (SideFunction fn) = fn ∷ []
 item_function _ = []
 
+-- the functions of an item, in source order
+abbrev pub functions : Item → List SourceFunction
+functions i = flat_map item_function (side_items i)
+
+-- the types that are written in an item
+abbrev pub item_types : Item → List Written
+item_types i = all_types (scope_names i) (functions i)
+
 -- the link that it is, if it is one
 abbrev pub item_link : SideItem → List Link
 item_link (SideLink link) = link ∷ []
@@ -128,9 +137,9 @@ all_scopes files = flat_map (λ (i : Item). i ∷ inline_items i) (all_items fil
 
 -- the name that it has: an interface by its path may have none of its own
 abbrev pub item_called : SideItem → List Called
-item_called (SideFunction fn) = record { name = fn.name; span = fn.span } ∷ []
-item_called (SideLink link) = option_map_or (λ (id : Id). (record { name = id.name.now; span = id.span } ∷ [])) link.name []
-item_called (SideInline x name items) = record { name = name.name.now; span = name.span } ∷ []
+item_called (SideFunction fn) = record { name = fn.name; span = fn.span; sort = codes "func" } ∷ []
+item_called (SideLink link) = option_map_or (λ (id : Id). (record { name = id.name.now; span = id.span; sort = codes "interface" } ∷ [])) link.name []
+item_called (SideInline x name items) = record { name = name.name.now; span = name.span; sort = codes "interface" } ∷ []
 
 -- the names of types on a side: all are imported
 abbrev pub names_on : {X : Type 0} → WorldSide → List X → List X

@@ -1,5 +1,5 @@
 -- The rules of functions, and what it is that breaks each.
-use Rattle.std.specs.Prelude.{◌≡◌, ℕ, ◌≤◌, List, length, Option, Some, None, Contains, slice_get}
+use Rattle.std.specs.Prelude.{◌≡◌, ℕ, ◌≤◌, List, codes, length, Option, Some, None, Contains, slice_get}
 use Rattle.std.specs.List.{flat_map}
 use Rattle.std.specs.Option.{option_map_or}
 use Rattle.wit_values.specs.declared.span.Span.{Span}
@@ -22,13 +22,14 @@ use Rattle.wit_syntax.specs.Metadata.{IsBrokenMetadata}
 use Rattle.wit_names.specs.Folded.{lower_case}
 use Rattle.wit_syntax.specs.Bodies.{IsSecond, IsBrokenPart}
 
--- a name of a scope, and where it is: no two of them may clash
+-- a name of a scope, where it is, and the word for what has it: no two of them may clash
 pub record Called : Type 0 where
   pub name : List ℕ
   pub span : Span
+  pub sort : List ℕ
 
 abbrev pub name_called : ScopeName → Called
-name_called x = record { name = local_name x; span = (local_id x).span }
+name_called x = record { name = local_name x; span = (local_id x).span; sort = codes "type" }
 
 -- where a written type is
 abbrev pub type_span : Written → Span

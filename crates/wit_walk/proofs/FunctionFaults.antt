@@ -1,6 +1,6 @@
 -- What the first fault of a function of an item breaks.
 use Rattle.std.proofs.Common.{◌≡◌, ◌⊎◌, ◌+◌, ℕ, zero, suc, true, false, List, [], ◌∷◌, ◌++◌, length, take, Option, Some, None, inl, inr, refl, sym, ap, ◌∙◌, subst, append_assoc, length-append, Contains, arith}
-use Rattle.wit_syntax.proofs.Common.{Attribute, BrokenMetadata, BrokenTypes, Constructor, ConstructorOfOther, ConstructorWithoutResult, Contains-append_left, Contains-append_right, DefinitionPart, DuplicateParam, Extern, ExternKind, ExternPart, Fault, Freestanding, Func, FuncForm, Function, FunctionPart, GetterGiven, GetterWithoutResult, Id, IncludePart, IsBroken, IsBrokenFunction, IsConstructorOfOther, IsConstructorWithoutResult, IsEntered, IsGetterGiven, IsNoType, IsSetterGiven, IsSetterWithResult, Item, Method, MissingInSignature, NamedFunc, OfFunction, OfNothing, OnSide, PackageFile, Param, Part, ResourceFunc, Role, Scope, SetterGiven, SetterWithResult, SourceFunction, SourceParam, Static, TypeBody, UsePart, Word, WorldSide, address, all_params, all_scopes, any_found, at_back, at_contains, at_prefix, at_split, bytes_eq, cases_Bool, contains_at, definition_functions, extern_functions, flat_map, flat_map_at, flat_map_has, free_function, function_as_type, functions, item_types, list_any, lower_case, map, map_at, meaning, missing_at, name_equal, name_itself, name_types, name_word, option_map, option_map_or, option_or, option_to_list, param_twice, part_functions, parts, resource_function, result_ok, scope, scope_names, shape_of, side_function, signature, slice_get, slice_get-map, slice_get_within, take-append-add, take-map, words, written_param, written_types, «Type» as Written}
+use Rattle.wit_syntax.proofs.Common.{Attribute, BrokenMetadata, BrokenTypes, Constructor, ConstructorOfOther, ConstructorWithoutResult, Contains-append_left, Contains-append_right, DefinitionPart, DuplicateParam, Extern, ExternKind, ExternPart, Fault, Freestanding, Func, FuncForm, Function, FunctionPart, GetterGiven, GetterWithoutResult, Id, IncludePart, IsBroken, IsBrokenFunction, IsConstructorOfOther, IsConstructorWithoutResult, IsEntered, IsGetterGiven, IsNoType, IsSetterGiven, IsSetterWithResult, Item, Method, MissingInSignature, NamedFunc, OfFunction, OfNothing, OnSide, PackageFile, Param, Part, ResourceFunc, Role, Scope, SetterGiven, SetterWithResult, SourceFunction, SourceParam, Static, TypeBody, UsePart, Word, WorldSide, address, all_params, all_scopes, any_found, at_back, at_contains, at_prefix, at_split, bytes_eq, cases_Bool, contains_at, definition_functions, extern_functions, flat_map, flat_map_has, free_function, function_as_type, functions, item_types, list_any, lower_case, map, map_at, meaning, missing_at, name_equal, name_itself, name_types, name_word, option_map, option_map_or, option_or, option_to_list, param_twice, part_functions, part_of_function, resource_function, result_ok, scope, scope_names, shape_of, side_function, signature, slice_get, slice_get-map, slice_get_within, take-append-add, take-map, words, written_param, written_types, «Type» as Written}
 use Rattle.wit_type_tree.specs.declared.leaves.Docs.{Docs as Comments}
 use Rattle.wit_type_tree.specs.declared.types.FuncForm.TheVariants as form
 use Rattle.wit_type_tree.specs.declared.types.ResourceFunc.TheVariants as resource
@@ -58,7 +58,7 @@ made_part (UsePart u) k fn at = absurd (let f : ⊥ = cc in f)
 made_part (IncludePart n) k fn at = absurd (let f : ⊥ = cc in f)
 
 pub made : (i : Item) (k : ℕ) (fn : SourceFunction) → slice_get (functions i) k ≡ Some fn → IsMade fn
-made i k fn at = (let it = flat_map_at part_functions (parts i) k fn at in made_part it.1 it.3.0 fn it.3.1)
+made i k fn at = (let it = part_of_function i k fn at in made_part it.1 it.3.0 fn it.3.1)
 
 -- a written type is in the signature
 pub at_option : {X : Type 0} (o : Option X) (k : ℕ) (x : X) → slice_get (option_to_list o) k ≡ Some x → o ≡ Some x

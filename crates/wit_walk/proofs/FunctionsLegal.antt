@@ -1,6 +1,6 @@
 -- A function in which the walk finds nothing breaks no rule.
 use Rattle.std.proofs.Common.{◌≡◌, ◌⊎◌, ◌≤◌, ◌<◌, ℕ, zero, suc, List, [], ◌∷◌, ◌++◌, length, take, Option, Some, None, inl, inr, refl, sym, ap, ◌∙◌, subst, Contains, arith}
-use Rattle.wit_syntax.proofs.Common.{Attribute, BrokenMetadata, BrokenTypes, ConstructorOfOther, ConstructorWithoutResult, Defined, DefinitionPart, DuplicateParam, ExternPart, Fault, Func, FunctionPart, GetterGiven, GetterWithoutResult, Id, IncludePart, IsBrokenFunction, IsConstructorOfOther, IsConstructorWithoutResult, IsGetterWithoutResult, IsSecond, IsSetterWithResult, Item, MissingInSignature, NamedFunc, Param, Part, ResourceFunc, ScopeName, SetterGiven, SetterWithResult, Shape, SourceFunction, SourceParam, Span, TypeBody, UsePart, Word, WorldSide, all_params, at_contains, at_split, bytes_eq, contains_at, definition_functions, extern_at, find_some, flat_map, flat_map_at, flat_map_has, free_function, functions, if◌then◌else◌, is_none, local_name, lower_case, map, map_at, meaning, name_itself, none-some, option_map, option_map_or, option_or, option_to_list, param_twice, part_functions, part_names, parts, resource_function, result_ok, scope_names, self_param, shape_of, side_function, signature, slice_get, slice_get_within, words, written_param, written_types, «Type» as Written}
+use Rattle.wit_syntax.proofs.Common.{Attribute, BrokenMetadata, BrokenTypes, ConstructorOfOther, ConstructorWithoutResult, Defined, DefinitionPart, DuplicateParam, ExternPart, Fault, Func, FunctionPart, GetterGiven, GetterWithoutResult, Id, IncludePart, IsBrokenFunction, IsConstructorOfOther, IsConstructorWithoutResult, IsGetterWithoutResult, IsSecond, IsSetterWithResult, Item, MissingInSignature, NamedFunc, Param, Part, ResourceFunc, ScopeName, SetterGiven, SetterWithResult, Shape, SourceFunction, SourceParam, Span, TypeBody, UsePart, Word, WorldSide, all_params, at_contains, at_split, bytes_eq, contains_at, definition_functions, extern_at, find_some, flat_map, flat_map_at, flat_map_has, free_function, functions, if◌then◌else◌, is_none, local_name, lower_case, map, map_at, meaning, name_itself, none-some, option_map, option_map_or, option_or, option_to_list, param_twice, part_functions, part_names, part_of_function, parts, resource_function, result_ok, scope_names, self_param, shape_of, side_function, signature, slice_get, slice_get_within, words, written_param, written_types, «Type» as Written}
 use Rattle.wit_type_tree.specs.declared.leaves.Docs.{Docs as Comments}
 use Rattle.wit_type_tree.specs.declared.types.ResourceFunc.TheVariants as resource
 use Rattle.wit_type_tree.specs.declared.types.TypeBody.TheVariants as body
@@ -77,7 +77,7 @@ given_part i p (UsePart u) here k fn at = absurd (let f : ⊥ = cc in f)
 given_part i p (IncludePart n) here k fn at = absurd (let f : ⊥ = cc in f)
 
 given : (i : Item) (k : ℕ) (fn : SourceFunction) → slice_get (functions i) k ≡ Some fn → IsGiven (scope_names i) fn
-given i k fn at = (let it = flat_map_at part_functions (parts i) k fn at in given_part i it.0 it.1 it.2 it.3.0 fn it.3.1)
+given i k fn at = (let it = part_of_function i k fn at in given_part i it.0 it.1 it.2 it.3.0 fn it.3.1)
 
 -- a name that means nothing has a fault
 pub meant_none : (m : Option ScopeName) (lost : Fault) → (if is_none m then Some lost else None) ≡ None → m ≡ None → ⊥

@@ -2,10 +2,12 @@ pub mod One
 pub mod TypeFaults
 pub mod SameTypes
 pub mod FileFaults
+pub mod FreeFunctions
 pub mod ScopeFaults
 pub mod FunctionFaults
 pub mod SetterFaults
 pub mod MemberFaults
+pub mod Sorts
 pub mod Broken
 pub mod Outcomes
 pub mod TypesLegal

@@ -1,19 +1,19 @@
 -- What the first fault of what is on the sides of an item breaks.
 use Rattle.std.proofs.Common.{◌≡◌, ◌⊎◌, ◌+◌, ℕ, zero, suc, Bool, true, false, ◌&&◌, List, [], ◌∷◌, ◌++◌, length, take, Option, Some, None, inl, inr, refl, sym, ap, ◌∙◌, subst, append_assoc, Contains}
-use Rattle.wit_syntax.proofs.Common.{Called, Constructor, CrossedTwice, DefinitionPart, Extern, ExternKind, ExternPart, Fault, FoldedTwice, Freestanding, FuncForm, FunctionPart, Id, Imported, IncludePart, InterfaceItem, InterfaceMetadata, IsBroken, IsExternPart, IsLinkedTwice, IsOrder, IsSecond, Item, Link, LinkedTwice, Method, MissingUse, OnSide, PackageFile, Part, Role, ScopeName, SideFunction, SideInline, SideItem, SideLink, Sides, SourceFunction, Static, Use as WrittenUse, UsePart, WorldSide, WorldUsed, address, all_items, all_scopes, and_parts, any_found, at_back, at_contains, at_prefix, bytes_eq, clash, codes, cond-true, contains_at, definition_functions, extern_items, extern_link, extern_paths, fault_in, filter, filter-append, flat_map, flat_map-append, flat_map_at, flat_map_has, folded_key, functions, functions_items, if◌then◌else◌, in_turn, inline_after, inline_after-append, inline_item, inline_items, inline_uses, is_interface, is_none, is_world, is_world_at, item_called, item_function, item_link, item_side, items_on, leads, linked_twice, links_none, list_any, map, map_at, name_called, name_equal, names_on, option_map_or, part_items, parts, path_id, path_scope, rows_of, same_address, same_address-equal, same_side, scope, scope_names, side_called, side_items, side_itself, side_word, slice_get, take_seam, use_path, use_paths, world_there}
+use Rattle.wit_syntax.proofs.Common.{Called, Constructor, CrossedTwice, DefinitionPart, Extern, ExternKind, ExternPart, Fault, FoldedTwice, Freestanding, FuncForm, FunctionPart, Id, Imported, IncludePart, InterfaceItem, InterfaceMetadata, IsBroken, IsExternPart, IsLinkedTwice, IsOrder, IsSecond, Item, Link, LinkedTwice, Method, MissingUse, OnSide, PackageFile, Part, Role, ScopeName, SideFunction, SideInline, SideItem, SideLink, Sides, SourceFunction, Static, Use as WrittenUse, UsePart, WorldSide, WorldUsed, address, all_items, all_scopes, and_parts, any_found, at_back, at_contains, at_prefix, bytes_eq, clash, codes, cond-true, contains_at, definition_functions, extern_items, extern_link, extern_paths, fault_in, filter, filter-append, flat_map, flat_map-append, flat_map_at, flat_map_has, folded_key, functions, if◌then◌else◌, in_turn, inline_after, inline_after-append, inline_item, inline_items, inline_uses, is_interface, is_none, is_world, is_world_at, item_called, item_function, item_link, item_side, items_on, leads, linked_twice, links_none, list_any, map, map_at, name_called, name_equal, names_on, option_map_or, part_items, parts, path_id, path_scope, rows_of, same_address, same_address-equal, same_side, scope, scope_names, side_called, side_items, side_itself, side_word, slice_get, take_seam, use_path, use_paths, world_there}
 use Rattle.wit_syntax.specs.Broken.{Use}
 use Rattle.wit_tree.specs.declared.tree.ExternKind.TheVariants as extern
 use Rattle.wit_first.specs.AttributeFaults.{external_fault, metadata_fault}
 use Rattle.wit_first.specs.UseFaults.{reached_fault}
 use Rattle.wit_first.specs.FileFaults.{lost_fault}
-use Rattle.wit_first.specs.First.{first_in, first_after, repeat_of}
+use Rattle.wit_first.specs.First.{first_in, first_after, repeat_of, clash_of}
 use Rattle.wit_first.proofs.Bridge.{clash_repeat, after_some, external_agrees, in_some, metadata_agree, or_some, repeat_some}
 use Rattle.wit_first.proofs.FileFaults.{lost_agrees}
 use Rattle.wit_first.proofs.First.{split_at, at_middle}
 use Rattle.wit_first.proofs.Repeats.{repeat_second}
 use Rattle.wit_walk.specs.Definitions.{handle_fault}
 use Rattle.wit_walk.specs.Functions.{function_fault, signed_fault}
-use Rattle.wit_walk.specs.Members.{called_fault, crossed, is_extern, is_on_side, item_fault, member_fault, own_fault, side_sorted, sort_among}
+use Rattle.wit_walk.specs.Members.{called_fault, crossed, is_extern, is_on_side, item_fault, member_fault, own_fault}
 use Rattle.wit_walk.specs.Names.{folded_fault}
 use Rattle.wit_walk.specs.Paths.{is_same_link, link_fault, linked_fault}
 use Rattle.wit_walk.proofs.FunctionFaults.{function_broken}
@@ -34,9 +34,9 @@ pub second_prefix : {X : Type 0} (key : X → List ℕ) (as_stated : X → Fault
 second_prefix key as_stated xs ys f (later, (first, second, lt, earlier, at_first, at_second, same), is) = (later, (first, second, lt, earlier, at_prefix xs ys first earlier at_first, at_prefix xs ys second later at_second, same), is)
 
 -- what is on a side has at most one name
-called_id : (o : Option Id) (r : ℕ) (c : Called) → slice_get (option_map_or (λ (id : Id). (record { name = id.name.now; span = id.span } ∷ [])) o []) r ≡ Some c → option_map_or (λ (id : Id). (record { name = id.name.now; span = id.span } ∷ [])) o [] ≡ c ∷ []
+called_id : (o : Option Id) (r : ℕ) (c : Called) → slice_get (option_map_or (λ (id : Id). (record { name = id.name.now; span = id.span; sort = codes "interface" } ∷ [])) o []) r ≡ Some c → option_map_or (λ (id : Id). (record { name = id.name.now; span = id.span; sort = codes "interface" } ∷ [])) o [] ≡ c ∷ []
 called_id None r c at = absurd (let f : ⊥ = cc in f)
-called_id (Some id) zero c at = (let same : record { name = id.name.now; span = id.span } ≡ c = cc in ap (λ (d : Called). d ∷ []) same)
+called_id (Some id) zero c at = (let same : record { name = id.name.now; span = id.span; sort = codes "interface" } ≡ c = cc in ap (λ (d : Called). d ∷ []) same)
 called_id (Some id) (suc r) c at = absurd (let f : ⊥ = cc in f)
 
 one_called : (d : Called) (r : ℕ) (c : Called) → slice_get (d ∷ []) r ≡ Some c → d ∷ [] ≡ c ∷ []
@@ -44,9 +44,9 @@ one_called d zero c at = (let same : d ≡ c = cc in ap (λ (e : Called). e ∷ 
 one_called d (suc r) c at = absurd (let f : ⊥ = cc in f)
 
 called_one : (x : SideItem) (r : ℕ) (c : Called) → slice_get (item_called x) r ≡ Some c → item_called x ≡ c ∷ []
-called_one (SideFunction fn) r c at = one_called (record { name = fn.name; span = fn.span }) r c at
+called_one (SideFunction fn) r c at = one_called (record { name = fn.name; span = fn.span; sort = codes "func" }) r c at
 called_one (SideLink link) r c at = called_id link.name r c at
-called_one (SideInline x name items) r c at = one_called (record { name = name.name.now; span = name.span }) r c at
+called_one (SideInline x name items) r c at = one_called (record { name = name.name.now; span = name.span; sort = codes "interface" }) r c at
 
 -- an import or an export
 on_side_is : (r : Role) → is_on_side r ≡ true → (side : WorldSide) × (id : Id) × (form : FuncForm) × (r ≡ OnSide side id form)
@@ -61,7 +61,7 @@ extern_is (SideFunction fn) h = on_side_is fn.role h
 extern_is (SideLink link) h = tt
 extern_is (SideInline x name items) h = tt
 
-crossed_is : (as_crossed : Called → Fault) (b : Bool) (before : List Called) (c : Called) (f : Fault) → (if b then repeat_of (λ (d : Called). d.name) as_crossed before c else None) ≡ Some f → (b ≡ true) × (repeat_of (λ (d : Called). d.name) as_crossed before c ≡ Some f)
+crossed_is : (as_crossed : Called → Called → Fault) (b : Bool) (before : List Called) (c : Called) (f : Fault) → (if b then clash_of (λ (d : Called). d.name) as_crossed before c else None) ≡ Some f → (b ≡ true) × (clash_of (λ (d : Called). d.name) as_crossed before c ≡ Some f)
 crossed_is as_crossed true before c f h = (refl, h)
 crossed_is as_crossed false before c f h = absurd (let g : ⊥ = cc in g)
 
@@ -133,7 +133,7 @@ module _ (files : List PackageFile) (i : Item) (known : IsScope files i) (n : �
       let it = split_at all k (SideFunction fn) at in
       let prefix = flat_map item_function (take k all) in
       let rest = flat_map item_function it.0 in
-      let split : functions i ≡ prefix ++ fn ∷ rest = functions_items i ∙ ap (flat_map item_function) it.1 ∙ flat_map-append item_function (take k all) (SideFunction fn ∷ it.0) in
+      let split : functions i ≡ prefix ++ fn ∷ rest = ap (flat_map item_function) it.1 ∙ flat_map-append item_function (take k all) (SideFunction fn ∷ it.0) in
       function_broken files i known.among known.meant n prefix rest fn split f h
 
   -- a link: an earlier one on its side is the same
@@ -193,23 +193,22 @@ module _ (files : List PackageFile) (i : Item) (known : IsScope files i) (n : �
       let before = items_on side (take k all) in
       let names = side_called side xs before order in
       let types = map name_called (names_on side (in_turn xs order)) in
-      let there = side_sorted side xs before order in
-      let as_crossed = λ (d : Called). crossed side there d.name d.span in
-      let it = in_some (called_fault (is_extern x) (crossed side there) names) (item_called x) f h in
+      let it = in_some (called_fault (is_extern x) (crossed side) names) (item_called x) f h in
       let c = it.1 in
       let only = called_one x it.0 c it.2 in
       let split = split_at all k x at in
       let rest = items_on side split.0 in
       let on : items_on side all ≡ before ++ x ∷ rest = on_split side all (take k all) split.0 x refl split.1 in
-      elim (or_some (if is_extern x then repeat_of (λ (d : Called). d.name) as_crossed names c else None) (folded_fault names c) f it.3) [
+      elim (or_some (if is_extern x then clash_of (λ (d : Called). d.name) (crossed side) names c else None) (folded_fault names c) f it.3) [
         | inl own ↦ (
-            let own_crossed = crossed_is as_crossed (is_extern x) names c f own in
-            let twice = repeat_some (λ (d : Called). d.name) as_crossed names c f own_crossed.1 in
+            let own_crossed = crossed_is (crossed side) (is_extern x) names c f own in
+            let again = clash_repeat (λ (d : Called). d.name) (λ (d : Called) (w : List ℕ). fault_in 44 d.span w) (λ (y : Called) (d : Called). side_word side ++ (codes " `" ++ (d.name ++ (codes "` conflicts with prior " ++ (y.sort ++ codes " of same name"))))) names c f own_crossed.1 in
+            let twice = repeat_some (λ (d : Called). d.name) (λ (d : Called). fault_in 44 d.span again.0) names c f again.1 in
             let e = any_found (λ (d : Called). bytes_eq d.name c.name) names twice.0 in
             let at_place : slice_get (items_on side all) (length before) ≡ Some x = ap (λ (l : List SideItem). slice_get l (length before)) on ∙ at_middle before x rest in
             let prefix : take (length before) (items_on side all) ≡ before = ap (take (length before)) on ∙ take_seam before (x ∷ rest) in
             let has : Contains (side_called side xs (take (length before) (items_on side all)) order) e.1 = subst (λ (l : List SideItem). Contains (side_called side xs l order) e.1) (sym prefix) (contains_at names e.0 e.1 e.2) in
-            Sides i known.among (CrossedTwice (side, order, least, length before, x, at_place, extern_is x own_crossed.0, c, only, e.1, has, name_equal e.1.name c.name e.3, side_word side ++ (codes " `" ++ (c.name ++ (codes "` conflicts with prior " ++ (sort_among there c.name ++ codes " of same name")))), twice.1)))
+            Sides i known.among (CrossedTwice (side, order, least, length before, x, at_place, extern_is x own_crossed.0, c, only, e.1, has, name_equal e.1.name c.name e.3, again.0, twice.1)))
         | inr far ↦ (
             let again = clash_repeat (λ (d : Called). folded_key d.name) (λ (d : Called) (w : List ℕ). fault_in 17 d.span w) (λ (y : Called) (d : Called). clash (codes "name") y.name d.name) names c f far.1 in
             let own = flat_map item_called before in

@@ -1,15 +1,15 @@
 -- Where the walk finds nothing in what is on the sides of an item, no rule about it is broken.
 use Rattle.std.proofs.Common.{◌≡◌, ◌≤◌, ℕ, zero, suc, Bool, true, false, ◌&&◌, List, [], ◌∷◌, ◌++◌, length, take, Option, Some, None, inl, inr, refl, sym, ap, ◌∙◌, subst, append_assoc, Contains, arith}
-use Rattle.wit_syntax.proofs.Common.{AllDiffer, Called, CrossedTwice, Exported, Extern, Fault, FoldedTwice, Id, Imported, InterfaceItem, InterfaceMetadata, IsBrokenFunction, IsBrokenMetadata, IsBrokenSides, IsLinkedTwice, IsOrder, Item, Link, PackageFile, ScopeName, SideFunction, SideInline, SideItem, SideLink, SourceFunction, Span, WorldSide, address, all_items, and_from, append-nil, at_contains, cases_Bool, clash, codes, cond-false, cond-true, contains_at, fault_in, filter, filter-append, flat_map, flat_map-append, flat_map_at, flat_map_has, folded_key, functions, functions_items, handles, if◌then◌else◌, in_turn, inline_item, interface_attributes, is_interface, is_none, is_world_at, item_called, item_function, item_link, item_side, items_on, leads, linked_twice, list_any, map, name_called, names_on, no_crossed, no_fold, option_or, path_id, path_scope, rows_of, same_address, same_address-from, same_side, same_side-equal, scope_names, side_called, side_items, slice_get, written_types, «Type» as Written}
+use Rattle.wit_syntax.proofs.Common.{AllDiffer, Called, CrossedTwice, Exported, Extern, Fault, FoldedTwice, Id, Imported, InterfaceItem, InterfaceMetadata, IsBrokenFunction, IsBrokenMetadata, IsBrokenSides, IsLinkedTwice, IsOrder, Item, Link, PackageFile, ScopeName, SideFunction, SideInline, SideItem, SideLink, SourceFunction, WorldSide, address, all_items, and_from, append-nil, at_contains, cases_Bool, clash, codes, cond-false, cond-true, contains_at, fault_in, filter, filter-append, flat_map, flat_map-append, flat_map_at, flat_map_has, folded_key, functions, handles, if◌then◌else◌, in_turn, inline_item, interface_attributes, is_interface, is_none, is_world_at, item_called, item_function, item_link, item_side, items_on, leads, linked_twice, list_any, map, name_called, names_on, no_crossed, no_fold, option_or, path_id, path_scope, rows_of, same_address, same_address-from, same_side, same_side-equal, scope_names, side_called, side_items, slice_get, written_types, «Type» as Written}
 use Rattle.wit_first.specs.AttributeFaults.{external_fault, metadata_fault, stability_fault}
 use Rattle.wit_first.specs.FileFaults.{lost_fault}
-use Rattle.wit_first.specs.First.{first_in, first_after, repeat_of}
+use Rattle.wit_first.specs.First.{first_in, first_after, clash_of}
 use Rattle.wit_first.specs.UseFaults.{path_fault, reached_fault}
 use Rattle.wit_first.proofs.Bridge.{after_only, metadata_agree, or_none_both, clash_differs}
 use Rattle.wit_first.proofs.First.{after-append, any_some, none_both}
 use Rattle.wit_walk.specs.Definitions.{handle_fault}
 use Rattle.wit_walk.specs.Functions.{function_fault, signed_fault, word_fault}
-use Rattle.wit_walk.specs.Members.{called_fault, crossed, is_extern, item_fault, member_fault, own_fault, side_sorted}
+use Rattle.wit_walk.specs.Members.{called_fault, crossed, is_extern, item_fault, member_fault, own_fault}
 use Rattle.wit_walk.specs.Names.{folded_fault}
 use Rattle.wit_walk.specs.Paths.{is_same_link, linked_fault}
 use Rattle.wit_syntax.proofs.Common.{flat_has}
@@ -38,11 +38,11 @@ kept_split {X} test (y ∷ ys) place x at = elim (cases_Bool (test y)) [
         (suc it.0, it.1, it.2, cond-true (test y) (y ∷ filter test (take it.0 ys)) (filter test (take it.0 ys)) hit ∙ ap (λ (l : List X). y ∷ l) it.3 ∙ sym (ap (take (suc n)) kept))
 
 -- what is on a side has at most one name, and nothing is wrong with it
-called_none : (extern : Bool) (as_crossed : List ℕ → Span → Fault) (before cs : List Called) → length cs ≤ 1 → first_in (called_fault extern as_crossed before) cs ≡ None → first_after folded_fault before cs ≡ None
+called_none : (extern : Bool) (as_crossed : Called → Called → Fault) (before cs : List Called) → length cs ≤ 1 → first_in (called_fault extern as_crossed before) cs ≡ None → first_after folded_fault before cs ≡ None
 called_none extern as_crossed before [] few none = refl
 called_none extern as_crossed before (c ∷ []) few none =
     let own = or_none_both (called_fault extern as_crossed before c) None none in
-    none_both (or_none_both (if extern then repeat_of (λ (d : Called). d.name) (λ (d : Called). as_crossed d.name d.span) before c else None) (folded_fault before c) own.0).1 refl
+    none_both (or_none_both (if extern then clash_of (λ (d : Called). d.name) as_crossed before c else None) (folded_fault before c) own.0).1 refl
 called_none extern as_crossed before (c ∷ d ∷ cs) few none = absurd (let f : ⊥ = omega (arith, few) in f)
 
 called_few : (x : SideItem) → length (item_called x) ≤ 1
@@ -88,7 +88,7 @@ module _ (files : List PackageFile) (n : ℕ) (inside : Item → Option Fault) (
 
   function_none : (k : ℕ) (fn : SourceFunction) → slice_get (functions i) k ≡ Some fn → (m : ℕ) × (function_fault (signed m fn) xs fn ≡ None)
   function_none k fn at =
-      let it = flat_map_at item_function all k fn (ap (λ (l : List SourceFunction). slice_get l k) (sym (functions_items i)) ∙ at) in
+      let it = flat_map_at item_function all k fn at in
       (it.0, item_none it.0 (SideFunction fn) (it.2 ∙ ap Some (function_is it.1 it.3.0 fn it.3.1)))
 
   pub functions_legal : (k : ℕ) (fn : SourceFunction) → slice_get (functions i) k ≡ Some fn → (f : Fault) → IsBrokenFunction xs (functions i) k fn f → ⊥
@@ -175,8 +175,7 @@ module _ (files : List PackageFile) (n : ℕ) (inside : Item → Option Fault) (
         | inl hit ↦ (
             let its : side ≡ item_side x = same_side-equal side (item_side x) hit in
             let own = (or_none_both (item_fault files n inside i before x) (own_names x before) both.0).1 in
-            let as_crossed = λ (s : WorldSide). crossed s (side_sorted s xs (items_on s before) order) in
-            let here = called_none (is_extern x) (as_crossed side) (names side before) (item_called x) (called_few x) (subst (λ (s : WorldSide). first_in (called_fault (is_extern x) (as_crossed s) (names s before)) (item_called x) ≡ None) (sym its) own) in
+            let here = called_none (is_extern x) (crossed side) (names side before) (item_called x) (called_few x) (subst (λ (s : WorldSide). first_in (called_fault (is_extern x) (crossed s) (names s before)) (item_called x) ≡ None) (sym its) own) in
             let more : first_after folded_fault (names side before ++ item_called x) called ≡ None = subst (λ (l : List Called). first_after folded_fault l called ≡ None) (names_more side before x hit) later in
             ap (λ (l : List SideItem). first_after folded_fault (names side before) (flat_map item_called l)) (cond-true (on x) (x ∷ items_on side rest) (items_on side rest) hit)
             ∙ after-append folded_fault (names side before) (item_called x) called

@@ -1,6 +1,6 @@
 -- What the first fault of the names of a scope breaks, of the order of its definitions, of a definition, and of an include.
 use Rattle.std.proofs.Common.{◌≡◌, ◌⊎◌, ℕ, Bool, true, false, List, [], ◌++◌, take, Option, Some, None, inl, inr, refl, sym, ap, ◌∙◌, Contains}
-use Rattle.wit_syntax.proofs.Common.{Address, AllDiffer, AtForeign, AtResource, Body, Contains-append_left, Defined, DefinedTwice, Elsewhere, End, Fault, ForeignName, Handle, Id, Include, IncludeStability, InterfaceIncluded, IsBroken, IsCyclicEdge, IsMissingEdge, IsNoType, IsOrder, Item, MissingName, OfFunction, OfNothing, PackageFile, Part, Row, Scope, ScopeName, SourceFunction, UseName, Used, Word, address, all_items, all_scopes, any_found, at_contains, at_part, body_types, bytes_eq, cases_Bool, contains_at, cyclic_at, defined, defined_at, find_at, find_passes, flat_map, flat_map_at, flat_map_has, function_used, functions, handles, if◌then◌else◌, include_path, includes, interface_there, is_none, is_world_at, item_at, item_name, item_types, leads, list_any, local_id, local_name, map, meaning, missing_at, name_equal, name_itself, name_twice, name_types, name_word, named_found, no_resource, option_map, option_map_or, option_or, part_includes, parts, path_id, role_names, same_address, same_address-equal, scope, scope_names, shape_end, shape_of, slice_get, slice_get-map, used, used_at, words, written_types, «Type» as Written}
+use Rattle.wit_syntax.proofs.Common.{Address, AllDiffer, AtForeign, AtResource, Body, Contains-append_left, Defined, DefinedTwice, Elsewhere, End, Fault, ForeignName, Handle, Id, Include, IncludeStability, InterfaceIncluded, IsBroken, IsCyclicEdge, IsMissingEdge, IsNoType, IsOrder, Item, MissingName, OfFunction, OfNothing, PackageFile, Part, Row, Scope, ScopeName, UseName, Used, Word, address, all_items, all_scopes, any_found, at_contains, at_part, body_types, bytes_eq, cases_Bool, contains_at, cyclic_at, defined, defined_at, find_at, find_passes, flat_map, flat_map_at, flat_map_has, function_used, functions, handles, if◌then◌else◌, include_path, includes, interface_there, is_none, is_world_at, item_at, item_name, item_types, leads, list_any, local_id, local_name, map, meaning, missing_at, name_equal, name_itself, name_twice, name_types, name_word, named_found, no_resource, option_map, option_map_or, option_or, part_includes, parts, path_id, same_address, same_address-equal, scope, scope_names, shape_end, shape_of, slice_get, slice_get-map, used, used_at, words, written_types, «Type» as Written}
 use Rattle.wit_syntax.specs.Broken.{Metadata}
 use Rattle.wit_type_tree.specs.declared.types.TypeDef.{TypeDef}
 use Rattle.wit_first.specs.AttributeFaults.{metadata_fault, stability_fault}
@@ -15,6 +15,7 @@ use Rattle.wit_walk.specs.Definitions.{definition_fault, end_fault, handle_fault
 use Rattle.wit_walk.specs.Names.{lost_use, name_fault, use_fault}
 use Rattle.wit_walk.specs.Orders.{Outcome, InOrder, AtMissing, AtCycle, IsOutcome, order_fault, order_of}
 use Rattle.wit_walk.specs.Paths.{include_fault, interface_fault}
+use Rattle.wit_walk.proofs.FreeFunctions.{free_names, lost_listed, used_interface}
 use Rattle.wit_walk.proofs.TypeFaults.{IsOf, handles_among, type_wrong}
 
 pub same_fault : (f g : Fault) → Some g ≡ Some f → f ≡ g
@@ -42,11 +43,7 @@ pub unmeant : (m : Option ScopeName) (lost f : Fault) → (if is_none m then Som
 unmeant None lost f h = (refl, same_fault f lost h)
 unmeant (Some x) lost f h = absurd (let g : ⊥ = cc in g)
 
--- the names of functions that belong to no resource
-abbrev free_names : Item → List (List ℕ)
-free_names i = flat_map (λ (fn : SourceFunction). role_names fn.role) (functions i)
-
-no_type : (target : Item) (id : Id) (f : Fault) → f ≡ lost_use target id → IsNoType (Contains (free_names target) id.name.now) (function_used id) (missing_at 12 name_word id) f
+no_type : (target : Item) (id : Id) (f : Fault) → f ≡ (if list_any (bytes_eq id.name.now) (free_names target) then function_used id else missing_at 12 name_word id) → IsNoType (Contains (free_names target) id.name.now) (function_used id) (missing_at 12 name_word id) f
 no_type target id f is = elim (cases_Bool (list_any (bytes_eq id.name.now) (free_names target))) [
   | inl hit ↦ (
       let it = any_found (bytes_eq id.name.now) (free_names target) hit in
@@ -124,7 +121,7 @@ module _ (files : List PackageFile) (i : Item) (among : Contains (all_scopes fil
       let test = λ (v : Item). same_address (address v) from in
       let t = find_at test (all_items files) it.target it.at in
       let same : address it.target ≡ from = same_address-equal (address it.target) from (find_passes test (all_items files) it.target it.at) in
-      MissingName i among from attributes n has it.target (sym same) (named_found (all_items files) t.0 it.target d t.1) it.missing (no_type it.target n.name f it.is)
+      MissingName i among from attributes n has it.target (sym same) (named_found (all_items files) t.0 it.target d t.1) it.missing (no_type it.target n.name f (it.is ∙ sym (lost_listed it.target (used_interface i from attributes n has it.target same) n.name)))
   use_broken d (Defined def) f has h = absurd (let g : ⊥ = cc in g)
   use_broken d (ForeignName attributes id) f has h = absurd (let g : ⊥ = cc in g)
 

@@ -5,5 +5,6 @@ pub mod Functions
 pub mod Paths
 pub mod Setters
 pub mod Members
+pub mod Sorts
 pub mod Walk
 pub mod Laws

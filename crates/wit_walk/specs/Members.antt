@@ -1,19 +1,16 @@
 -- The first fault of what is on the sides of an item: functions, links and inline interfaces, each with E44 and E17 of its name.
-use Rattle.std.specs.Prelude.{ℕ, if◌then◌else◌, Bool, true, false, List, [], ◌∷◌, ◌++◌, codes, length, map, Option, None}
+use Rattle.std.specs.Prelude.{ℕ, if◌then◌else◌, Bool, true, false, List, [], ◌∷◌, ◌++◌, codes, length, Option, None}
 use Rattle.std.specs.List.{filter, flat_map}
 use Rattle.std.specs.Option.{option_or}
-use Rattle.std.specs.Str.{bytes_eq}
 use Rattle.wit_tree.specs.declared.tree.PackageFile.{PackageFile}
 use Rattle.wit_tree.specs.declared.tree.WorldSide.{WorldSide}
-use Rattle.wit_values.specs.declared.span.Span.{Span}
 use Rattle.wit_syntax.specs.Fault.{Fault, fault_in}
 use Rattle.wit_syntax.specs.Function.{Role, OnSide}
-use Rattle.wit_syntax.specs.SignatureRules.{Called, name_called}
-use Rattle.wit_syntax.specs.Sides.{SideItem, SideFunction, SideLink, SideInline, item_called, item_function, item_side, items_on, inline_item, is_interface, names_on, side_called}
-use Rattle.wit_syntax.specs.ScopeTables.{in_turn}
+use Rattle.wit_syntax.specs.SignatureRules.{Called}
+use Rattle.wit_syntax.specs.Sides.{SideItem, SideFunction, SideLink, SideInline, item_called, item_function, item_side, items_on, inline_item, is_interface, side_called}
 use Rattle.wit_syntax.specs.Source.{Item, ScopeName, address, scope_names}
 use Rattle.wit_first.specs.AttributeFaults.{external_fault}
-use Rattle.wit_first.specs.First.{first_in, repeat_of}
+use Rattle.wit_first.specs.First.{first_in, clash_of}
 use Rattle.wit_walk.specs.Definitions.{handle_fault}
 use Rattle.wit_walk.specs.Functions.{function_fault, signed_fault}
 use Rattle.wit_walk.specs.Names.{folded_fault}
@@ -29,34 +26,17 @@ abbrev pub is_extern : SideItem → Bool
 is_extern (SideFunction fn) = is_on_side fn.role
 is_extern x = true
 
--- a name on a side, and the word for what has it
-abbrev pub Sorted : Type 0
-Sorted = List ℕ × List ℕ
-
-abbrev pub item_sorted : SideItem → List Sorted
-item_sorted (SideFunction fn) = (fn.name, codes "func") ∷ []
-item_sorted x = map (λ (c : Called). (c.name, codes "interface")) (item_called x)
-
--- those of a side: types, and then what is there after them
-abbrev pub side_sorted : WorldSide → List ScopeName → List SideItem → List ℕ → List Sorted
-side_sorted side xs there order = map (λ (x : ScopeName). ((name_called x).name, codes "type")) (names_on side (in_turn xs order)) ++ flat_map item_sorted there
-
--- the word for the first that has a name, which one of them has
-abbrev pub sort_among : List Sorted → List ℕ → List ℕ
-sort_among [] name = codes "func"
-sort_among (s ∷ rest) name = if bytes_eq s.0 name then s.1 else sort_among rest name
-
--- what is imported or exported has the name of one of these
-abbrev pub crossed : WorldSide → List Sorted → List ℕ → Span → Fault
-crossed side there name span = fault_in 44 span (side_word side ++ (codes " `" ++ (name ++ (codes "` conflicts with prior " ++ (sort_among there name ++ codes " of same name")))))
+-- what is imported or exported has the name of an earlier one
+abbrev pub crossed : WorldSide → Called → Called → Fault
+crossed side earlier later = fault_in 44 later.span (side_word side ++ (codes " `" ++ (later.name ++ (codes "` conflicts with prior " ++ (earlier.sort ++ codes " of same name")))))
 
 -- of a name after these of its side: one of them is spelled alike, where it is that of an import or export, and then one has its folded key
-abbrev pub called_fault : Bool → (List ℕ → Span → Fault) → List Called → Called → Option Fault
-called_fault extern as_crossed before c = option_or (if extern then repeat_of (λ (d : Called). d.name) (λ (d : Called). as_crossed d.name d.span) before c else None) (folded_fault before c)
+abbrev pub called_fault : Bool → (Called → Called → Fault) → List Called → Called → Option Fault
+called_fault extern as_crossed before c = option_or (if extern then clash_of (λ (d : Called). d.name) as_crossed before c else None) (folded_fault before c)
 
 -- of what is on a side after these: of its name, where it has one
 abbrev pub own_fault : List ScopeName → List SideItem → List ℕ → SideItem → Option Fault
-own_fault xs there order x = first_in (called_fault (is_extern x) (crossed (item_side x) (side_sorted (item_side x) xs there order)) (side_called (item_side x) xs there order)) (item_called x)
+own_fault xs there order x = first_in (called_fault (is_extern x) (crossed (item_side x)) (side_called (item_side x) xs there order)) (item_called x)
 
 -- of an item of a side after these, without its name, where `inside` is the fault of an inline interface: that, and then its external id
 abbrev pub item_fault : List PackageFile → ℕ → (Item → Option Fault) → Item → List SideItem → SideItem → Option Fault

@@ -1,21 +1,22 @@
 -- The first fault of the names of a scope: E12 to E14 of each in source order, and E17 of each in resolution order.
 use Rattle.std.specs.Prelude.{codes, if◌then◌else◌, List, Option, None, Some, is_none}
-use Rattle.std.specs.List.{flat_map, list_any}
+use Rattle.std.specs.List.{list_any}
 use Rattle.std.specs.Option.{option_map_or, option_or}
-use Rattle.std.specs.Str.{bytes_eq}
 use Rattle.wit_names.specs.Folded.{folded_key}
 use Rattle.wit_type_tree.specs.declared.leaves.Id.{Id}
 use Rattle.wit_tree.specs.declared.tree.PackageFile.{PackageFile}
 use Rattle.wit_syntax.specs.Fault.{Fault, fault_in, missing_at, function_used, name_twice}
 use Rattle.wit_syntax.specs.Words.{clash}
-use Rattle.wit_syntax.specs.Function.{SourceFunction, functions, role_names}
+use Rattle.wit_syntax.specs.Function.{SourceFunction}
 use Rattle.wit_syntax.specs.SignatureRules.{Called}
 use Rattle.wit_syntax.specs.Source.{Item, ScopeName, Used, item_at, all_items, local_id, local_name, meaning, scope_names}
+use Rattle.wit_syntax.specs.Sides.{functions}
 use Rattle.wit_first.specs.First.{repeat_of, clash_of}
+use Rattle.wit_walk.specs.Functions.{is_free}
 
 -- a name that an interface is asked for is the written name of a function there that belongs to no resource, or nothing's
 abbrev pub lost_use : Item → Id → Fault
-lost_use from id = if list_any (bytes_eq id.name.now) (flat_map (λ (fn : SourceFunction). role_names fn.role) (functions from)) then function_used id else missing_at 12 (codes "name") id
+lost_use from id = if list_any (λ (fn : SourceFunction). is_free id.name.now fn.role) (functions from) then function_used id else missing_at 12 (codes "name") id
 
 -- a name that is used from an interface of this package, where no type there has it; nothing is known of another package
 abbrev pub use_fault : List PackageFile → ScopeName → Option Fault

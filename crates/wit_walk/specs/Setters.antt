@@ -9,9 +9,9 @@ use Rattle.wit_type_tree.specs.declared.types.FuncForm.TheVariants as form
 use Rattle.wit_tree.specs.declared.tree.WorldSide.{WorldSide}
 use Rattle.wit_tree.specs.declared.tree.WorldSide.TheVariants.{Imported, Exported}
 use Rattle.wit_syntax.specs.Fault.{Fault, lone_setter}
-use Rattle.wit_syntax.specs.Function.{SourceFunction, functions}
+use Rattle.wit_syntax.specs.Function.{SourceFunction}
 use Rattle.wit_syntax.specs.ScopeTables.{includes}
-use Rattle.wit_syntax.specs.Sides.{on_side}
+use Rattle.wit_syntax.specs.Sides.{functions, on_side}
 use Rattle.wit_syntax.specs.Source.{Item}
 use Rattle.wit_first.specs.First.{first_in}
 

@@ -5,7 +5,7 @@ use Rattle.wit_world_sides.specs.Members.{Entry, inserted_on, key_names, key_pla
 use Rattle.wit_refusals.specs.NameScopes.{Name}
 use Rattle.wit_signatures.specs.FunctionsOfScope.{name_of_id, name_key}
 use Rattle.wit_externs.specs.Clash.{item_names, names_of_items, linked_on}
-use Rattle.wit_walk.proofs.Common.{item_sorted, sort_among}
+use Rattle.wit_walk.proofs.Common.{item_sorted, sort_among, sorted_name}
 use Rattle.wit_sides.specs.SideNames.{defined_on}
 use Rattle.wit_world_sides.specs.declared.members.Members.{Members}
 use Rattle.wit_model.specs.declared.world.WorldKey.TheVariants as key
@@ -239,13 +239,13 @@ names_itself link bare = ap (λ (n : Option Id). option_map_or (λ (id : Id). na
 
 -- and with the word for an interface
 abbrev called_by : Option Id → List Called
-called_by o = option_map_or (λ (id : Id). (record { name = id.name.now; span = id.span } ∷ [])) o []
+called_by o = option_map_or (λ (id : Id). (record { name = id.name.now; span = id.span; sort = codes "interface" } ∷ [])) o []
 
 pub sorted_under : (link : Link) (own : Id) → link.name ≡ Some own → item_sorted (SideLink link) ≡ (own.name.now, codes "interface") ∷ []
-sorted_under link own named = ap (λ (n : Option Id). map (λ (c : Called). (c.name, codes "interface")) (called_by n)) named
+sorted_under link own named = ap (λ (n : Option Id). map sorted_name (called_by n)) named
 
 pub sorted_itself : (link : Link) → link.name ≡ None → item_sorted (SideLink link) ≡ []
-sorted_itself link bare = ap (λ (n : Option Id). map (λ (c : Called). (c.name, codes "interface")) (called_by n)) bare
+sorted_itself link bare = ap (λ (n : Option Id). map sorted_name (called_by n)) bare
 
 -- at first the names of a scope are there, as imports
 begun : (m : Members) (xs : List ScopeName) (types : Names) (ids : List Id) → ids ≡ map local_id xs → names_in types ≡ local_names xs → m.sides.imports ≡ type_imports xs types → m.sides.exports ≡ [] → ((s : WorldSide) → defined_on s m.in_use ≡ names_on s (map name_of_id ids)) → ((s : WorldSide) → AllDiffer (map name_key (defined_on s m.in_use))) → ((s : WorldSide) → linked_on s m.links ≡ []) → AreKeyed m

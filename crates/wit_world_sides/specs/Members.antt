@@ -3,7 +3,8 @@ use Rattle.std.specs.Prelude.{◌≡◌, Bool, List, if◌then◌else◌, ℕ, t
 use Rattle.wit_arena.specs.Common.{AllDiffer, Exported, Fault, Function, Id, Imported, Include, Link, SideItem, SideLink, Span, WorldItem, WorldKey, WorldSide, extern_link, flat_map, function_of, insert_entry, item_side, items_on, link_item, linked_twice, list_any, option_map_or, option_or, path_id, put_on, same_side, settled, UsePath}
 use Rattle.wit_model.specs.contracts.world.WorldKeyPartialEq.TheImpl.{eq-value as key_test}
 use Rattle.wit_world_sides.specs.declared.sides.WorldSides.{WorldSides}
-use Rattle.wit_walk.specs.Members.{Sorted, item_sorted, crossed, is_extern}
+use Rattle.wit_walk.specs.Members.{is_extern}
+use Rattle.wit_walk.specs.Sorts.{Sorted, item_sorted, crossed_among}
 use Rattle.wit_refusals.specs.NameScopes.{Name}
 use Rattle.wit_sides.specs.SideNames.{defined_on}
 use Rattle.wit_signatures.specs.FunctionsOfScope.{name_key, name_of_id}
@@ -111,7 +112,7 @@ named_fault extern as_crossed before n = option_or (if extern then repeat_of (λ
 
 -- of a name that is defined on a side after those there
 abbrev pub side_fault : Sides → WorldSides → WorldSide → Bool → Name → Option Fault
-side_fault names sides side extern n = named_fault extern (crossed side (sorted_on side sides)) (defined_on side names) n
+side_fault names sides side extern n = named_fault extern (crossed_among side (sorted_on side sides)) (defined_on side names) n
 
 -- of the name of what is put on its side after those there, where it has one
 abbrev pub clash_fault : Sides → WorldSides → SideItem → Option Fault

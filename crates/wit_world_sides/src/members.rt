@@ -16,7 +16,7 @@ ghost use Rattle.wit_rules.specs.Signatures.{function_view};
 ghost use Rattle.wit_sides.specs.SideNames.{only_on, defined_on};
 ghost use Rattle.wit_signatures.specs.FunctionsOfScope.{name_of_function, name_of_id, name_of_made};
 ghost use Rattle.wit_externs.specs.Clash.{defined_fault, DefinesNames, StayApart, linked_on};
-ghost use Rattle.wit_walk.specs.Members.{sort_among};
+ghost use Rattle.wit_walk.specs.Sorts.{sort_among};
 ghost use Rattle.wit_world_sides.specs.Members.{AreKeyed, IsNamedOn, entry_sorted, item_word, path_link, sorted_on, PutsLink, PutsOn, clash_fault, put_fault, put_link_fault, side_fault};
 ghost use Rattle.wit_syntax.specs.Words.{side_word};
 

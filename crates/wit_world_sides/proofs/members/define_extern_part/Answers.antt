@@ -1,6 +1,6 @@
 use Rattle.std.proofs.Common.{◌≡◌, ℕ, true, false, List, sym, ◌∙◌, subst, ◌++◌}
 use Rattle.wit_arena.proofs.Common.{codes, side_word}
-use Rattle.wit_walk.proofs.Common.{crossed, sort_among}
+use Rattle.wit_walk.proofs.Common.{crossed_among, sort_among}
 use Rattle.wit_refusals.specs.KeyedNames.{HasName}
 use Rattle.wit_refusals.specs.NameScopes.{Name}
 use Rattle.wit_sides.specs.SideNames.{defined_on}
@@ -9,7 +9,7 @@ use Rattle.wit_world_sides.proofs.PutFaults.{named_free, named_has, named_other}
 use Rattle.wit_world_sides.proofs.members.define_extern_part.Goals as goal
 
 pub returns-in-Ok-clause-first : goal.returns-in-Ok-clause-first
-returns-in-Ok-clause-first c = named_free (crossed c.args.side (sorted_on c.args.side c.args.sides.now)) (defined_on c.args.side c.args.in_use.now) c.args.name.now c.args.span c.in-Ok.ensures.free
+returns-in-Ok-clause-first c = named_free (crossed_among c.args.side (sorted_on c.args.side c.args.sides.now)) (defined_on c.args.side c.args.in_use.now) c.args.name.now c.args.span c.in-Ok.ensures.free
 
 pub returns-then-not-branch-clause-first : goal.returns-then-not-branch-clause-first
 returns-then-not-branch-clause-first c =
@@ -20,7 +20,7 @@ returns-then-not-branch-clause-first c =
     let wrong : true ≡ false = sym (c.in_ok-has-in-Err.ensures.1 there) ∙ c.if-not-branch.true in
     let f : ⊥ = cc in
     f) in
-    named_other (crossed c.args.side (sorted_on c.args.side c.args.sides.now)) old name c.args.span c.in-Err.refusal other c.in-Err.ensures.refused
+    named_other (crossed_among c.args.side (sorted_on c.args.side c.args.sides.now)) old name c.args.span c.in-Err.refusal other c.in-Err.ensures.refused
 
 pub returns-else-not-branch-clause-first : goal.returns-else-not-branch-clause-first
 returns-else-not-branch-clause-first c =
@@ -30,4 +30,4 @@ returns-else-not-branch-clause-first c =
     let word = sort_among sorts name in
     let says : List ℕ → List ℕ → List ℕ = λ on what. on ++ (codes " `" ++ (name ++ (codes "` conflicts with prior " ++ (what ++ codes " of same name")))) in
     let words = rw (c.side_word-word.ensures, c.sort_on-what.ensures) at c.format-words.ensures.ok in
-    named_has (crossed c.args.side sorts) (defined_on c.args.side c.args.in_use.now) name c.args.span c.refuse_in.result there (c.refuse_in.ensures (says (side_word c.args.side) word) words)
+    named_has (crossed_among c.args.side sorts) (defined_on c.args.side c.args.in_use.now) name c.args.span c.refuse_in.result there (c.refuse_in.ensures (says (side_word c.args.side) word) words)
