@@ -26,7 +26,7 @@ add_part-requires c = record {
       let xs = c.args.items.now in
       let i = c.loop-part.part-index in
       let x = c.part-item.result in
-      let at = slice_get-map interface_part xs i ∙ ap (option_map interface_part) (slice_get_read xs _ i x refl c.loop-part-test.true c.part-item.is) in
+      let at : slice_get (map interface_part xs) i ≡ Some (interface_part x) = slice_get-map interface_part xs i ∙ ap (option_map interface_part) (slice_get_read xs _ i x refl c.loop-part-test.true c.part-item.is) in
       c.requires.paths u (among_flat own_uses (map interface_part xs) i (interface_part x) u at (rw c.interface_part.ensures at among)));
 }
 
