@@ -11,18 +11,18 @@ all_ids : {us vs ds es : List ScopeName} {ids : List Id} → us ≡ vs → ds �
 all_ids {us} {vs} {ds} {es} uses made are = are ∙ ap (λ (l : List ScopeName). map local_id (l ++ ds)) uses ∙ ap (λ (l : List ScopeName). map local_id (vs ++ l)) made
 
 -- so they differ where none is twice
-all_differ : {us ds xs : List ScopeName} {ids : List Id} → us ≡ used xs → ds ≡ defined xs → ids ≡ map local_id (us ++ ds) → local_names_fault ids ≡ None → AreDistinct xs
-all_differ {us} {ds} {xs} {ids} uses made are none = distinct_names xs (differ_names xs ids (all_ids uses made are) (local_names_differ ids none))
+all_differ : (xs : List ScopeName) {us ds : List ScopeName} {ids : List Id} → us ≡ used xs → ds ≡ defined xs → ids ≡ map local_id (us ++ ds) → local_names_fault ids ≡ None → AreDistinct xs
+all_differ xs {us} {ds} {ids} uses made are none = distinct_names xs (differ_names xs ids (all_ids uses made are) (local_names_differ ids none))
 
 pub ordered_turn-requires-clause-distinct : goal.ordered_turn-requires-clause-distinct
-ordered_turn-requires-clause-distinct c = all_differ c.requires.uses c.in_ok-written.ensures.definitions (c.deref.ensures.value ∙ c.in_ok-written.ensures.ids) c.in_ok-check_unique_names.ensures
+ordered_turn-requires-clause-distinct c = all_differ (map name_view c.args.names.now) c.requires.uses c.in_ok-written.ensures.definitions (c.deref.ensures.value ∙ c.in_ok-written.ensures.ids) c.in_ok-check_unique_names.ensures
 
 pub define_all-requires : goal.define_all-requires
 define_all-requires c =
     let xs = map name_view c.args.names.now in
     let ds = map definition_view c.deref-2.result.now in
     let o : AreOrdered xs ds = subst (λ l. AreOrdered xs (map definition_view l)) (sym c.deref-2.ensures.value) c.in_ok-turn.ensures.ordered in
-    let distinct : AreDistinct xs = all_differ c.requires.uses c.in_ok-written.ensures.definitions (c.deref.ensures.value ∙ c.in_ok-written.ensures.ids) c.in_ok-check_unique_names.ensures in
+    let distinct : AreDistinct xs = all_differ (map name_view c.args.names.now) c.requires.uses c.in_ok-written.ensures.definitions (c.deref.ensures.value ∙ c.in_ok-written.ensures.ids) c.in_ok-check_unique_names.ensures in
     record {
       turn = in_their_turn xs ds (env_of c.args.scope.now.names) (own_borrowed c.args.names.now) o (listed_has c.args.scope.now.names (used xs) c.requires.listed);
       differ = turn_differs xs ds (names_in c.args.scope.now.names) o c.requires.listed distinct;
@@ -43,7 +43,7 @@ returns-clause-defines c = λ first cs uses none.
       adds = record {
         order = o.order;
         least = o.least;
-        distinct = all_differ c.requires.uses c.in_ok-written.ensures.definitions (c.deref.ensures.value ∙ c.in_ok-written.ensures.ids) c.in_ok-check_unique_names.ensures;
+        distinct = all_differ (map name_view c.args.names.now) c.requires.uses c.in_ok-written.ensures.definitions (c.deref.ensures.value ∙ c.in_ok-written.ensures.ids) c.in_ok-check_unique_names.ensures;
         defines = λ s. defines_more first c.args.types.now new cs a.owner s [] a.names b.names (used xs) ds (uses s) (defines cs s);
       };
       turn = all_ids c.requires.uses o.are c.in_ok-turn.ensures.ids;
@@ -73,7 +73,7 @@ returns-in_err-define_all-clause-first c =
     let o : AreOrdered xs ds = subst (λ l. AreOrdered xs (map definition_view l)) (sym c.deref-2.ensures.value) c.in_ok-turn.ensures.ordered in
     let ids : List Id = c.deref.result.now in
     let are : ids ≡ map local_id (used xs ++ defined xs) = all_ids c.requires.uses c.in_ok-written.ensures.definitions (c.deref.ensures.value ∙ c.in_ok-written.ensures.ids) in
-    let distinct : AreDistinct xs = all_differ c.requires.uses c.in_ok-written.ensures.definitions (c.deref.ensures.value ∙ c.in_ok-written.ensures.ids) c.in_ok-check_unique_names.ensures in
+    let distinct : AreDistinct xs = all_differ (map name_view c.args.names.now) c.requires.uses c.in_ok-written.ensures.definitions (c.deref.ensures.value ∙ c.in_ok-written.ensures.ids) c.in_ok-check_unique_names.ensures in
     rw (p.1, p.2) (λ outcome is cs handle along. definitions_found xs ds o.order (ap local_names_fault (sym are) ∙ c.in_ok-check_unique_names.ensures) o.least o.are outcome is (failed _) c.args.scope.now c.args.types.now cs handle distinct along c.in_err-define_all.ensures.first)
 
 pub returns-clause-first : goal.returns-clause-first
@@ -83,5 +83,5 @@ returns-clause-first c = λ outcome is cs handle along.
     let o : AreOrdered xs ds = subst (λ l. AreOrdered xs (map definition_view l)) (sym c.deref-2.ensures.value) c.in_ok-turn.ensures.ordered in
     let ids : List Id = c.deref.result.now in
     let are : ids ≡ map local_id (used xs ++ defined xs) = all_ids c.requires.uses c.in_ok-written.ensures.definitions (c.deref.ensures.value ∙ c.in_ok-written.ensures.ids) in
-    let distinct : AreDistinct xs = all_differ c.requires.uses c.in_ok-written.ensures.definitions (c.deref.ensures.value ∙ c.in_ok-written.ensures.ids) c.in_ok-check_unique_names.ensures in
+    let distinct : AreDistinct xs = all_differ (map name_view c.args.names.now) c.requires.uses c.in_ok-written.ensures.definitions (c.deref.ensures.value ∙ c.in_ok-written.ensures.ids) c.in_ok-check_unique_names.ensures in
     definitions_found xs ds o.order (ap local_names_fault (sym are) ∙ c.in_ok-check_unique_names.ensures) o.least o.are outcome is (done ids) c.args.scope.now c.args.types.now cs handle distinct along c.in_ok-define_all.ensures.first
