@@ -1,6 +1,6 @@
 -- The interfaces and worlds of items that are alike are equal.
-use Rattle.std.proofs.Common.{◌≡◌, ℕ, List, [], ◌∷◌, ◌++◌, map, Option, Some, None, refl, ap, ap₂, ◌∙◌}
-use Rattle.wit_arena.proofs.Common.{Address, AllZip, Constructor, Def, Docs, Exported, Expr, Extern, ExternalId, Freestanding, FuncForm, Function, FunctionKind, Id, Imported, Include, Interface, Item, Key, Link, Metadata, Method, OnSide, Param, Role, ScopeName, Shape, SideFunction, SideInline, SideItem, SideLink, SourceFunction, SourceParam, Span, Stability, Static, TopName, UsePath, WorldInclude, WorldItem, WorldKey, WorldNamed, WorldSide, about, address, all_params, declared_metadata, docs_of, entries_on, expr_of, function_in, function_of, functions, include_in, includes, inline_entry, inline_items, interface, kinds_of, leads, link_item, link_key, local_id, local_name, name_imports, name_places, names_in_turn, no_docs, option_map, own_interface, own_world, path_id, path_scope, placed, renamed, role_kind, role_side, scope_place, settled, side_entries, side_items, stability_of, stated_text, target_scope, type_of, world, world_entries, unwrap_or}
+use Rattle.std.proofs.Common.{◌≡◌, ℕ, List, [], ◌∷◌, ◌++◌, map, Option, Some, None, refl, ap, ap₂, sym, ◌∙◌}
+use Rattle.wit_arena.proofs.Common.{Address, AllZip, Constructor, Def, Docs, Exported, Expr, Extern, ExternalId, Freestanding, FuncForm, Function, FunctionKind, Id, Imported, Include, Interface, Item, Key, Link, Metadata, Method, OnSide, Param, Role, ScopeName, Shape, SideFunction, SideInline, SideItem, SideLink, SourceFunction, SourceParam, Span, Stability, Static, TopName, UsePath, WorldInclude, WorldItem, WorldKey, WorldNamed, WorldSide, about, address, all_params, declared_metadata, docs_of, entries_on, entries_walked, expr_of, function_in, function_of, functions, include_in, includes, inline_entry, inline_items, interface, kinds_of, leads, link_item, link_key, local_id, local_name, name_imports, name_places, names_in_turn, no_docs, option_map, own_interface, own_world, path_id, path_scope, placed, renamed, role_kind, role_side, scope_place, settled, side_entries, side_items, stability_of, stated_text, target_scope, type_of, world, world_entries, unwrap_or}
 use Rattle.wit_tree.specs.declared.tree.IncludeName.{IncludeName as Renaming}
 use Rattle.wit_types.specs.declared.types.«Type».{«Type» as Ty}
 use Rattle.wit_functions.specs.declared.function.FunctionKind.TheVariants as kind
@@ -198,7 +198,9 @@ same_settled (n ∷ ns) (m ∷ ms) xs ys h e = e
 module _ (id : Key → ℕ) (order : Item → List ℕ) (by_address : (i j : Item) → address i ≡ address j → order i ≡ order j) (ss ws : List Address) where
   same_world_entries : (i j : Item) → SameItem i j → world_entries id ss i ≡ world_entries id ss j
   same_world_entries i j h =
-      same_entries (function_in id (address i)) (function_in id (address j)) (same_function_in id (address i) (address j) (same_item_address i j h)) ss i.top j.top h.0 (side_items i) (side_items j) (same_side_items i j h) (inline_items i) (inline_items j) (same_inline_items i j h)
+      entries_walked i id ss
+      ∙ same_entries (function_in id (address i)) (function_in id (address j)) (same_function_in id (address i) (address j) (same_item_address i j h)) ss i.top j.top h.0 (side_items i) (side_items j) (same_side_items i j h) (inline_items i) (inline_items j) (same_inline_items i j h)
+      ∙ sym (entries_walked j id ss)
 
   abbrev imports_of : Item → List Entry
   imports_of i = name_imports id (address i) (names_in_turn order i) ++ entries_on Imported (world_entries id ss i)

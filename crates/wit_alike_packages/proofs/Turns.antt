@@ -1,6 +1,6 @@
 -- What is resolved of items that are alike is alike: names and functions in turn, what occurs in them, and the names in their handles.
-use Rattle.std.proofs.Common.{◌≡◌, ℕ, List, [], ◌∷◌, ◌++◌, map, ap, ap₂, ◌∙◌}
-use Rattle.wit_arena.proofs.Common.{Address, AllZip, Both', Defined, Err', ForeignName, Id, Item, Neither, None', Occurrence, Ok', Row_of-Type, ScopeName, SideFunction, SideInline, SideItem, SideLink, Some', SourceFunction, Turned, Used, address, all_function_occurrences, all_handles, all_types, end_of-Type, flat_map, functions, handles, inline_items, interface_turn, interfaces_of, item_turns, more_of-Type, name_occurrences, name_types, names_in_turn, option_to_list, own_interfaces, row_handles, scope_names, side_items, turn_handles, turn_occurrences, turns_of_world, turns_on_sides, worlds_of, written_types, «Type» as Written}
+use Rattle.std.proofs.Common.{◌≡◌, ℕ, List, [], ◌∷◌, ◌++◌, map, ap, ap₂, sym, subst₂, ◌∙◌}
+use Rattle.wit_arena.proofs.Common.{Address, AllZip, Both', Defined, Err', ForeignName, Id, Item, Neither, None', Occurrence, Ok', Row_of-Type, ScopeName, SideFunction, SideInline, SideItem, SideLink, Some', SourceFunction, Turned, Used, address, all_function_occurrences, all_handles, all_types, end_of-Type, flat_map, functions, handles, inline_items, interface_turn, interfaces_of, item_turns, more_of-Type, name_occurrences, name_types, names_in_turn, option_to_list, own_interfaces, row_handles, scope_names, side_items, turn_handles, turn_occurrences, turns_of_world, turns_on_sides, turns_walked, worlds_of, written_types, «Type» as Written}
 use Rattle.wit_walk.proofs.Common.{Param}
 use Rattle.wit_type_tree.specs.declared.types.«Type».TheVariants as written
 use Rattle.wit_grammar.specs.Trees.{Definition, Function, Parameter}
@@ -120,7 +120,7 @@ module _ (order : Item → List ℕ) (by_address : (i j : Item) → address i �
   same_turns_on_sides s t e (x ∷ xs) (y ∷ ys) h is js items = absurd h.0
 
   same_world_turns : (i j : Item) → SameItem i j → AllZip SameTurn (turns_of_world order i) (turns_of_world order j)
-  same_world_turns i j h = (
+  same_world_turns i j h = subst₂ (AllZip SameTurn) (sym (turns_walked i order)) (sym (turns_walked j order)) (
     record { address = same_item_address i j h; names = same_names_in_turn i j h; functions = tt },
     same_turns_on_sides (address i) (address j) (same_item_address i j h) (side_items i) (side_items j) (same_side_items i j h) (inline_items i) (inline_items j) (same_inline_items i j h),
   )

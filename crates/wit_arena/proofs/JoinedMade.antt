@@ -1,6 +1,6 @@
 -- What is resolved in turn of items that are the same but for the names at the top of their files.
 use Rattle.std.proofs.Common.{◌≡◌, ℕ, List, [], ◌∷◌, ◌++◌, Bool, not, Option, Some, None, inl, inr, refl, sym, ap, ◌∙◌, subst, subst₂, take}
-use Rattle.wit_arena.proofs.Names.{Address, AreTwins, Declared, Item, ScopeName, SideFunction, SideInline, SideItem, SideLink, SourceFunction, Turned, about, address, after_one, bare, cons_option, declared_of, filter, filter-map, flat_map, functions, in_order, in_turn, inline_items, inline_twins, interface_turn, interfaces_of, item_turns, kept_at, map, map-append, map-flat_map, names_in_turn, names_of_bare, no_names, option_map, own_interfaces, scope_names, side_items, slice_get, slice_get-map, turns_of_world, turns_on_sides, twins_become, twins_make, worlds_of, AreAlike, Collects, ForeignUse, IsJoined, IsOrder, Occurrence, PackageFile, alike_back, all_items, all_occurrences, all_scopes, foreign_use_occurrence, foreign_uses, foreign_uses_alike, items_twins, joined_alike, names_same, parts, retop, rows_of, turn_occurrences, twin_among, twins_back, twins_inside, AreRequired, Contains, Def, ForeignVisit, Function, Include, Interface, IsEntryOf, Key, Makes, Span, Stability, TopName, TypeDef, TypeOwner, UnresolvedPackage, Whole, WorldItem, WorldKey, WorldSide, about_name, declared_metadata, entry, first_docs, firsts, foreign_interface, foreign_interfaces, foreign_world, foreign_worlds, function_in, include_in, includes, interface, interface_scopes, keys, map_by, name_places, own_interface, own_world, owner_at, package_of, placed, role_side, scope, scope_alike, side_entries, turn_handles, visited, world_scopes, metadata, no_docs}
+use Rattle.wit_arena.proofs.Names.{Address, AreTwins, Declared, Item, ScopeName, SideFunction, SideInline, SideItem, SideLink, SourceFunction, Turned, about, address, after_one, bare, cons_option, declared_of, entries_walked, filter, filter-map, flat_map, functions, in_order, in_turn, inline_items, inline_twins, interface_turn, interfaces_of, item_turns, kept_at, map, map-append, map-flat_map, names_in_turn, names_of_bare, no_names, option_map, own_interfaces, scope_names, side_items, slice_get, slice_get-map, turns_of_world, turns_on_sides, turns_walked, twins_become, twins_make, walked_turns, world_entries, worlds_of, AreAlike, Collects, ForeignUse, IsJoined, IsOrder, Occurrence, PackageFile, alike_back, all_items, all_occurrences, all_scopes, foreign_use_occurrence, foreign_uses, foreign_uses_alike, items_twins, joined_alike, names_same, parts, retop, rows_of, turn_occurrences, twin_among, twins_back, twins_inside, AreRequired, Contains, Def, ForeignVisit, Function, Include, Interface, IsEntryOf, Key, Makes, Span, Stability, TopName, TypeDef, TypeOwner, UnresolvedPackage, Whole, WorldItem, WorldKey, WorldSide, about_name, declared_metadata, entry, first_docs, firsts, foreign_interface, foreign_interfaces, foreign_world, foreign_worlds, function_in, include_in, includes, interface, interface_scopes, keys, map_by, name_places, own_interface, own_world, owner_at, package_of, placed, role_side, scope, scope_alike, side_entries, turn_handles, visited, world_scopes, metadata, no_docs}
 use Rattle.wit_syntax.proofs.JoinedTargets.{AreThemselves, included_same, used_same}
 use Rattle.wit_syntax.proofs.JoinedOrders.{order_onward}
 use Rattle.wit_arena.specs.SplitOccurrences.{AreFirstOccurrences, HaveSameOccurrences, HaveSamePackages}
@@ -97,7 +97,10 @@ module _ (order : Item → List ℕ) (one : ByDeclared order) where
   sides_same s xs is js same = absurd (let f : ⊥ = cc in f)
 
   world_stated : (i : Item) → AreThemselves i.top → turns_of_world order i ≡ turns_of_world order (bare i.declared)
-  world_stated i own = cc (names_stated i own, sides_same (address i) (side_items i) (inline_items i) (inline_items (bare i.declared)) (inline_made (interface_turn order) interface_stated i own))
+  world_stated i own =
+      let b = bare i.declared in
+      let walked : walked_turns order i ≡ walked_turns order b = cc (names_stated i own, sides_same (address i) (side_items i) (inline_items i) (inline_items b) (inline_made (interface_turn order) interface_stated i own)) in
+      turns_walked i order ∙ walked ∙ sym (turns_walked b order)
 
   pub turns_same : (is js : List Item) → AreTwins is js → item_turns order is ≡ item_turns order js
   turns_same is js t = cc (twins_make (interface_turn order) interface_stated (interfaces_of is) (interfaces_of js) (twin_interfaces is js t), twins_become (turns_of_world order) world_stated (worlds_of is) (worlds_of js) (twin_worlds is js t))
@@ -180,7 +183,8 @@ module _ (id : Key → ℕ) (order : Item → List ℕ) (one : ByDeclared order)
 
   world_again : (ss ws : List Address) (i : Item) → AreThemselves i.top → own_world id order ss ws i ≡ own_world id order ss ws (bare i.declared)
   world_again ss ws i own =
-      let entries = entries_same (function_in id (address i)) ss i.top [] own no_names (side_items i) (inline_items i) (inline_items (bare i.declared)) (inline_made address (λ j it. refl) i own) in
+      let walked = entries_same (function_in id (address i)) ss i.top [] own no_names (side_items i) (inline_items i) (inline_items (bare i.declared)) (inline_made address (λ j it. refl) i own) in
+      let entries : world_entries id ss i ≡ world_entries id ss (bare i.declared) = entries_walked i id ss ∙ walked ∙ sym (entries_walked (bare i.declared) id ss) in
       let included = map_by (include_in ws i.top) (include_in ws []) (λ (n : Include). cc (included_same i.top [] own no_names n.from)) (includes i) in
       cc (names_stated order one i own, entries, included)
 

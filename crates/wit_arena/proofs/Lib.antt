@@ -49,6 +49,7 @@ pub mod PlacingFunctions
 pub mod MadeEntries
 pub mod MadeScopes
 pub mod MadeInterfaces
+pub mod Members
 pub mod MadeSides
 pub mod MadeWorlds
 pub mod MadeArenas

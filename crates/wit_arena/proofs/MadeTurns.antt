@@ -1,6 +1,6 @@
 -- What is resolved in turn, given by the items and the orders of their names.
-use Rattle.std.proofs.Common.{◌≡◌, ℕ, suc, ◌+◌, List, [], ◌∷◌, ◌++◌, length, Some, refl, ap, ◌∙◌}
-use Rattle.wit_arena.proofs.Names.{Address, IsLegal, Item, PackageFile, ScopeName, SideFunction, SideInline, SideItem, SideLink, SourceFunction, Turned, address, all_items, at_back, at_prefix, flat_map, flat_map_has, functions, in_order, in_turn, inline_items, interface_turn, interfaces_of, item_turns, map, names_in_turn, option_map, scope_names, side_items, slice_get, slice_get-map, turns_of_world, turns_on_sides}
+use Rattle.std.proofs.Common.{sym, ◌≡◌, ℕ, suc, ◌+◌, List, [], ◌∷◌, ◌++◌, length, Some, refl, ap, ◌∙◌}
+use Rattle.wit_arena.proofs.Names.{Address, IsLegal, Item, PackageFile, ScopeName, SideFunction, SideInline, SideItem, SideLink, SourceFunction, Turned, address, all_items, at_back, at_prefix, flat_map, flat_map_has, functions, in_order, in_turn, inline_items, interface_turn, interfaces_of, item_turns, map, names_in_turn, option_map, scope_names, side_items, slice_get, slice_get-map, turns_of_world, turns_on_sides, turns_walked}
 use Rattle.wit_arena.proofs.Ordered.{Ordered, OrderedWorld, AreOrdered, ordered_names, turned, side_turns, world_turns, all_turns, all_inside}
 use Rattle.wit_arena.proofs.DoneWorlds.{own_order}
 use Rattle.wit_arena.proofs.MadeOrders.{order_among, order_stated, listed, listed_differ}
@@ -43,6 +43,7 @@ module _ (order : Item → List ℕ) where
       let xs = side_items w.own.item in
       ap (λ names. turn s [] names ∷ side_turns s xs w.inside) (names_stated w.own as_stated.own)
       ∙ ap (λ l. turn s [] (names_in_turn order w.own.item) ∷ l) (sides_stated s xs w.inside as_stated.inside ∙ ap (turns_on_sides order s xs) as_stated.items)
+      ∙ sym (turns_walked w.own.item order)
 
   worlds_stated : (ws : List OrderedWorld) → ((t : ℕ) (w : OrderedWorld) → slice_get ws t ≡ Some w → IsStated w) → flat_map world_turns ws ≡ flat_map (turns_of_world order) (map own_item ws)
   worlds_stated [] as_stated = refl

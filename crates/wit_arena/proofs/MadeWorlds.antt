@@ -1,6 +1,6 @@
 -- Where a function gives the place of each key, and scopes are where they are stated to, each world of the package is stated.
 use Rattle.std.proofs.Common.{◌≡◌, ℕ, List, [], ◌∷◌, ◌++◌, Option, refl, sym, ap, ◌∙◌, subst}
-use Rattle.wit_arena.proofs.Names.{Address, AreSideItems, Def, Docs, Exported, ForeignVisit, Function, Imported, Include, IsForeignWorld, IsInclude, IsWorld, Item, Key, Metadata, ScopeName, Span, Stability, TopName, Type_, World, WorldInclude, WorldItem, WorldKey, WorldNamed, WorldSide, about, address, declared_metadata, entries_on, flat_map, foreign_world, function_in, functions as item_functions, include_in, includes, inline_items, item_function, leads, local_id, local_name, map, name_imports, name_places, names_in_turn, own_world, settled, side_items, target_scope, type_imports, world, world_entries, world_types, metadata, no_docs}
+use Rattle.wit_arena.proofs.Names.{Address, AreSideItems, Def, Docs, Exported, ForeignVisit, Function, Imported, Include, IsForeignWorld, IsInclude, IsWorld, Item, Key, Metadata, ScopeName, Span, Stability, TopName, Type_, World, WorldInclude, WorldItem, WorldKey, WorldNamed, WorldSide, about, address, declared_metadata, entries_on, entries_walked, flat_map, foreign_world, function_in, functions as item_functions, include_in, includes, inline_items, item_function, leads, local_id, local_name, map, name_imports, name_places, names_in_turn, own_world, settled, side_items, target_scope, type_imports, world, world_entries, world_types, metadata, no_docs}
 use Rattle.wit_model.specs.declared.world.IncludeName.{IncludeName}
 use Rattle.wit_model.specs.declared.world.WorldKey.TheVariants as key
 use Rattle.wit_arena.proofs.Ordered.{OrderedWorld, addresses, ordered_names, turned}
@@ -55,7 +55,7 @@ module _ (id : Key → ℕ) (ks : List Key) (gives : GivesPlaces id ks) (ss : Li
       let function = function_in id (address i) in
       let of_functions = subst (λ (l : List Function). AreSideItems ss i.top side (side_items i) l inside on) made are in
       let of_items = subst (λ (l : List Address). AreSideItems ss i.top side (side_items i) (map function (flat_map item_function (side_items i))) l on) (sym written) of_functions in
-      side_items-as_stated ss placed function (λ fn. refl) i.top side (side_items i) (inline_items i) on of_items
+      side_items-as_stated ss placed function (λ fn. refl) i.top side (side_items i) (inline_items i) on of_items ∙ ap (entries_on side) (sym (entries_walked i id ss))
 
   module _ (ws : List Address) (worlds_placed : ArePlaced ws) where
     pub own_world-as_stated : (order : Item → List ℕ) (o : OrderedWorld) (w : World) → ordered_names o.own ≡ names_in_turn order o.own.item → map (λ x. x.item) o.inside ≡ inline_items o.own.item → IsResolvedWorld ks ss ws o w → w ≡ own_world id order ss ws o.own.item

@@ -1,7 +1,7 @@
 -- Where two orders of names agree on items, these are resolved in one way, and are in a package in one way.
 use Rattle.std.proofs.Common.{◌≡◌, ℕ, suc, List, [], ◌∷◌, ◌++◌, Some, refl, ap, ◌∙◌, ◌<◌, Bool, not, length, inl, inr, sym, subst, Contains, true, false, Option, None}
 use Rattle.std.proofs.Math.Path.{fun_ext}
-use Rattle.wit_arena.proofs.Names.{Address, Item, Key, SideFunction, SideInline, SideItem, SideLink, Turned, address, flat_map, inline_items, interface_turn, interfaces_of, item_turns, map, own_interface, own_world, side_items, slice_get, turns_of_world, turns_on_sides, worlds_of, PackageFile, all_items, all_scopes, at_split, contains_at, filter, flat_map_at, flat_map_has, in_order, in_order_at, is_world, item_row, item_rows, kept_at, length-map, one_answer, order_within, own_interfaces, rows_of, scope_names, AllDiffer, AllZip, AreRequired, AstItem, AtForeign, AtResource, Def, Docs, HandleRequires, Id, Interface, IsLegal, Makes, Occurrence, PackageName, Span, Stability, TypeDef, UnresolvedPackage, World, all_occurrences, filter_map, foreign_interface, foreign_interfaces, foreign_world, foreign_worlds, interface_scopes, keys, owner_at, scope, turn_handles, world_scopes, IsOrder}
+use Rattle.wit_arena.proofs.Names.{Address, Item, Key, SideFunction, SideInline, SideItem, SideLink, Turned, address, flat_map, inline_items, interface_turn, interfaces_of, item_turns, map, own_interface, own_world, side_items, slice_get, turns_of_world, turns_on_sides, turns_walked, walked_turns, worlds_of, PackageFile, all_items, all_scopes, at_split, contains_at, filter, flat_map_at, flat_map_has, in_order, in_order_at, is_world, item_row, item_rows, kept_at, length-map, one_answer, order_within, own_interfaces, rows_of, scope_names, AllDiffer, AllZip, AreRequired, AstItem, AtForeign, AtResource, Def, Docs, HandleRequires, Id, Interface, IsLegal, Makes, Occurrence, PackageName, Span, Stability, TypeDef, UnresolvedPackage, World, all_occurrences, filter_map, foreign_interface, foreign_interfaces, foreign_world, foreign_worlds, interface_scopes, keys, owner_at, scope, turn_handles, world_scopes, IsOrder}
 use Rattle.wit_arena.proofs.Turns.{function_turn}
 use Rattle.wit_arena.proofs.Ends.{ends_one}
 use Rattle.wit_arena.proofs.Occurrence.{firsts-differ}
@@ -32,7 +32,8 @@ module _ (order other : Item → List ℕ) where
 
   same_world_turns : (i : Item) → order i ≡ other i → Agree (inline_items i) → turns_of_world order i ≡ turns_of_world other i
   same_world_turns i same inside =
-      cc (same, same_on_sides (address i) (side_items i) (inline_items i) inside)
+      let walked : walked_turns order i ≡ walked_turns other i = cc (same, same_on_sides (address i) (side_items i) (inline_items i) inside) in
+      turns_walked i order ∙ walked ∙ sym (turns_walked i other)
 
   module _ (is : List Item) (interfaces : Agree (interfaces_of is)) (worlds : Agree (worlds_of is)) (inside : (k : ℕ) (i : Item) → slice_get (worlds_of is) k ≡ Some i → Agree (inline_items i)) where
     pub same_turns : item_turns order is ≡ item_turns other is

@@ -1,6 +1,6 @@
 -- The package that files make, as a value.
 use Rattle.std.specs.Prelude.{if◌then◌else◌, ◌≡◌, ◌↔◌, ℕ, Bool, true, List, [], ◌∷◌, ◌++◌, length, map, take, Option, Some, None, Contains, slice_get}
-use Rattle.wit_arena.specs.Names.{Address, Constructor, Exported, ExternalId, ForeignUse, ForeignVisit, Freestanding, Function, FunctionKind, Id, Imported, Include, Interface, IsOrder, Item, Metadata, Method, OnSide, PackageFile, Role, ScopeName, SideFunction, SideInline, SideItem, SideLink, SourceFunction, SourceParam, Span, Stability, Static, TopName, TypeDef, TypeDefKind, TypeOwner, UnresolvedPackage, World, WorldInclude, WorldItem, WorldKey, WorldNamed, WorldSide, about, about_name, address, all_items, all_params, all_scopes, declared_metadata, docs_of, filter_map, first_foreign_uses, first_known, firsts, flat_map, foreign_interfaces, foreign_packages, foreign_worlds, functions, headers, in_order, in_turn, includes, inline_items, interfaces_of, item_rows, last_header, leads, local_id, local_name, no_docs, option_map, package_of, path_id, path_scope, placed, position_or_len, primitive_type, role_side, rows_of, same_side, scope, scope_names, side_items, stability_of, stated_text, target_scope, unwrap_or, visited, worlds_of, «Type» as Ty, metadata}
+use Rattle.wit_arena.specs.Names.{Address, Constructor, Exported, ExternalId, ForeignUse, ForeignVisit, Freestanding, Function, FunctionKind, Id, Imported, Include, Interface, IsOrder, Item, Metadata, Method, OnSide, PackageFile, Role, ScopeName, SideFunction, SideInline, SideItem, SideLink, SourceFunction, SourceParam, Span, Stability, Static, TopName, TypeDef, TypeDefKind, TypeOwner, UnresolvedPackage, World, WorldInclude, WorldItem, WorldKey, WorldNamed, WorldSide, about, about_name, address, all_items, all_params, all_scopes, declared_metadata, docs_of, filter_map, first_foreign_uses, first_known, firsts, flat_map, foreign_interfaces, foreign_packages, foreign_worlds, functions, headers, in_order, in_turn, includes, inline_items, interfaces_of, members, item_rows, last_header, leads, local_id, local_name, no_docs, option_map, package_of, path_id, path_scope, placed, position_or_len, primitive_type, role_side, rows_of, same_side, scope, scope_names, stability_of, stated_text, target_scope, unwrap_or, visited, worlds_of, «Type» as Ty, metadata}
 use Rattle.wit_tree.specs.declared.tree.PackageName.{PackageName as Header}
 use Rattle.wit_types.specs.declared.types.TypeOwner.TheVariants as owner
 use Rattle.wit_types.specs.declared.types.«Type».TheVariants as type
@@ -79,14 +79,11 @@ own_interface id order i = interface (about i.declared).called (name_places id (
 abbrev pub scope_place : List Address → Address → ℕ
 scope_place ss s = unwrap_or (place_at ss s) 0
 
--- What is on the sides of a world, each with its side, where this makes its functions, the interfaces have these scopes, and these are
--- written in it.
-abbrev pub side_entries : (SourceFunction → Function) → List Address → List TopName → List SideItem → List Item → List (WorldSide × (WorldKey × WorldItem))
-side_entries function ss top [] is = []
-side_entries function ss top (SideFunction fn ∷ xs) is = (role_side fn.role, (key.Name fn.name, item.Function (function fn))) ∷ side_entries function ss top xs is
-side_entries function ss top (SideLink link ∷ xs) is = (link.side, link_item link (scope_place ss (path_scope top link.path))) ∷ side_entries function ss top xs is
-side_entries function ss top (SideInline x name items ∷ xs) [] = side_entries function ss top xs []
-side_entries function ss top (SideInline x name items ∷ xs) (i ∷ is) = (x.side, inline_entry x name (scope_place ss (address i))) ∷ side_entries function ss top xs is
+-- what is on a side of a world, with that side, where this makes its functions and the interfaces have these scopes
+abbrev pub member_entries : (SourceFunction → Function) → List Address → List TopName → SideItem → List Item → List (WorldSide × (WorldKey × WorldItem))
+member_entries function ss top (SideFunction fn) is = (role_side fn.role, (key.Name fn.name, item.Function (function fn))) ∷ []
+member_entries function ss top (SideLink link) is = (link.side, link_item link (scope_place ss (path_scope top link.path))) ∷ []
+member_entries function ss top (SideInline x name items) is = map (λ i. (x.side, inline_entry x name (scope_place ss (address i)))) is
 
 -- those on a side
 abbrev pub entries_on : WorldSide → List (WorldSide × (WorldKey × WorldItem)) → List (WorldKey × WorldItem)
@@ -110,7 +107,7 @@ foreign_world v = world [] [] [] [] (metadata no_docs []) v.id.span
 
 -- what is on the sides of a world, where the interfaces have these scopes
 abbrev pub world_entries : (Key → ℕ) → List Address → Item → List (WorldSide × (WorldKey × WorldItem))
-world_entries id ss i = side_entries (function_in id (address i)) ss i.top (side_items i) (inline_items i)
+world_entries id ss i = flat_map (λ m. member_entries (function_in id (address i)) ss i.top m.0 m.1) (members i)
 
 -- a world of files, where the interfaces have these scopes and the worlds those: it imports its names in turn, and then what is on that side
 abbrev pub own_world : (Key → ℕ) → (Item → List ℕ) → List Address → List Address → Item → World
@@ -122,16 +119,14 @@ own_world id order ss ws i = world (about i.declared).id.name.now
 abbrev pub interface_turn : (Item → List ℕ) → Item → Turned
 interface_turn order i = record { address = address i; names = names_in_turn order i; functions = functions i }
 
--- what is on the sides of a world, as it is resolved: its functions, each by itself, and the interfaces that are written there, whole
-abbrev pub turns_on_sides : (Item → List ℕ) → Address → List SideItem → List Item → List Turned
-turns_on_sides order s [] is = []
-turns_on_sides order s (SideFunction fn ∷ xs) is = record { address = s; names = []; functions = fn ∷ [] } ∷ turns_on_sides order s xs is
-turns_on_sides order s (SideInline x name items ∷ xs) (i ∷ is) = interface_turn order i ∷ turns_on_sides order s xs is
-turns_on_sides order s (x ∷ xs) is = turns_on_sides order s xs is
+-- what is on a side of a world, as it is resolved: a function, by itself, or an interface that is written there, whole
+abbrev pub member_turns : (Item → List ℕ) → Address → SideItem → List Item → List Turned
+member_turns order s (SideFunction fn) is = record { address = s; names = []; functions = fn ∷ [] } ∷ []
+member_turns order s x is = map (interface_turn order) is
 
 -- a world, as it is resolved: its names, and then what is on its sides
 abbrev pub turns_of_world : (Item → List ℕ) → Item → List Turned
-turns_of_world order i = record { address = address i; names = names_in_turn order i; functions = [] } ∷ turns_on_sides order (address i) (side_items i) (inline_items i)
+turns_of_world order i = record { address = address i; names = names_in_turn order i; functions = [] } ∷ flat_map (λ m. member_turns order (address i) m.0 m.1) (members i)
 
 -- interfaces and then worlds, as they are resolved
 abbrev pub item_turns : (Item → List ℕ) → List Item → List Turned

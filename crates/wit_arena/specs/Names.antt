@@ -57,6 +57,6 @@ pub use Rattle.wit_syntax.specs.Repeats.{AllDiffer, firsts}
 pub use Rattle.wit_syntax.specs.ScopeTables.{AreDistinct, defined, in_order, in_turn, includes, interfaces_of, item_rows, local_names, needed_ids, rows_of, use_path, used, worlds_of}
 pub use Rattle.wit_syntax.specs.ScopesOfTrees.{scope, source_node, source_tree}
 pub use Rattle.wit_syntax.specs.Shape.{Body, End, More, Of, Prim, Shape, Shapes, Word, all_handles, all_shapes, body_of, handles, shape_of}
-pub use Rattle.wit_syntax.specs.Sides.{FunctionKey, Link, SideFunction, SideInline, SideItem, SideLink, all_scopes, extern_link, function_key, inline_after, inline_items, is_interface, item_function, item_inline, item_side, items_on, names_on, on_side, part_items, role_side, side_items, functions}
+pub use Rattle.wit_syntax.specs.Sides.{FunctionKey, Link, SideFunction, SideInline, SideItem, SideLink, all_scopes, extern_link, function_key, inline_after, inline_items, is_interface, item_function, item_inline, item_side, items_on, members, members_after, names_on, on_side, part_items, role_side, side_items, functions}
 pub use Rattle.wit_syntax.specs.Source.{Declared, Defined, DefinitionPart, ExternPart, Foreign, ForeignUse, FunctionPart, IncludePart, Item, Local, Part, Place, ScopeName, Target, TheInline, TheInterface, TheWorld, TopName, UsePart, Used, about, about_name, address, all_items, at_side, declared_metadata, first_foreign_uses, foreign_uses, inline_uses, interface_part, is_world, item_at, item_name, leads, local_id, local_name, meaning, part_names, path_id, path_scope, scope_names, target_scope, top_names, world_part}
 pub use Rattle.wit_syntax.specs.Shorthand.{item_word, name_word, same_foreign_use, type_word, use_of_foreign}

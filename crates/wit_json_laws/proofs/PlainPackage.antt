@@ -1,6 +1,6 @@
 -- A package that legal plain trees make is plain, where its interfaces have ids of 64 bits.
 use Rattle.std.proofs.Common.{◌≡◌, ℕ, ◌≤◌, ◌^◌, Bool, true, false, cond, List, [], ◌∷◌, ◌++◌, length, map, Option, Some, None, Contains, refl, sym, subst, arith}
-use Rattle.wit_arena.proofs.Common.{Address, All, AstItem, Def, DefinitionPart, Exported, ExternPart, ForeignVisit, Function, FunctionPart, Id, IfSome, Imported, Include, IncludePart, Interface, IsLegal, Item, Key, Makes, PackageFile, PackageName, Part, ScopeName, SideFunction, SideInline, SideItem, SideLink, SourceFunction, Stability, TopName, UnresolvedPackage, UsePart, World, WorldInclude, WorldItem, WorldKey, WorldSide, about, address, cons_option, dep, entries_on, filter, firsts_at, foreign_entry, foreign_interface, foreign_interfaces, foreign_items, foreign_packages, foreign_visits, foreign_world, foreign_worlds, function_in, function_of, functions, include_in, includes, inline_entry, inline_items, interface_scopes, kept_at, last_header, link_item, link_key, local_id, local_name, name_imports, names_in_turn, option_map, own_interface, own_interfaces, own_world, package_of, pairs, part_includes, parts, path_scope, placed, role_side, same_address, same_package, same_side, scope_place, scopes_declared, settled, side_entries, side_items, slice_get, stability_of, visited, world_entries, world_scopes, worlds_of, ⊤}
+use Rattle.wit_arena.proofs.Common.{Address, All, AstItem, Def, DefinitionPart, Exported, ExternPart, ForeignVisit, Function, FunctionPart, Id, IfSome, Imported, Include, IncludePart, Interface, IsLegal, Item, Key, Makes, PackageFile, PackageName, Part, ScopeName, SideFunction, SideInline, SideItem, SideLink, SourceFunction, Stability, TopName, UnresolvedPackage, UsePart, World, WorldInclude, WorldItem, WorldKey, WorldSide, about, address, cons_option, dep, entries_on, entries_walked, filter, firsts_at, foreign_entry, foreign_interface, foreign_interfaces, foreign_items, foreign_packages, foreign_visits, foreign_world, foreign_worlds, function_in, function_of, functions, include_in, includes, inline_entry, inline_items, interface_scopes, kept_at, last_header, link_item, link_key, local_id, local_name, name_imports, names_in_turn, option_map, own_interface, own_interfaces, own_world, package_of, pairs, part_includes, parts, path_scope, placed, role_side, same_address, same_package, same_side, scope_place, scopes_declared, settled, side_entries, side_items, slice_get, stability_of, visited, world_entries, world_scopes, worlds_of, ⊤}
 use Rattle.wit_tree.specs.declared.tree.PackageName.{PackageName as Header}
 use Rattle.wit_arena.proofs.Settled.{placed_at}
 use Rattle.wit_model.specs.declared.world.WorldItem.TheVariants as item
@@ -110,7 +110,7 @@ foreign_world_plain v = record { stability = tt; imports = all_none IsPlainEntry
 own_world_plain : (id : Key → ℕ) (order : Item → List ℕ) (ss ws : List Address) (w : Item) → IsPlainScope w → All IsPlainScopeName (names_in_turn order w) → IsPlainBesides (own_world id order ss ws w)
 own_world_plain id order ss ws w h names =
     let on = λ (side : WorldSide). entries_on side (world_entries id ss w) in
-    let on_side : (side : WorldSide) → All IsPlainEntry (entries_on side (world_entries id ss w)) = λ side. on_plain id (address w) ss w.top side (side_items w) (inline_items w) (sides_plain w h) in
+    let on_side : (side : WorldSide) → All IsPlainEntry (entries_on side (world_entries id ss w)) = λ side. subst (λ es. All IsPlainEntry (entries_on side es)) (sym (entries_walked w id ss)) (on_plain id (address w) ss w.top side (side_items w) (inline_items w) (sides_plain w h)) in
     let prefix = name_imports id (address w) (names_in_turn order w) in
     record {
       stability = stability_plain (about w.declared).attributes h.attributes;

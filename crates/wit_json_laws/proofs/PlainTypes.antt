@@ -1,6 +1,6 @@
 -- The versions of the types that plain trees make are by SemVer.
 use Rattle.std.proofs.Common.{◌≡◌, ℕ, zero, suc, ◌<◌, List, [], ◌∷◌, length, map, take, Option, Some, None, Contains, refl, sym, ap, ◌∙◌, subst, arith}
-use Rattle.wit_arena.proofs.Common.{Address, All, Def, ForeignName, ForeignNamed, ForeignUse, InlineAt, InterfaceNamed, IsEntryOf, IsLegal, IsOrder, Item, Key, Makes, Occurrence, PackageFile, ScopeName, Shape, Shapes, SideFunction, SideInline, SideItem, SideLink, SourceFunction, Span, Stability, Turned, TypeDef, TypeOwner, UnresolvedPackage, Whole, WorldNamed, about_name, address, all_function_occurrences, all_items, all_occurrences, all_scopes, at_contains, at_prefix, at_take, at_within, contains_at, exprs_of, filter, find_among, first_foreign_uses, first_known, firsts_at, flat_map, foreign_use_occurrence, foreign_uses, in_order, in_turn_among, inline_items, interface_scopes, interface_turn, interfaces_of, item_at, item_rows, item_turns, kept_at, map_at, name_occurrences, names_in_turn, option_map_or, owner_at, rows_of, same_address, same_foreign_use, scope, scope_names, scopes_declared, scopes_inline, shape_occurrences, shapes_occurrences, side_items, signature, slice_get, slice_get_within, stability_at, stability_of, turn_occurrences, turns_of_world, turns_on_sides, types_of, unwrap_or, used_names, world_scopes, worlds_of}
+use Rattle.wit_arena.proofs.Common.{Address, All, Def, ForeignName, ForeignNamed, ForeignUse, InlineAt, InterfaceNamed, IsEntryOf, IsLegal, IsOrder, Item, Key, Makes, Occurrence, PackageFile, ScopeName, Shape, Shapes, SideFunction, SideInline, SideItem, SideLink, SourceFunction, Span, Stability, Turned, TypeDef, TypeOwner, UnresolvedPackage, Whole, WorldNamed, about_name, address, all_function_occurrences, all_items, all_occurrences, all_scopes, at_contains, at_prefix, at_take, at_within, contains_at, exprs_of, filter, find_among, first_foreign_uses, first_known, firsts_at, flat_map, foreign_use_occurrence, foreign_uses, in_order, in_turn_among, inline_items, interface_scopes, interface_turn, interfaces_of, item_at, item_rows, item_turns, kept_at, map_at, name_occurrences, names_in_turn, option_map_or, owner_at, rows_of, same_address, same_foreign_use, scope, scope_names, scopes_declared, scopes_inline, shape_occurrences, shapes_occurrences, side_items, signature, slice_get, slice_get_within, stability_at, stability_of, turn_occurrences, turns_of_world, turns_on_sides, turns_walked, types_of, unwrap_or, used_names, world_scopes, worlds_of}
 use Rattle.wit_types.specs.declared.stability.Stability.TheVariants as stability
 use Rattle.wit_types.specs.declared.types.«Type».{«Type» as Ty}
 use Rattle.wit_types.specs.declared.types.«Type».TheVariants as ty
@@ -138,7 +138,7 @@ module _ (files : List PackageFile) (plain : All HasPlainNames files) where
     sides_turned s (SideInline x name items ∷ xs) (i ∷ is) among = all_more HasNames (interface_turn order i) (turns_on_sides order s xs is) (turn_stability i (among 0 i refl)) (sides_turned s xs is (λ k v at. among (suc k) v at))
 
     world_turned : (w : Item) → Contains (all_scopes files) w → ((k : ℕ) (i : Item) → slice_get (inline_items w) k ≡ Some i → Contains (all_scopes files) i) → All HasNames (turns_of_world order w)
-    world_turned w among inside = all_more HasNames (record { address = address w; names = names_in_turn order w; functions = [] }) (turns_on_sides order (address w) (side_items w) (inline_items w)) (turn_stability w among) (sides_turned (address w) (side_items w) (inline_items w) inside)
+    world_turned w among inside = subst (All HasNames) (sym (turns_walked w order)) (all_more HasNames (record { address = address w; names = names_in_turn order w; functions = [] }) (turns_on_sides order (address w) (side_items w) (inline_items w)) (turn_stability w among) (sides_turned (address w) (side_items w) (inline_items w) inside))
 
     module _ (legal : IsLegal files) (items : List Item) (ordered : ((places : List ℕ) × IsOrder (item_rows files) places × (items ≡ in_order (all_items files) places))) where
       all_turned : All HasNames (item_turns order items)

@@ -1,6 +1,6 @@
 -- The maps of worlds that legal files make have no key twice.
 use Rattle.std.proofs.Common.{◌≡◌, ℕ, false, List, [], ◌∷◌, ◌++◌, length, map, take, Some, Contains, refl, sym, ap, ◌∙◌, subst}
-use Rattle.wit_arena.proofs.Common.{Address, All, AllDiffer, Called, Exported, ForeignVisit, Imported, Include, IsLegal, IsOrder, Item, Key, Link, LinkedTwice, PackageFile, ScopeName, SideItem, SideLink, WorldItem, WorldKey, WorldSide, address, all_items, all_scopes, called_key, contains_at, differ_at, differ_by, entries_on, flat_map, flat_map-append, folded_key, foreign_world, foreign_worlds, function_of, in_order, includes, inline_items, interface_scopes, is_world_at, item_called, item_inline, item_rows, item_side, items_on, kept_at, leads, length-inline_after, linked_twice, map-append, name_called, name_imports, names_in_turn, own_world, path_id, path_scope, placed, rows_of, same_side, scope_names, scope_place, scopes_declared, settled, side_called, side_items, slice_get, slice_get-take, world_entries, worlds_of}
+use Rattle.wit_arena.proofs.Common.{Address, All, AllDiffer, Called, Exported, ForeignVisit, Imported, Include, IsLegal, IsOrder, Item, Key, Link, LinkedTwice, PackageFile, ScopeName, SideItem, SideLink, WorldItem, WorldKey, WorldSide, address, all_items, all_scopes, called_key, contains_at, differ_at, differ_by, entries_on, entries_walked, flat_map, flat_map-append, folded_key, foreign_world, foreign_worlds, function_of, in_order, includes, inline_items, interface_scopes, is_world_at, item_called, item_inline, item_rows, item_side, items_on, kept_at, leads, length-inline_after, linked_twice, map-append, name_called, name_imports, names_in_turn, own_world, path_id, path_scope, placed, rows_of, same_side, scope_names, scope_place, scopes_declared, settled, side_called, side_items, slice_get, slice_get-take, walked_entries, world_entries, worlds_of}
 use Rattle.wit_model.specs.declared.world.WorldKey.TheVariants as key
 use Rattle.wit_json.specs.DistinctKeys.{HasOwnKeys, HasOwnSides}
 use Rattle.wit_parser.proofs.PartsScopes.{link_leads, HasPlace}
@@ -49,6 +49,18 @@ module _ (files : List PackageFile) (legal : IsLegal files) (items : List Item) 
     count : length (inline_items w) ≡ length (flat_map item_inline (side_items w))
     count = length-inline_after w [] (side_items w)
 
+    on_walked : (side : WorldSide) → on side ≡ entries_on side (walked_entries id ss w)
+    on_walked side = ap (entries_on side) (entries_walked w id ss)
+
+    on_names : (side : WorldSide) → names_among (on side) ≡ map called_name (flat_map item_called (there side))
+    on_names side = ap names_among (on_walked side) ∙ side_names id (address w) ss w.top side (side_items w) (inline_items w) count
+
+    on_places : (side : WorldSide) → places_among (on side) ≡ flat_map (bare_place id (address w) ss w.top) (there side)
+    on_places side = ap places_among (on_walked side) ∙ side_places id (address w) ss w.top side (side_items w) (inline_items w) count
+
+    on_at_names : (side : WorldSide) → AreAtNames (on side)
+    on_at_names side = subst AreAtNames (sym (on_walked side)) (side_at_names id (address w) ss w.top side (side_items w) (inline_items w))
+
     linked : (side : WorldSide) (p : ℕ) (a : Link) → slice_get (there side) p ≡ Some (SideLink a) → HasPlace ss (path_scope w.top a.path) × (is_world_at files (leads w.top a.path) ≡ Some false)
     linked side p a at_a = (let k = kept_at (λ (x : SideItem). same_side side (item_side x)) (side_items w) p (SideLink a) at_a in link_leads files legal items ordered t w at k.0 a k.1)
 
@@ -69,8 +81,8 @@ module _ (files : List PackageFile) (legal : IsLegal files) (items : List Item) 
     exported_keys : AllDiffer (map key_of (on Exported))
     exported_keys =
         keys_differ (map key_of (on Exported))
-        (subst AllDiffer (sym (side_names id (address w) ss w.top Exported (side_items w) (inline_items w) count)) (names_differ Exported))
-        (subst AllDiffer (sym (side_places id (address w) ss w.top Exported (side_items w) (inline_items w) count)) (places_differ Exported))
+        (subst AllDiffer (sym (on_names Exported)) (names_differ Exported))
+        (subst AllDiffer (sym (on_places Exported)) (places_differ Exported))
 
     abbrev xs : List ScopeName
     xs = names_in_turn order w
@@ -83,7 +95,7 @@ module _ (files : List PackageFile) (legal : IsLegal files) (items : List Item) 
         ap (flat_map key_names) (map-append key_of prefix (on Imported))
         ∙ flat_map-append key_names (map key_of prefix) (map key_of (on Imported))
         ∙ ap (λ (l : List (List ℕ)). l ++ names_among (on Imported)) (import_names id (address w) xs)
-        ∙ ap (λ (l : List (List ℕ)). map called_name (map name_called xs) ++ l) (side_names id (address w) ss w.top Imported (side_items w) (inline_items w) count)
+        ∙ ap (λ (l : List (List ℕ)). map called_name (map name_called xs) ++ l) (on_names Imported)
         ∙ sym (map-append called_name (map name_called xs) (flat_map item_called (there Imported)))
 
     all_places : places_among (prefix ++ on Imported) ≡ flat_map (bare_place id (address w) ss w.top) (there Imported)
@@ -91,15 +103,15 @@ module _ (files : List PackageFile) (legal : IsLegal files) (items : List Item) 
         ap (flat_map key_places) (map-append key_of prefix (on Imported))
         ∙ flat_map-append key_places (map key_of prefix) (map key_of (on Imported))
         ∙ ap (λ (l : List ℕ). l ++ places_among (on Imported)) (import_places id (address w) xs)
-        ∙ side_places id (address w) ss w.top Imported (side_items w) (inline_items w) count
+        ∙ on_places Imported
 
     imported_keys : AllDiffer (map key_of (prefix ++ on Imported))
     imported_keys = keys_differ (map key_of (prefix ++ on Imported)) (subst AllDiffer (sym all_names) (names_differ Imported)) (subst AllDiffer (sym all_places) (places_differ Imported))
 
     own_sides : (ws : List Address) → HasOwnSides (own_world id order ss ws w)
     own_sides ws = record {
-      imports = settled_keys (includes w) (prefix ++ on Imported) imported_keys (both_at_names prefix (on Imported) (import_at_names id (address w) xs) (side_at_names id (address w) ss w.top Imported (side_items w) (inline_items w)));
-      exports = settled_keys (includes w) (on Exported) exported_keys (side_at_names id (address w) ss w.top Exported (side_items w) (inline_items w));
+      imports = settled_keys (includes w) (prefix ++ on Imported) imported_keys (both_at_names prefix (on Imported) (import_at_names id (address w) xs) (on_at_names Imported));
+      exports = settled_keys (includes w) (on Exported) exported_keys (on_at_names Exported);
     }
 
   pub all_sides : (ws : List Address) → All HasOwnSides (map foreign_world (foreign_worlds files) ++ map (own_world id order ss ws) (worlds_of items))

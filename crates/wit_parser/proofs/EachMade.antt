@@ -1,6 +1,6 @@
 -- What holds of each function of an item that is made holds of those of its interface, and of all that its world imports and exports.
-use Rattle.std.proofs.Common.{◌≡◌, ℕ, zero, suc, Bool, true, false, cond, List, [], ◌∷◌, ◌++◌, map, Some, None, inl, inr, refl, ap, subst}
-use Rattle.wit_items.proofs.Common.{Address, Def, Exported, Extern, Function, Id, Imported, Include, Key, Link, ScopeName, SideFunction, SideInline, SideItem, SideLink, SourceFunction, TopName, WorldItem, WorldKey, WorldSide, address, at_split, cons_option, entries_on, flat_map, function_in, functions, includes, inline_entry, inline_items, item_function, item_link, link_item, local_id, local_name, map_at, name_imports, pairs, path_scope, placed, role_side, same_side, scope_place, settled, settled_at, side_entries, side_items, slice_get, world_entries}
+use Rattle.std.proofs.Common.{◌≡◌, ℕ, zero, suc, Bool, true, false, cond, List, [], ◌∷◌, ◌++◌, map, Some, None, inl, inr, refl, ap, subst, sym}
+use Rattle.wit_items.proofs.Common.{Address, Def, Exported, Extern, Function, Id, Imported, Include, Key, Link, ScopeName, SideFunction, SideInline, SideItem, SideLink, SourceFunction, TopName, WorldItem, WorldKey, WorldSide, address, at_split, cons_option, entries_on, entries_walked, flat_map, function_in, functions, includes, inline_entry, inline_items, item_function, item_link, link_item, local_id, local_name, map_at, name_imports, pairs, path_scope, placed, role_side, same_side, scope_place, settled, settled_at, side_entries, side_items, slice_get, world_entries}
 use Rattle.wit_arena.proofs.Common.{Item}
 use Rattle.wit_arena.proofs.Settled.{placed_at}
 use Rattle.wit_model.specs.declared.world.WorldItem.TheVariants as item
@@ -53,7 +53,7 @@ module _ (P : Entry → Type 0) where
       (links : (k : ℕ) (link : Link) → slice_get (flat_map item_link (side_items w)) k ≡ Some link → P (link_item link (scope_place ss (path_scope w.top link.path))))
       (inside : (k : ℕ) (i : Item) → slice_get (inline_items w) k ≡ Some i → (x : Extern) (name : Id) → P (inline_entry x name (scope_place ss (address i)))) where
     side_each : (side : WorldSide) → Each (entries_on side (world_entries id ss w))
-    side_each side = on_each (function_in id (address w)) side ss w.top (side_items w) (inline_items w) fns links inside
+    side_each side = subst (λ es. Each (entries_on side es)) (sym (entries_walked w id ss)) (on_each (function_in id (address w)) side ss w.top (side_items w) (inline_items w) fns links inside)
 
     pub exports_each : Each (settled (includes w) (entries_on Exported (world_entries id ss w)))
     exports_each = settled_each (includes w) (entries_on Exported (world_entries id ss w)) (side_each Exported)

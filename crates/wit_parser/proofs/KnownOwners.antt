@@ -1,6 +1,6 @@
 -- At each address of a package is a scope that it knows by its place.
 use Rattle.std.proofs.Common.{◌≡◌, ℕ, ◌+◌, List, length, Some, None, inl, inr, refl, sym, ap, ◌∙◌, eqb-true, eq-eqb, [], Option, subst, arith, zero, suc, ◌∷◌, ◌++◌}
-use Rattle.wit_items.proofs.Common.{Address, InlineAt, IsLegal, Makes, PackageFile, SourceFunction, TypeOwner, UnresolvedPackage, World, WorldSide, about, address, at_back, at_prefix, at_split, declared_called, find_at, find_passes, find_some, flat_map, flat_map_at, flat_map_has, foreign_interface, foreign_interface-none, foreign_interfaces, foreign_world, foreign_worlds, functions_apart, functions_are, includes, inline_inside, inline_interface, inline_items, inline_items_at, inline_owner, interface_address, interface_scope, interface_scopes, interfaces_of, interfaces_on, interfaces_sort, is_inside, item_name, keys, laid_scope, length-map, map, names_in_turn, nat_eq, option_map, option_map_or, option_or, own_interface, own_interfaces, own_world, same_some, side_items, slice_get, take, turn_is, visited, world_address, world_functions, world_interfaces, world_owner_at, world_scope, world_scopes, world_types, worlds_of, worlds_sort, DoneScope, IsItem, ScopeName, SideFunction, SideInline, SideItem, SideLink, Turned, after_one, at_part, function_turn, functions, functions_at, interface_turn, item_function, item_turns, map_at, names_turn, scope, turns_of_world, turns_on_sides}
+use Rattle.wit_items.proofs.Common.{Address, InlineAt, IsLegal, Makes, PackageFile, SourceFunction, TypeOwner, UnresolvedPackage, World, WorldSide, about, address, at_back, at_prefix, at_split, declared_called, find_at, find_passes, find_some, flat_map, flat_map_at, flat_map_has, foreign_interface, foreign_interface-none, foreign_interfaces, foreign_world, foreign_worlds, functions_apart, functions_are, includes, inline_inside, inline_interface, inline_items, inline_items_at, inline_owner, interface_address, interface_scope, interface_scopes, interfaces_of, interfaces_on, interfaces_sort, is_inside, item_name, keys, laid_scope, length-map, map, names_in_turn, nat_eq, option_map, option_map_or, option_or, own_interface, own_interfaces, own_world, same_some, side_items, slice_get, take, turn_is, turns_walked, visited, world_address, world_functions, world_interfaces, world_owner_at, world_scope, world_scopes, world_types, worlds_of, worlds_sort, DoneScope, IsItem, ScopeName, SideFunction, SideInline, SideItem, SideLink, Turned, after_one, at_part, function_turn, functions, functions_at, interface_turn, item_function, item_turns, map_at, names_turn, scope, turns_of_world, turns_on_sides}
 use Rattle.wit_arena.proofs.Common.{Item}
 use Rattle.wit_arena.proofs.InlineOwners.{IsInlineEntry, world_entries, world_entry}
 use Rattle.wit_parser.proofs.Images.{images_at}
@@ -267,7 +267,7 @@ module _ (files : List PackageFile) (p : UnresolvedPackage) (legal : IsLegal fil
         subst (IsPartOf scopes) i.2 (interface_part own.0 i.0 (at_prefix (interfaces_of m.items) (flat_map inline_items (worlds_of m.items)) own.0 i.0 i.1)))
     | inr far ↦ (
         let w = flat_map_at (turns_of_world m.order) (worlds_of m.items) far.0 t far.1 in
-        elim (after_one (names_turn (address w.1) (names_in_turn m.order w.1)) (turns_on_sides m.order (address w.1) (side_items w.1) (inline_items w.1)) w.3.0 t w.3.1) [
+        elim (after_one (names_turn (address w.1) (names_in_turn m.order w.1)) (turns_on_sides m.order (address w.1) (side_items w.1) (inline_items w.1)) w.3.0 t (ap (λ (l : List Turned). slice_get l w.3.0) (sym (turns_walked w.1 m.order)) ∙ w.3.1)) [
           | inl names ↦ subst (IsPartOf scopes) names (names_part scopes (interface_turn m.order w.1) (world_part w.0 w.1 w.2))
           | inr side ↦ on_sides w.0 w.1 w.2 side.0 t side.1
         ])

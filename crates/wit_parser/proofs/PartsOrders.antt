@@ -1,6 +1,6 @@
 -- All that an item names occurs, and all that is taken from another package.
 use Rattle.std.proofs.Common.{◌≡◌, ℕ, zero, Some, refl, subst, suc, ◌+◌, List, [], ◌∷◌, length, inl, inr, sym, ap, ◌∙◌, arith, not, map, ◌++◌}
-use Rattle.wit_items.proofs.Common.{Address, Def, Defined, DefinitionPart, ExternPart, ForeignVisit, FunctionPart, Has, Id, IsItem, IsLegal, IsSeen, Key, Makes, PackageFile, Part, ResourceFunc, ScopeName, Shape, SideFunction, SideInline, SideItem, SideLink, SourceFunction, Turned, TypeBody, Unknown, UnresolvedPackage, Whole, Word, address, all_function_occurrences, all_occurrences, at_back, at_part, at_prefix, definition_functions, expr_of, exprs_of, extern_at, firsts_at, flat_map, flat_map_at, flat_map_has, foreign_use_occurrence, foreign_uses, free_function, function_turn as turn_of_function, functions, inline_items, interface_turn, interfaces_of, item_function, item_inline, item_turns, keys, length-inline_after, local_name, map, map_at, name_occurrences, names_in_turn, names_turn, option_map, own_interfaces, part_functions, part_names, parts, resource_function, same_foreign_use, scope, scope_names, shape_occurrences, shapes_occurrences, side_items, signature, slice_get, slice_get-map, turn_occurrences, turns_of_world, turns_on_sides, used_name_at, visited, words, worlds_of, AreAddresses, AreItems, Ordered, all_addresses, are_items, distinct_items, foreign_interfaces, foreign_worlds, inline_scopes, interface_scopes, interfaces_sort, is_world, item_scopes, items_kept, world_scopes, worlds_sort, AreSideItems, Exported, HasSides, HasTypes, Imported, Type_, World, WorldItem, WorldKey, WorldSide, entries_on, function_in, import_types, includes, local_id, map_map, name_imports, name_places, own_types, own_world, settled, settled_none, settled_types, type_imports, world_entries, world_types, part_of_function}
+use Rattle.wit_items.proofs.Common.{Address, Def, Defined, DefinitionPart, ExternPart, ForeignVisit, FunctionPart, Has, Id, IsItem, IsLegal, IsSeen, Key, Makes, PackageFile, Part, ResourceFunc, ScopeName, Shape, SideFunction, SideInline, SideItem, SideLink, SourceFunction, Turned, TypeBody, Unknown, UnresolvedPackage, Whole, Word, address, all_function_occurrences, all_occurrences, at_back, at_part, at_prefix, definition_functions, expr_of, exprs_of, extern_at, firsts_at, flat_map, flat_map_at, flat_map_has, foreign_use_occurrence, foreign_uses, free_function, function_turn as turn_of_function, functions, inline_items, interface_turn, interfaces_of, item_function, item_inline, item_turns, keys, length-inline_after, local_name, map, map_at, name_occurrences, names_in_turn, names_turn, option_map, own_interfaces, part_functions, part_names, parts, resource_function, same_foreign_use, scope, scope_names, shape_occurrences, shapes_occurrences, side_items, signature, slice_get, slice_get-map, turn_occurrences, turns_of_world, turns_on_sides, turns_walked, walked_turns, used_name_at, visited, words, worlds_of, AreAddresses, AreItems, Ordered, all_addresses, are_items, distinct_items, foreign_interfaces, foreign_worlds, inline_scopes, interface_scopes, interfaces_sort, is_world, item_scopes, items_kept, world_scopes, worlds_sort, AreSideItems, Exported, HasSides, HasTypes, Imported, Type_, World, WorldItem, WorldKey, WorldSide, entries_on, entries_walked, function_in, import_types, includes, local_id, map_map, name_imports, name_places, own_types, own_world, settled, settled_none, settled_types, type_imports, world_entries, world_types, part_of_function}
 use Rattle.wit_arena.proofs.Common.{Item}
 use Rattle.wit_walk.proofs.Common.{Of, Prim, Names}
 use Rattle.wit_parser.proofs.PartsTurns.{IsPresent, RolePresent, FunctionPresent, has_last, has_of, has_back, has_prefix, NamesPresent, name_has, names_seen, signature_known, functions_in-are, name_places-are}
@@ -152,9 +152,9 @@ module _ (files : List PackageFile) (p : UnresolvedPackage) (legal : IsLegal fil
       item_seen i it (λ k has. seen k (has_prefix names types k has)) (λ n fn there k has. seen k (has_back names types k (has_of (λ (g : SourceFunction). flat_map (shape_occurrences s Unknown) (signature g)) (functions i) n fn k there has)))
 
   -- where a turn of a world is among all
-  world_turn : (n j : ℕ) (w : Item) (t : Turned) → slice_get (worlds_of m.items) n ≡ Some w → slice_get (turns_of_world m.order w) j ≡ Some t → (k : ℕ) × (slice_get turns k ≡ Some t)
+  world_turn : (n j : ℕ) (w : Item) (t : Turned) → slice_get (worlds_of m.items) n ≡ Some w → slice_get (walked_turns m.order w) j ≡ Some t → (k : ℕ) × (slice_get turns k ≡ Some t)
   world_turn n j w t at there =
-      let it = flat_map_has (turns_of_world m.order) (worlds_of m.items) n j w t at there in
+      let it = flat_map_has (turns_of_world m.order) (worlds_of m.items) n j w t at (ap (λ (l : List Turned). slice_get l j) (turns_walked w m.order) ∙ there) in
       (length (map (interface_turn m.order) (interfaces_of m.items)) + it.0, at_back (map (interface_turn m.order) (interfaces_of m.items)) (flat_map (turns_of_world m.order) (worlds_of m.items)) it.0 t it.1)
 
   declared_seen : (n : ℕ) (i : Item) → slice_get (interfaces_of m.items) n ≡ Some i → ItemPresent (IsSeen ks) m.order i
@@ -199,7 +199,8 @@ module _ (files : List PackageFile) (p : UnresolvedPackage) (legal : IsLegal fil
   side_is : (side : WorldSide) → AreSideItems ss i.top side (side_items i) (map (function_in m.id (address i)) (functions i)) (map address (inline_items i)) (entries_on side (world_entries m.id ss i))
   side_is side =
       let placed : HasPlaces ss (world_scopes files m.items) i = has_places files legal m.items m.in_order k i at in
-      side_entries-are ss (function_in m.id (address i)) (λ fn. refl) i.top side (side_items i) (inline_items i) (sym (length-inline_after i [] (side_items i))) placed.links placed.inside
+      subst (λ es. AreSideItems ss i.top side (side_items i) (map (function_in m.id (address i)) (functions i)) (map address (inline_items i)) (entries_on side es)) (sym (entries_walked i m.id ss))
+      (side_entries-are ss (function_in m.id (address i)) (λ fn. refl) i.top side (side_items i) (inline_items i) (sym (length-inline_after i [] (side_items i))) placed.links placed.inside)
 
   abbrev types : List (List ℕ × ℕ)
   types = name_places m.id (address i) (names_in_turn m.order i)

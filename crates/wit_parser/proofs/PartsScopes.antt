@@ -1,6 +1,6 @@
 -- What occurs in all items of files occurs in an order in which the parts of each come before it.
 use Rattle.std.proofs.Common.{◌≡◌, ◌≤◌, ℕ, ◌+◌, zero, suc, Bool, true, false, not, List, [], ◌∷◌, ◌++◌, length, take, Option, Some, None, ◌⊎◌, inl, inr, refl, sym, ap, ◌∙◌, subst, arith, append-nil, cond, Contains}
-use Rattle.wit_items.proofs.Common.{Address, AllDiffer, Attribute, Contains, Def, ForeignNamed, Has, InterfaceNamed, IsForeignUse, IsItem, IsLegal, IsOrder, Key, MissingName, Occurrence, OfNothing, Ordered, PackageFile, ScopeName, SideFunction, SideInline, SideItem, SideLink, SourceFunction, Turned, UseName, Used, address, all_declared, all_function_occurrences, all_items, all_scopes, at_contains, bytes_eq, distinct_items, find_at, find_passes, flat_map, flat_map-append, flat_map-map, foreign_use_occurrence, foreign_uses, function_used, functions, in_order, in_order_at, inline_items, interface_turn, interfaces_of, is_foreign, is_world, item_at, item_function, item_index, item_name, item_rows, item_turns, items_within, kept_at, kept_early, kept_has, keys, local_name, map, meaning, missing_at, name_equal, name_exprs, name_occurrences, name_word, named_found, not-true, option_map, ordered_names, own_interface_address, role_names, rows_of, scope, scope_among, scope_item_at, scope_names, side_items, slice_get, slice_get-map, take_all, turn_occurrences, turns_of_world, turns_on_sides, used_before, used_interface, used_name_at, uses_lead, worlds_of, DefinitionPart, Extern, ExternKind, ExternPart, Foreign, ForeignVisit, FunctionPart, Id, Include, IncludePart, InterfaceIncluded, IsVisited, Link, Local, MissingUse, PackageName, Part, Target, UsePath, WorldNamed, WorldUsed, at_back, at_prefix, at_side, contains_at, definition_functions, extern_items, extern_link, extern_paths, extern_visits, flat_map_at, flat_map_has, foreign_at, foreign_at-visited, foreign_interfaces, foreign_items, foreign_worlds, include_path, include_paths, includes, inline_uses, interface_scopes, interface_there, is_world_at, item_link, item_named, item_word, leads, map_at, named_at, needed_before, option_cases, own_interfaces, part_includes, part_items, part_visits, parts, path_among, path_id, path_scope, path_visited, path_visits, paths_of_world, side_has, side_itself, target_scope, use_path, use_paths, visit_listed, visited, walk, world_address, world_scopes, world_there, AreSideItems, Function, TopName, WorldItem, WorldKey, WorldSide, cons_option, entries_on, inline_entry, item_inline, link_item, put_on, role_side, same_side, scope_place, side_entries}
+use Rattle.wit_items.proofs.Common.{Address, AllDiffer, Attribute, Contains, Def, ForeignNamed, Has, InterfaceNamed, IsForeignUse, IsItem, IsLegal, IsOrder, Key, MissingName, Occurrence, OfNothing, Ordered, PackageFile, ScopeName, SideFunction, SideInline, SideItem, SideLink, SourceFunction, Turned, UseName, Used, address, all_declared, all_function_occurrences, all_items, all_scopes, at_contains, bytes_eq, distinct_items, find_at, find_passes, flat_map, flat_map-append, flat_map-map, foreign_use_occurrence, foreign_uses, function_used, functions, in_order, in_order_at, inline_items, interface_turn, interfaces_of, is_foreign, is_world, item_at, item_function, item_index, item_name, item_rows, item_turns, items_within, kept_at, kept_early, kept_has, keys, local_name, map, meaning, missing_at, name_equal, name_exprs, name_occurrences, name_word, named_found, not-true, option_map, ordered_names, own_interface_address, role_names, rows_of, scope, scope_among, scope_item_at, scope_names, side_items, slice_get, slice_get-map, take_all, turn_occurrences, turns_of_world, turns_on_sides, turns_walked, used_before, used_interface, used_name_at, uses_lead, worlds_of, DefinitionPart, Extern, ExternKind, ExternPart, Foreign, ForeignVisit, FunctionPart, Id, Include, IncludePart, InterfaceIncluded, IsVisited, Link, Local, MissingUse, PackageName, Part, Target, UsePath, WorldNamed, WorldUsed, at_back, at_prefix, at_side, contains_at, definition_functions, extern_items, extern_link, extern_paths, extern_visits, flat_map_at, flat_map_has, foreign_at, foreign_at-visited, foreign_interfaces, foreign_items, foreign_worlds, include_path, include_paths, includes, inline_uses, interface_scopes, interface_there, is_world_at, item_link, item_named, item_word, leads, map_at, named_at, needed_before, option_cases, own_interfaces, part_includes, part_items, part_visits, parts, path_among, path_id, path_scope, path_visited, path_visits, paths_of_world, side_has, side_itself, target_scope, use_path, use_paths, visit_listed, visited, walk, world_address, world_scopes, world_there, AreSideItems, Function, TopName, WorldItem, WorldKey, WorldSide, cons_option, entries_on, inline_entry, item_inline, link_item, put_on, role_side, same_side, scope_place, side_entries}
 use Rattle.wit_walk.proofs.Common.{Names, OfFunction, Use as WrittenUse}
 use Rattle.wit_arena.proofs.Common.{Item}
 use Rattle.wit_parser.proofs.PartsTurns.{AllPresent, After, Ready, has_prefix, has_of, ready_append, functions_ready, UsesPresent, NamesPresent, names_seen, names_ready, signature_known, turn_names, turn_ready, one_at, ready_kept}
@@ -150,7 +150,7 @@ module _ (files : List PackageFile) (legal : IsLegal files) (order : Item → Li
         let there = flat_map (name_occurrences s) (ordered_names (own w)) in
         let sides = flat_map turn_occurrences (turns_on_sides order s (side_items w) (inline_items w)) in
         let prefix : Ready names b (there ++ []) = subst (λ l. Ready names b l) (sym (append-nil there)) (names_ready files legal (own w) it b (λ from attributes n among. wider (Def from n.name.name.now) (uses_known (own w) it from attributes n among))) in
-        ready_append names (there ++ []) sides b prefix (sides_ready w it (side_items w) (inline_items w) (After b (there ++ [])) (λ k q. inl (wider k q)) (λ k x is. inr (has_prefix there [] (Def s (local_name x)) (names_seen files legal (own w) it k x is))) (λ k fn is. (k, is)) (λ k i is. with_item p (suc k) w i at is))
+        subst (λ ts. Ready names b (flat_map turn_occurrences ts)) (sym (turns_walked w order)) (ready_append names (there ++ []) sides b prefix (sides_ready w it (side_items w) (inline_items w) (After b (there ++ [])) (λ k q. inl (wider k q)) (λ k x is. inr (has_prefix there [] (Def s (local_name x)) (names_seen files legal (own w) it k x is))) (λ k fn is. (k, is)) (λ k i is. with_item p (suc k) w i at is)))
 
     -- all that occurs in scopes, after what is taken
     pub all_ready : Ready names (Has (keys in_use)) (flat_map turn_occurrences (item_turns order items))

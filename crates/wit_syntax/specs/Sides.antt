@@ -122,14 +122,23 @@ abbrev pub inline_item : Item → ℕ → SideItem → List Item
 inline_item i place (SideInline x name items) = record { top = i.top; declared = TheInline (item_name i) place x name items } ∷ []
 inline_item i place _ = []
 
--- the items that are interfaces which are written in an item, after these: the place of each is how many interfaces come before it on its side
-abbrev pub inline_after : Item → List SideItem → List SideItem → List Item
-inline_after i before [] = []
-inline_after i before (x ∷ xs) = inline_item i (length (filter is_interface (items_on (item_side x) before))) x ++ inline_after i (before ++ x ∷ []) xs
+-- What is on the sides of an item after these, each with the interface that it is, if it is written there: the place of one is how many
+-- interfaces come before it on its side.
+abbrev pub members_after : Item → List SideItem → List SideItem → List (SideItem × List Item)
+members_after i before [] = []
+members_after i before (x ∷ xs) = (x, inline_item i (length (filter is_interface (items_on (item_side x) before))) x) ∷ members_after i (before ++ x ∷ []) xs
+
+-- what is on the sides of an item, each with the interface that it is, if it is written there
+abbrev pub members : Item → List (SideItem × List Item)
+members i = members_after i [] (side_items i)
 
 -- the interfaces that are written in an item, in source order
 abbrev pub inline_items : Item → List Item
-inline_items i = inline_after i [] (side_items i)
+inline_items i = flat_map (λ m. m.1) (members i)
+
+-- those that are written after these
+abbrev pub inline_after : Item → List SideItem → List SideItem → List Item
+inline_after i before xs = flat_map (λ m. m.1) (members_after i before xs)
 
 -- all items: those that files declare, each with those that are written in it
 abbrev pub all_scopes : List PackageFile → List Item
