@@ -1,6 +1,6 @@
 -- What is stated of things that are alike is equal.
 use Rattle.std.proofs.Common.{◌≡◌, ℕ, List, Option, Some, None, refl, ap, ap₂, sym, ◌∙◌}
-use Rattle.wit_arena.proofs.Common.{Attribute, AttributeKind, Declared, Defined, Docs, ForeignName, Item, Metadata, Release, ScopeName, Stability, TheInline, TheInterface, TheWorld, Used, Version, about, about_name, attribute_text, attribute_version, declared_metadata, deprecation, docs_of, docs_text, first_of, metadata, no_docs, option_and_then, option_map, option_map_or, release_of, stability_of, stated_text, stated_version}
+use Rattle.wit_arena.proofs.Common.{Attribute, AttributeKind, Declared, Defined, Docs, ForeignName, Item, Metadata, Release, ScopeName, Stability, TheInline, TheInterface, TheWorld, Used, about, about_name, attribute_text, attribute_version, declared_metadata, deprecation, docs_of, docs_text, first_of, metadata, no_docs, option_and_then, option_map, release_of, stability_by, stability_of, stated_text, stated_version}
 use Rattle.wit_type_tree.specs.declared.leaves.Attribute.TheVariants.{Since, Unstable, Deprecated, ExternalId}
 use Rattle.wit_type_tree.specs.declared.leaves.Docs.{Docs as Comments}
 use Rattle.wit_type_tree.specs.declared.attribute_kind.AttributeKind.TheVariants as kind
@@ -58,14 +58,6 @@ release_there None (Some b) h = absurd h
 release_there (Some a) None h = absurd h
 release_there (Some a) (Some b) h = by_release a ∙ ap release_in h ∙ sym (by_release b)
 
-abbrev known_of : Option Release → Option Release → Option (List ℕ) → Stability
-known_of stable removed feature = option_map_or (λ (r : Release). stability.Stable r removed) stable (option_map_or (λ (f : List ℕ). stability.Unstable f removed) feature stability.Unknown)
-
-by_version : (o : Option Version) (removed : Option Release) (feature : Option (List ℕ))
-    → option_map_or (λ (v : Version). stability.Stable (release_of v) removed) o (option_map_or (λ (f : List ℕ). stability.Unstable f removed) feature stability.Unknown) ≡ known_of (option_map release_of o) removed feature
-by_version None removed feature = refl
-by_version (Some v) removed feature = refl
-
 module _ (xs ys : List Attribute) (h : SameAttributes xs ys) where
   pub same_stated_text : (k : AttributeKind) → stated_text k xs ≡ stated_text k ys
   same_stated_text k = text_there (first_of k xs) (first_of k ys) (same_first_of k xs ys h)
@@ -75,10 +67,8 @@ module _ (xs ys : List Attribute) (h : SameAttributes xs ys) where
 
   pub same_stability_of : stability_of xs ≡ stability_of ys
   same_stability_of =
-      by_version (stated_version kind.Since xs) (deprecation xs) (stated_text kind.Unstable xs)
-      ∙ ap (λ (r : Option Release). known_of r (deprecation xs) (stated_text kind.Unstable xs)) (same_release kind.Since)
-      ∙ ap₂ (λ (r : Option Release) (f : Option (List ℕ)). known_of (option_map release_of (stated_version kind.Since ys)) r f) (same_release kind.Deprecated) (same_stated_text kind.Unstable)
-      ∙ sym (by_version (stated_version kind.Since ys) (deprecation ys) (stated_text kind.Unstable ys))
+      ap₂ (λ (r : Option Release) (f : Option (List ℕ)). stability_by r f (deprecation xs)) (same_release kind.Since) (same_stated_text kind.Unstable)
+      ∙ ap (stability_by (option_map release_of (stated_version kind.Since ys)) (stated_text kind.Unstable ys)) (same_release kind.Deprecated)
 
 -- ---- metadata
 abbrev stated_as : Docs → Stability → Option (List ℕ) → Metadata

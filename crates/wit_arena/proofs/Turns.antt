@@ -1,5 +1,5 @@
 -- Words for what the definitions of occurrences, of turns and of kinds say in place.
-use Rattle.wit_arena.proofs.Names.{Address, AstItem, ForeignVisit, FuncForm, FunctionKind, Item, List, Occurrence, PackageFile, ScopeName, SourceFunction, Stability, Turned, [], about_name, filter, flat_map, foreign_entry, foreign_visits, kinds_of, map, name_occurrences, same_address, scope, shapes_occurrences, stability_of, turn_occurrences, unwrap_or, visited, ℕ, ◌∷◌}
+use Rattle.wit_arena.proofs.Names.{Address, ForeignVisit, FuncForm, FunctionKind, Item, List, Occurrence, PackageFile, ScopeName, SourceFunction, Turned, [], about_name, flat_map, kinds_of, name_occurrences, scope, shapes_occurrences, turn_occurrences, unwrap_or, visited, ℕ, ◌∷◌}
 use Rattle.wit_arena.proofs.Ordered.{Ordered, OrderedWorld}
 
 abbrev pub item_of : Ordered → Item
@@ -29,10 +29,6 @@ all_name_occurrences s xs = flat_map (name_occurrences s) xs
 
 abbrev pub occurrences : List Turned → List Occurrence
 occurrences ts = flat_map turn_occurrences ts
-
--- an item of another package by its name, with its entry and the stability of each of its visits
-abbrev pub dep_item : List PackageFile → ForeignVisit → List ℕ × (AstItem × List Stability)
-dep_item files v = (v.id.name.now, (foreign_entry files v, map (λ u. stability_of u.attributes) (filter (λ u. same_address (visited u) (visited v)) (foreign_visits files))))
 
 -- the kinds of functions, each by its form
 abbrev pub freestanding_kind : FuncForm → FunctionKind

@@ -1,10 +1,9 @@
 -- The items of other packages, at the places of their first visits.
 use Rattle.std.proofs.Common.{◌≡◌, ℕ, zero, ◌+◌, Bool, true, false, not, cond, List, [], ◌++◌, length, Option, Some, None, ◌⊎◌, inl, inr, refl, sym, ap, ◌∙◌, Contains, ◌≤◌, suc, ◌∷◌, arith, eqb-true, eq-eqb}
-use Rattle.wit_arena.proofs.Names.{Address, AllDiffer, Attribute, Exported, ExternPart, Foreign, ForeignNamed, ForeignVisit, Id, Imported, Item, Local, PackageFile, PackageName, Part, TheInterface, TheWorld, TopName, UsePart, UsePath, WorldSide, address, all_items, at_back, at_contains, at_part, at_prefix, at_side, bytes_eq, cases_Bool, contains_at, declaration_visits, declared_items, differ_at, differ_join, extern_paths, extern_visits, file_items, find, find-only, find_at, firsts_differ, firsts_has, flat_map, flat_map_at, flat_map_has, foreign_at, foreign_interfaces, foreign_items, foreign_visits, foreign_worlds, inline_uses, is_foreign, is_world_at, kept_at, kept_differ, kept_has, leads, map, map_at, not-true, option_map, option_map_or, package_of, part_uses, part_visits, parts, path_visits, same_address, same_address-equal, same_address-from, same_item, side_itself, slice_get, top_name, top_names, top_text, use_path, use_paths, uses, visited, walk, AstItem, Stability, UnresolvedPackage, dep, dep_items, filter, find_passes, find_some, firsts_at, foreign_entry, foreign_owner, foreign_packages, if◌then◌else◌, same_entry, same_package, same_package-equal, same_package-from, slice_get-map, slice_get_within, position_or_len}
+use Rattle.wit_arena.proofs.Names.{Address, AllDiffer, Attribute, Exported, ExternPart, Foreign, ForeignNamed, ForeignVisit, Id, Imported, Item, Local, PackageFile, PackageName, Part, TheInterface, TheWorld, TopName, UsePart, UsePath, WorldSide, address, all_items, at_back, at_contains, at_part, at_prefix, at_side, bytes_eq, cases_Bool, contains_at, declaration_visits, declared_items, dep_item, differ_at, differ_join, extern_paths, extern_visits, file_items, find, find-only, find_at, firsts_differ, firsts_has, flat_map, flat_map_at, flat_map_has, foreign_at, foreign_interfaces, foreign_items, foreign_visits, foreign_worlds, inline_uses, is_foreign, is_world_at, kept_at, kept_differ, kept_has, leads, map, map_at, not-true, option_map, option_map_or, package_of, part_uses, part_visits, parts, path_visits, same_address, same_address-equal, same_address-from, same_item, side_itself, slice_get, top_name, top_names, top_text, use_path, use_paths, uses, visited, walk, AstItem, Stability, UnresolvedPackage, dep, dep_items, filter, find_passes, find_some, firsts_at, foreign_entry, foreign_owner, foreign_packages, if◌then◌else◌, same_entry, same_package, same_package-equal, same_package-from, slice_get-map, slice_get_within, position_or_len}
 use Rattle.wit_syntax.proofs.Common.{AstItem as WrittenItem, Use}
 use Rattle.wit_arena.proofs.OneKind.{same_some}
 use Rattle.wit_arena.proofs.Interfaces.{AreAddresses, own_address, prefix_len-only}
-use Rattle.wit_arena.proofs.Turns.{dep_item}
 use Rattle.wit_tree.specs.declared.tree.UsePath.TheVariants as path
 use Rattle.wit_tree.specs.declared.tree.AstItem.TheVariants as ast
 use Rattle.wit_model.specs.declared.ast_item.AstItem.TheVariants as entry

@@ -83,9 +83,13 @@ IsForeignInterface files ks v i = IsInterface None v.id.span (metadata no_docs [
 abbrev pub foreign_entry : List PackageFile → ForeignVisit → AstItem
 foreign_entry fs v = if v.wants_world then entry.World (position_or_len (λ u. same_item u v) (foreign_worlds fs)) else entry.Interface (position_or_len (λ u. same_item u v) (foreign_interfaces fs))
 
--- a package with its items: each by its name, with its entry and the stability of each of its visits
+-- an item of another package by its name, with its entry and the stability of each of its visits
+abbrev pub dep_item : List PackageFile → ForeignVisit → List ℕ × (AstItem × List Stability)
+dep_item files v = (v.id.name.now, (foreign_entry files v, map (λ u. stability_of u.attributes) (filter (λ u. same_address (visited u) (visited v)) (foreign_visits files))))
+
+-- a package with its items
 abbrev pub dep : List PackageFile → ForeignVisit → PackageName × List (List ℕ × (AstItem × List Stability))
-dep files v = (package_of v.of, map (λ i. (i.id.name.now, (foreign_entry files i, map (λ u. stability_of u.attributes) (filter (λ u. same_address (visited u) (visited i)) (foreign_visits files))))) (filter (λ u. same_package (package_of u.of) (package_of v.of)) (foreign_items files)))
+dep files v = (package_of v.of, map (dep_item files) (filter (λ u. same_package (package_of u.of) (package_of v.of)) (foreign_items files)))
 
 -- the docs of the first of these headers that has some
 abbrev pub first_docs : List Header → Docs

@@ -1,10 +1,9 @@
 -- What plain trees say of things: stabilities whose versions are by SemVer, and packages with plain names.
 use Rattle.std.proofs.Common.{◌≡◌, ℕ, ◌==◌, ◌&&◌, true, false, not, List, ◌++◌, map, Option, Some, None, get_or, refl, sym, ap, ◌∙◌}
-use Rattle.wit_arena.proofs.Common.{All, Attribute, AttributeKind, Contains, Id, IfSome, IsValid, Release, Version, and_from, attribute_version, deprecation, find_at, first_of, flat_map, flat_map_at, is_of, list_all, list_all-append, list_all_at, option_and_then, option_map, option_map_or, package_of, parts_of, release_of, slice_get, slice_get-map, stability_of, stated_text, stated_version, unwrap_or}
+use Rattle.wit_arena.proofs.Common.{All, Attribute, AttributeKind, Contains, Id, IfSome, IsValid, Release, Version, and_from, attribute_version, deprecation, find_at, first_of, flat_map, flat_map_at, is_of, list_all, list_all-append, list_all_at, option_and_then, option_map, package_of, parts_of, release_of, slice_get, slice_get-map, stability_by, stability_of, stated_text, stated_version, unwrap_or}
 use Rattle.wit_type_tree.specs.declared.attribute_kind.AttributeKind.TheVariants as as_stated
 use Rattle.wit_type_tree.specs.declared.leaves.Attribute.TheVariants as attribute
 use Rattle.wit_tree.specs.declared.tree.PackageName.{PackageName as Written}
-use Rattle.wit_types.specs.declared.stability.Stability.TheVariants as stability
 use Rattle.wit_grammar.specs.Seen.{see_attribute, see_name, see_package_id}
 use Rattle.wit_json.specs.PlainPackages.{HasVersions, IsPlainName, IsVersion}
 use Rattle.wit_json_laws.specs.PlainTrees.{IsPlainAttribute, IsPlainPackageId, IsPlainText}
@@ -63,14 +62,15 @@ released : (o : Option Version) → IfSome o IsOwnVersion → IfSome (option_map
 released None h = tt
 released (Some v) h = h
 
-by_versions : (since : Option Version) (feature : Option (List ℕ)) (deprecated : Option Release) → IfSome since IsOwnVersion → IfSome deprecated IsVersion →
-    HasVersions (option_map_or (λ (v : Version). stability.Stable (release_of v) deprecated) since (option_map_or (λ (f : List ℕ). stability.Unstable f deprecated) feature stability.Unknown))
-by_versions (Some v) feature deprecated p q = (p, q)
+by_versions : (since : Option Release) (feature : Option (List ℕ)) (deprecated : Option Release) → IfSome since IsVersion → IfSome deprecated IsVersion → HasVersions (stability_by since feature deprecated)
+by_versions (Some r) feature deprecated p q = (p, q)
 by_versions None (Some f) deprecated p q = q
 by_versions None None deprecated p q = tt
 
 pub stability_plain : (xs : List Attribute) → ArePlain xs → HasVersions (stability_of xs)
-stability_plain xs plain = by_versions (stated_version as_stated.Since xs) (stated_text as_stated.Unstable xs) (deprecation xs) (stated_plain as_stated.Since xs plain) (released (stated_version as_stated.Deprecated xs) (stated_plain as_stated.Deprecated xs plain))
+stability_plain xs plain =
+    let within : (kind : AttributeKind) → IfSome (option_map release_of (stated_version kind xs)) IsVersion = λ kind. released (stated_version kind xs) (stated_plain kind xs plain) in
+    by_versions (option_map release_of (stated_version as_stated.Since xs)) (stated_text as_stated.Unstable xs) (deprecation xs) (within as_stated.Since) (within as_stated.Deprecated)
 
 -- ---- packages
 version_released : (o : Option Version) → IfSome (option_map parts_of o) IsValid → IfSome (option_map release_of o) IsVersion

@@ -134,7 +134,7 @@ pub use Rattle.wit_syntax.specs.Fault.{Cyclic, Fault, Missing, as_stated, cyclic
 pub use Rattle.wit_syntax.specs.Foreign.{ForeignVisit, declaration_visits, extern_visits, foreign_at, foreign_interfaces, foreign_items, foreign_packages, foreign_visits, foreign_worlds, part_visits, path_visits, same_item, visited}
 pub use Rattle.wit_syntax.specs.Form.{AliasForm, BorrowForm, EnumForm, FixedLengthListForm, FlagsForm, Form, FutureForm, ListForm, MapForm, Member, OptionForm, OwnForm, RecordForm, ResourceForm, ResultForm, StreamForm, TupleForm, UnknownForm, VariantForm}
 pub use Rattle.wit_syntax.specs.Function.{Constructor, Freestanding, Method, OnSide, Role, SourceFunction, SourceParam, Static, accessor, all_params, all_types, constructor_of, definition_functions, extern_functions, free_function, name_types, part_functions, resource_function, role_names, self_param, side_function, signature, written_param, written_types}
-pub use Rattle.wit_syntax.specs.Metadata.{AreMetadata, DeprecatedAlone, DeprecatedTwice, IsBrokenMetadata, IsBrokenStability, IsTwice, Metadata, SinceAndUnstable, SinceTwice, UnstableTwice, deprecation, docs_of, first_known, metadata, no_docs, stability_of}
+pub use Rattle.wit_syntax.specs.Metadata.{AreMetadata, DeprecatedAlone, DeprecatedTwice, IsBrokenMetadata, IsBrokenStability, IsTwice, Metadata, SinceAndUnstable, SinceTwice, UnstableTwice, deprecation, docs_of, first_known, metadata, no_docs, stability_by, stability_of}
 pub use Rattle.wit_syntax.specs.NameEnds.{AtForeign, AtResource, Elsewhere, End, EndsAt, IsNoResource, named_end, shape_end}
 pub use Rattle.wit_syntax.specs.Node.{Head, Leaf, Named, Nothing, Tree, Unnamed, node_map, primitive_type}
 pub use Rattle.wit_syntax.specs.Repeats.{AllDiffer, IsRepeatAt, firsts}

@@ -1,7 +1,6 @@
 -- Metadata: what the docs and the attributes before a thing say of it, and what breaks the rules of attributes.
 use Rattle.std.specs.Prelude.{◌≡◌, ◌≢◌, ℕ, ◌⊎◌, true, List, [], ◌∷◌, take, Option, Some, None, map, slice_get}
-use Rattle.std.specs.Option.{option_map, option_map_or}
-use Rattle.semver.specs.declared.Version.{Version}
+use Rattle.std.specs.Option.{option_map}
 use Rattle.wit_values.specs.declared.release.Release.{Release}
 use Rattle.wit_type_tree.specs.declared.leaves.Docs.{Docs as Comments}
 use Rattle.wit_type_tree.specs.declared.leaves.Attribute.{Attribute}
@@ -27,10 +26,15 @@ no_docs = record { contents = None }
 abbrev pub deprecation : List Attribute → Option Release
 deprecation xs = option_map release_of (stated_version Deprecated xs)
 
--- the stability that attributes say: `@since` that a thing is stable, else `@unstable` that it is not, each with `@deprecated` or without;
--- where neither is there, nothing
+-- the stability by `@since`, or else by `@unstable`, each with `@deprecated` or without; where neither is there, nothing is known of it
+abbrev pub stability_by : (since : Option Release) (feature : Option (List ℕ)) (deprecated : Option Release) → Stability
+stability_by (Some since) feature deprecated = stability.Stable since deprecated
+stability_by None (Some feature) deprecated = stability.Unstable feature deprecated
+stability_by None None deprecated = stability.Unknown
+
+-- the stability that attributes say
 abbrev pub stability_of : List Attribute → Stability
-stability_of xs = option_map_or (λ (since : Version). stability.Stable (release_of since) (deprecation xs)) (stated_version Since xs) (option_map_or (λ (feature : List ℕ). stability.Unstable feature (deprecation xs)) (stated_text Unstable xs) stability.Unknown)
+stability_of xs = stability_by (option_map release_of (stated_version Since xs)) (stated_text Unstable xs) (deprecation xs)
 
 -- what is stated of a thing
 pub record Metadata : Type 0 where
