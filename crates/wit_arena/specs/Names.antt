@@ -46,7 +46,7 @@ pub use Rattle.wit_model.specs.declared.world.WorldKey.{WorldKey}
 pub use Rattle.wit_syntax.specs.Address.{Address, ForeignNamed, InlineAt, InterfaceNamed, WorldNamed, is_foreign, package_of, same_address, same_package}
 pub use Rattle.wit_syntax.specs.Broken.{IsDocumentedTwice, IsLegal, IsOtherPackage, headers, is_world_at, last_header}
 pub use Rattle.wit_syntax.specs.ExternPart.{same_side}
-pub use Rattle.wit_syntax.specs.Fault.{Fault, cyclic_at, fault, fault_in, fault_of, function_used, interface_there, linked_twice, missing_at, missing_type_at, name_twice, no_resource}
+pub use Rattle.wit_syntax.specs.Fault.{Fault, cyclic_at, fault, fault_in, fault_of, function_used, interface_there, item_word, linked_twice, missing_at, missing_type_at, name_twice, name_word, no_resource, type_word}
 pub use Rattle.wit_syntax.specs.Foreign.{ForeignVisit, foreign_at, foreign_interfaces, foreign_items, foreign_packages, foreign_visits, foreign_worlds, same_item, visited}
 pub use Rattle.wit_syntax.specs.Form.{AliasForm, BorrowForm, EnumForm, FixedLengthListForm, FlagsForm, Form, FutureForm, ListForm, MapForm, Member, OptionForm, OwnForm, RecordForm, ResourceForm, ResultForm, StreamForm, TupleForm, UnknownForm, VariantForm}
 pub use Rattle.wit_syntax.specs.Function.{Constructor, Freestanding, Method, OnSide, Role, SourceFunction, SourceParam, Static, all_params, all_types, free_function, name_types, part_functions, resource_function, side_function, signature, written_types}
@@ -57,6 +57,6 @@ pub use Rattle.wit_syntax.specs.Repeats.{AllDiffer, firsts}
 pub use Rattle.wit_syntax.specs.ScopeTables.{AreDistinct, defined, in_order, in_turn, includes, interfaces_of, item_rows, local_names, needed_ids, rows_of, use_path, used, worlds_of}
 pub use Rattle.wit_syntax.specs.ScopesOfTrees.{scope, source_node, source_tree}
 pub use Rattle.wit_syntax.specs.Shape.{Body, End, More, Of, Prim, Shape, Shapes, Word, all_handles, all_shapes, body_of, handles, shape_of}
-pub use Rattle.wit_syntax.specs.Sides.{FunctionKey, Link, SideFunction, SideInline, SideItem, SideLink, all_scopes, extern_link, function_key, inline_after, inline_items, is_interface, item_function, item_inline, item_side, items_on, members, members_after, names_on, on_side, part_items, role_side, side_items, functions}
+pub use Rattle.wit_syntax.specs.Sides.{FunctionKey, Link, SideFunction, SideInline, SideItem, SideLink, all_scopes, extern_link, function_key, inline_items, is_interface, item_function, item_inline, item_side, items_on, members, members_after, names_on, on_side, part_items, role_side, side_items, functions}
 pub use Rattle.wit_syntax.specs.Source.{Declared, Defined, DefinitionPart, ExternPart, Foreign, ForeignUse, FunctionPart, IncludePart, Item, Local, Part, Place, ScopeName, Target, TheInline, TheInterface, TheWorld, TopName, UsePart, Used, about, about_name, address, all_items, at_side, declared_metadata, first_foreign_uses, foreign_uses, inline_uses, interface_part, is_world, item_at, item_name, leads, local_id, local_name, meaning, part_names, path_id, path_scope, scope_names, target_scope, top_names, world_part}
-pub use Rattle.wit_syntax.specs.Shorthand.{item_word, name_word, same_foreign_use, type_word, use_of_foreign}
+pub use Rattle.wit_syntax.specs.Shorthand.{inline_after, same_foreign_use, use_of_foreign}

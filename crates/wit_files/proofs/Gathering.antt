@@ -2,8 +2,7 @@
 use Rattle.std.proofs.Common.{◌≡◌, ◌<◌, ℕ, zero, suc, ◌+◌, List, [], ◌∷◌, ◌++◌, length, map, take, Option, Some, None, inl, inr, refl, sym, ap, ◌∙◌, subst, arith, append_assoc, length-append, Vec, Global, Bor}
 use Rattle.wit_syntax.proofs.Common.{AllDiffer, AreAccepted, AstItem, CyclicItem, DuplicateItem, DuplicateTopName, Fault, ForeignStability, ForeignVisit, Id, IsBrokenItems, IsBrokenNames, IsOrder, Item, Items, MissingItem, PackageFile, Row, TopName, TopUse, all_items, append-nil, at_back, at_contains, at_either, at_prefix, bytes_eq, declared_items, entry_row, file_items, flat_map, foreign_visits, insert_entry, item_name, item_row, item_rows, item_word, map-append, map_map, missing_at, no_cyclic_edge, no_missing_edge, none_if, option_map, option_or, place_by_key, place_of, place_of-Some, position, rows, slice_get, slice_get-map, slice_get_cases, slice_get_within, take_next, target, top_names}
 use Rattle.wit_graph.proofs.Rows.{key_eq, rows-insert}
-use Rattle.wit_first.specs.FileFaults.{file_fault, files_fault, tops_fault}
-use Rattle.wit_first.specs.Checks.{paths_fault}
+use Rattle.wit_first.specs.FileFaults.{file_fault, files_fault, paths_fault, tops_fault}
 use Rattle.wit_first.specs.First.{IsOr, first_in}
 use Rattle.wit_first.specs.Laws.{AgreesBy}
 use Rattle.wit_first.specs.NameFaults.{item_names_fault, top_names_fault}

@@ -4,8 +4,7 @@ ghost use Rattle.wit_type_tree.specs.declared.leaves.Id.{Id as TheId};
 ghost use Rattle.wit_type_tree.specs.RefusalText.{IsAllocationFailure};
 ghost use Rattle.wit_graph.specs.Table.{rows, IsEdge};
 ghost use Rattle.wit_graph.specs.TableFaults.{IsFaultOf};
-ghost use Rattle.wit_syntax.specs.Fault.{cyclic_at, fault_of, missing_at, missing_type_at};
-ghost use Rattle.wit_syntax.specs.Shorthand.{item_word, type_word};
+ghost use Rattle.wit_syntax.specs.Fault.{cyclic_at, fault_of, item_word, missing_at, missing_type_at, type_word};
 ghost use Rattle.wit_first.specs.OrderFaults.{IsOrderFault};
 
 use std::alloc::Global;

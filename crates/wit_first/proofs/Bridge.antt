@@ -5,12 +5,11 @@ use Rattle.wit_type_tree.specs.declared.leaves.Attribute.TheVariants as attribut
 use Rattle.wit_type_tree.specs.declared.types.Primitive.TheVariants as primitive
 use Rattle.wit_type_tree.specs.declared.types.«Type».TheVariants as written
 use Rattle.wit_type_tree.specs.declared.types.TypeBody.TheVariants as body
-use Rattle.wit_first.specs.AttributeFaults.{number_of, counted_fault, kinds_fault, stability_fault, external_fault, metadata_fault}
+use Rattle.wit_first.specs.AttributeFaults.{each_once_fault, number_of, counted_fault, kinds_fault, repeat_fault, stability_fault, external_fault, metadata_fault}
 use Rattle.wit_first.specs.First.{first_in, first_after, Reports, repeat_of, first_repeat, clash_of}
 use Rattle.wit_first.specs.KeyFaults.{is_key, key_fault}
 use Rattle.wit_first.specs.Laws.{Agrees}
 use Rattle.wit_first.specs.ListFaults.{empty_fault, names_fault, members_fault, flags_fault, list_fault}
-use Rattle.wit_first.specs.Checks.{each_once_fault, repeat_fault}
 use Rattle.wit_first.specs.NameFaults.{item_names_fault, top_names_fault, local_names_fault}
 use Rattle.wit_first.proofs.First.{any_some}
 

@@ -5,8 +5,7 @@ use Rattle.wit_tree.specs.declared.tree.UsePath.TheVariants as path
 use Rattle.wit_tree.specs.declared.tree.AstItem.TheVariants as ast
 use Rattle.wit_first.specs.AttributeFaults.{stability_fault}
 use Rattle.wit_first.specs.First.{first_in}
-use Rattle.wit_first.specs.FileFaults.{lost_fault, unnamed_fault, top_fault, tops_fault, file_fault, files_fault}
-use Rattle.wit_first.specs.Checks.{paths_fault}
+use Rattle.wit_first.specs.FileFaults.{lost_fault, paths_fault, unnamed_fault, top_fault, tops_fault, file_fault, files_fault}
 use Rattle.wit_first.specs.NameFaults.{top_names_fault}
 use Rattle.wit_first.specs.Laws.{Agrees}
 use Rattle.wit_first.proofs.Bridge.{in_agrees, in_only, in_some, stability_agrees, or_some, top_names_agree}

@@ -15,9 +15,13 @@ number_of Deprecated = 31
 number_of Unstable = 32
 number_of ExternalId = 35
 
--- an attribute of those that count comes after another one of its kind
+-- an attribute comes after another one of its kind
+abbrev pub repeat_fault : List Attribute → Attribute → Option Fault
+repeat_fault before a = option_map (λ (earlier : Attribute). fault (number_of (kind_of a)) (attribute_span a)) (first_of (kind_of a) before)
+
+-- the same, where it is one of those that count
 abbrev pub counted_fault : (Attribute → Bool) → List Attribute → Attribute → Option Fault
-counted_fault counts before a = if counts a then option_map (λ (earlier : Attribute). fault (number_of (kind_of a)) (attribute_span a)) (first_of (kind_of a) before) else None
+counted_fault counts before a = if counts a then repeat_fault before a else None
 
 -- of a `@since`, an `@unstable` and a `@deprecated`: the first two together, or the third without either
 abbrev pub kinds_fault : (since unstable deprecated : Option Attribute) → Option Fault
@@ -25,9 +29,13 @@ kinds_fault (Some since) (Some unstable) deprecated = Some (fault 33 (attribute_
 kinds_fault None None (Some deprecated) = Some (fault 34 (attribute_span deprecated))
 kinds_fault since unstable deprecated = None
 
+-- the first second one of its kind among those that say how stable a thing is
+abbrev pub each_once_fault : List Attribute → Option Fault
+each_once_fault xs = first_after (counted_fault (λ a. not (is_of ExternalId a))) [] xs
+
 -- the first fault of the attributes that say how stable a thing is: a second one of its kind, and then how they go together
 abbrev pub stability_fault : List Attribute → Option Fault
-stability_fault xs = option_or (first_after (counted_fault (λ a. not (is_of ExternalId a))) [] xs) (kinds_fault (first_of Since xs) (first_of Unstable xs) (first_of Deprecated xs))
+stability_fault xs = option_or (each_once_fault xs) (kinds_fault (first_of Since xs) (first_of Unstable xs) (first_of Deprecated xs))
 
 -- of external ids: the first second one
 abbrev pub external_fault : List Attribute → Option Fault

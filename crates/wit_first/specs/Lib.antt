@@ -10,4 +10,3 @@ pub mod OrderFaults
 pub mod UseFaults
 pub mod HeaderFaults
 pub mod Laws
-pub mod Checks

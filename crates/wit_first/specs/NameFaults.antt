@@ -3,7 +3,7 @@ use Rattle.std.specs.Prelude.{List, Option}
 use Rattle.wit_type_tree.specs.declared.leaves.Id.{Id}
 use Rattle.wit_tree.specs.declared.tree.PackageFile.{PackageFile}
 use Rattle.wit_syntax.specs.Fault.{Fault, item_twice, name_twice, top_twice}
-use Rattle.wit_syntax.specs.Source.{TopName, top_names, Item, item_name, all_items, about}
+use Rattle.wit_syntax.specs.Source.{TopName, top_names, Item, item_name, all_items, about, top_text}
 use Rattle.wit_first.specs.First.{first_repeat}
 
 -- of interfaces and worlds, in push order and then in source order
@@ -12,7 +12,7 @@ item_names_fault files = first_repeat item_name (λ (i : Item). item_twice (abou
 
 -- of the names at the top of a file
 abbrev pub top_names_fault : PackageFile → Option Fault
-top_names_fault file = first_repeat (λ (n : TopName). n.id.name.now) (λ (n : TopName). top_twice n.id) (top_names file)
+top_names_fault file = first_repeat top_text (λ (n : TopName). top_twice n.id) (top_names file)
 
 -- of the names of a scope
 abbrev pub local_names_fault : List Id → Option Fault

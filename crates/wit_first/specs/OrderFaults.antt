@@ -6,8 +6,7 @@ use Rattle.wit_tree.specs.declared.tree.PackageFile.{PackageFile}
 use Rattle.wit_graph.specs.Table.{Row}
 use Rattle.wit_graph.specs.TableFaults.{IsFirstMissing, IsFirstCyclic}
 use Rattle.wit_graph.specs.Laws.{AreAccepted}
-use Rattle.wit_syntax.specs.Fault.{Fault, missing_at, missing_type_at, cyclic_at}
-use Rattle.wit_syntax.specs.Shorthand.{item_word, type_word}
+use Rattle.wit_syntax.specs.Fault.{Fault, item_word, missing_at, missing_type_at, cyclic_at, type_word}
 use Rattle.wit_syntax.specs.Foreign.{foreign_visits, ForeignVisit}
 use Rattle.wit_syntax.specs.ScopeTables.{item_rows, rows_of}
 use Rattle.wit_syntax.specs.Source.{ScopeName}

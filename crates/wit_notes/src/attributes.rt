@@ -2,8 +2,7 @@
 ghost use Rattle.std.specs.Prelude.{◌≡◌, ◌⊎◌, IfOk};
 ghost use Rattle.std.specs.Option.{option_copied};
 ghost use Rattle.wit_type_tree.specs.RefusalText.{IsAllocationFailure};
-ghost use Rattle.wit_first.specs.AttributeFaults.{external_fault, kinds_fault, number_of, stability_fault};
-ghost use Rattle.wit_first.specs.Checks.{each_once_fault, repeat_fault};
+ghost use Rattle.wit_first.specs.AttributeFaults.{each_once_fault, external_fault, kinds_fault, number_of, repeat_fault, stability_fault};
 ghost use Rattle.wit_first.specs.First.{Finds};
 ghost use Rattle.wit_syntax.specs.Fault.{fault, fault_of};
 ghost use Rattle.wit_type_tree.specs.Attributes.{first_of, stated_text, stated_version};

@@ -2,8 +2,7 @@
 ghost use Rattle.std.specs.Prelude.{◌≡◌, ◌⊎◌, ◌++◌, IfOk, codes, List, None, Some, ℕ, string_bytes};
 ghost use Rattle.std.specs.Option.{option_map};
 ghost use Rattle.wit_type_tree.specs.RefusalText.{IsAllocationFailure, IsItemNotFound, IsTypeCycle};
-ghost use Rattle.wit_syntax.specs.Fault.{fault_in, fault_of, missing_at, missing_type_at, cyclic_at, world_there};
-ghost use Rattle.wit_syntax.specs.Shorthand.{type_word};
+ghost use Rattle.wit_syntax.specs.Fault.{fault_in, fault_of, missing_at, missing_type_at, cyclic_at, type_word, world_there};
 ghost use Rattle.wit_syntax.specs.Hint.{hint_of, renamed, type_hint};
 
 use std::alloc::{AllocError, Global};

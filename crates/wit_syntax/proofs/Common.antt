@@ -130,7 +130,7 @@ pub use Rattle.wit_syntax.specs.Bodies.{AreBroken, CanBeKey, Inside, IsBrokenBod
 pub use Rattle.wit_syntax.specs.Broken.{AttributedUse, Body, CyclicItem, CyclicType, DefinedTwice, DuplicateItem, DuplicateTopName, ForeignStability, Function, Handle, Headerless, IncludeStability, InterfaceIncluded, IsBroken, IsBrokenItems, IsBrokenNames, IsBrokenScope, IsBrokenUse, IsCyclicEdge, IsDocumented, IsDocumentedTwice, IsLegal, IsLinkedTwice, IsMismatch, IsMissingEdge, IsOtherPackage, IsSamePackage, IsSecondDocs, IsSetterAlone, IsWrongTop, ItemStability, Items, LinkedTwice, LostUse, MissingItem, MissingName, MissingType, MissingUse, Names, Refused, Scope, Setter, Sides, TopUse, UseMetadata, WorldUsed, headers, is_world_at, last_header}
 pub use Rattle.wit_syntax.specs.Docs.{common_indent, docs_text, ended_lines, joined, unmarked, without_end, without_last_lines, without_spaces}
 pub use Rattle.wit_syntax.specs.ExternPart.{extern_paths, same_side}
-pub use Rattle.wit_syntax.specs.Fault.{Cyclic, Fault, Missing, as_stated, cyclic_at, fault, fault_in, fault_of, function_as_type, function_used, interface_there, item_twice, linked_twice, lone_setter, missing_at, missing_type_at, name_twice, no_resource, param_twice, top_twice, world_there}
+pub use Rattle.wit_syntax.specs.Fault.{Cyclic, Fault, Missing, as_stated, cyclic_at, fault, fault_in, fault_of, function_as_type, function_used, interface_there, item_twice, item_word, linked_twice, lone_setter, missing_at, missing_type_at, name_twice, name_word, no_resource, param_twice, top_twice, type_word, world_there}
 pub use Rattle.wit_syntax.specs.Foreign.{ForeignVisit, declaration_visits, extern_visits, foreign_at, foreign_interfaces, foreign_items, foreign_packages, foreign_visits, foreign_worlds, part_visits, path_visits, same_item, visited}
 pub use Rattle.wit_syntax.specs.Form.{AliasForm, BorrowForm, EnumForm, FixedLengthListForm, FlagsForm, Form, FutureForm, ListForm, MapForm, Member, OptionForm, OwnForm, RecordForm, ResourceForm, ResultForm, StreamForm, TupleForm, UnknownForm, VariantForm}
 pub use Rattle.wit_syntax.specs.Function.{Constructor, Freestanding, Method, OnSide, Role, SourceFunction, SourceParam, Static, accessor, all_params, all_types, constructor_of, definition_functions, extern_functions, free_function, name_types, part_functions, resource_function, role_names, self_param, side_function, signature, written_param, written_types}
@@ -141,9 +141,9 @@ pub use Rattle.wit_syntax.specs.Repeats.{AllDiffer, IsRepeatAt, firsts}
 pub use Rattle.wit_syntax.specs.ScopeTables.{AreDistinct, defined, in_order, in_turn, include_path, include_paths, includes, interfaces_of, is_defined, item_row, item_rows, local_names, local_target, needed_ids, needed_paths, part_includes, part_uses, rows_of, use_path, use_paths, used, uses, worlds_of}
 pub use Rattle.wit_syntax.specs.ScopesOfTrees.{scope, source_node, source_tree}
 pub use Rattle.wit_syntax.specs.Shape.{More, Of, Prim, Shape, Shapes, Word, all_handles, all_shapes, all_words, body_of, handles, head, member, one, row_handles, row_shapes, shape_of, words}
-pub use Rattle.wit_syntax.specs.Sides.{CrossedTwice, FoldedTwice, FunctionKey, InterfaceMetadata, IsBrokenSides, IsCrossedTwice, IsExternPart, IsFoldedTwice, Link, SideFunction, SideInline, SideItem, SideLink, all_scopes, extern_items, extern_link, function_key, inline_after, inline_item, inline_items, interface_attributes, is_interface, item_called, item_function, item_inline, item_link, item_side, items_on, names_on, on_side, part_items, role_side, side_called, side_items, functions, item_types}
+pub use Rattle.wit_syntax.specs.Sides.{CrossedTwice, FoldedTwice, FunctionKey, InterfaceMetadata, IsBrokenSides, IsCrossedTwice, IsExternPart, IsFoldedTwice, Link, SideFunction, SideInline, SideItem, SideLink, all_scopes, extern_items, extern_link, function_key, inline_item, inline_items, interface_attributes, is_interface, item_called, item_function, item_inline, item_link, item_side, items_on, names_on, on_side, part_items, role_side, side_called, side_items, functions, item_types}
 pub use Rattle.wit_syntax.specs.SignatureRules.{BrokenMetadata, BrokenTypes, Called, ConstructorOfOther, ConstructorWithoutResult, DuplicateParam, GetterGiven, GetterWithoutResult, IsBrokenFunction, IsConstructorOfOther, IsConstructorWithoutResult, IsEntered, IsGetterGiven, IsGetterWithoutResult, IsNoType, IsSetterGiven, IsSetterWithResult, IsUnpairedSetter, IsWrittenAs, MissingInSignature, OfFunction, OfNothing, SetterGiven, SetterWithResult, body_ok, meant_ok, name_called, ok_of, ok_span, result_ok, type_span}
-pub use Rattle.wit_syntax.specs.Source.{Declared, Defined, DefinitionPart, ExternPart, Foreign, ForeignName, ForeignUse, FunctionPart, IncludePart, Item, Local, Part, Place, ScopeName, Target, TheInline, TheInterface, TheWorld, TopName, UsePart, Used, about, about_name, address, all_items, all_uses, at_side, declared_items, declared_metadata, file_items, first_foreign_uses, foreign_names, foreign_uses, inline_uses, interface_part, is_world, item_at, item_name, item_named, leads, local_id, local_name, meaning, named_node, own_uses, part_names, parts, path_id, path_scope, placed, scope_names, target_scope, top_name, top_names, walk, world_part}
-pub use Rattle.wit_syntax.specs.Shorthand.{around, item_word, name_word, same_foreign_use, top_text, type_word, use_of_foreign}
+pub use Rattle.wit_syntax.specs.Source.{Declared, Defined, DefinitionPart, ExternPart, Foreign, ForeignName, ForeignUse, FunctionPart, IncludePart, Item, Local, Part, Place, ScopeName, Target, TheInline, TheInterface, TheWorld, TopName, UsePart, Used, about, about_name, address, all_items, all_uses, at_side, declared_items, declared_metadata, file_items, first_foreign_uses, foreign_names, foreign_uses, inline_uses, interface_part, is_world, item_at, item_name, item_named, leads, local_id, local_name, meaning, named_node, own_uses, part_names, parts, path_id, path_scope, placed, scope_names, target_scope, top_name, top_names, top_text, walk, world_part}
+pub use Rattle.wit_syntax.specs.Shorthand.{around, inline_after, same_foreign_use, use_of_foreign}
 pub use Rattle.wit_syntax.specs.Splitting.{IsJoined, declarations, declared_of, file_declarations}
 pub use Rattle.wit_syntax.specs.Words.{clash, defined_twice, mismatch, package_words, side_word, words_of}

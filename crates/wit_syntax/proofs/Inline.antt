@@ -19,7 +19,8 @@ use Rattle.wit_syntax.specs.Function.{SourceFunction, definition_functions, free
 use Rattle.wit_syntax.specs.Repeats.{AllDiffer}
 use Rattle.wit_syntax.specs.Source.{DefinitionPart, ExternPart, FunctionPart, IncludePart, Item, Part, TheInline, UsePart, address, inline_uses, interface_part, is_world, item_name, parts, own_uses}
 use Rattle.wit_syntax.specs.ScopeTables.{part_uses, uses}
-use Rattle.wit_syntax.specs.Sides.{SideItem, SideFunction, SideLink, SideInline, extern_items, part_items, item_inline, item_side, items_on, is_interface, side_items, inline_item, inline_after, inline_items, functions}
+use Rattle.wit_syntax.specs.Sides.{SideItem, SideFunction, SideLink, SideInline, extern_items, part_items, item_inline, item_side, items_on, is_interface, side_items, inline_item, inline_items, functions}
+use Rattle.wit_syntax.specs.Shorthand.{inline_after}
 use Rattle.wit_syntax.proofs.Lists.{at_split, map_at, flat_map_at, flat_map_has}
 use Rattle.wit_syntax.proofs.Addresses.{side_itself}
 use Rattle.wit_syntax.proofs.Kept.{differ_cons}

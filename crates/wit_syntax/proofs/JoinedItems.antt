@@ -7,8 +7,8 @@ use Rattle.wit_graph.proofs.Tables.{matched}
 use Rattle.wit_syntax.specs.Address.{Address, is_foreign}
 use Rattle.wit_syntax.specs.Source.{Declared, DefinitionPart, ExternPart, ForeignUse, FunctionPart, IncludePart, Item, Part, TheInline, TopName, UsePart, Used, all_uses, item_name, part_names, parts, scope_names}
 use Rattle.wit_syntax.proofs.AllUses.{use_foreign_uses, item_foreign_uses}
-use Rattle.wit_syntax.specs.Shorthand.{use_of_foreign}
-use Rattle.wit_syntax.specs.Sides.{SideItem, SideFunction, SideLink, SideInline, side_items, inline_after, inline_items}
+use Rattle.wit_syntax.specs.Shorthand.{inline_after, use_of_foreign}
+use Rattle.wit_syntax.specs.Sides.{SideItem, SideFunction, SideLink, SideInline, side_items, inline_items}
 use Rattle.wit_syntax.specs.Splitting.{declared_of}
 use Rattle.wit_syntax.proofs.Lists.{flat_map_at}
 use Rattle.wit_syntax.proofs.Found.{contains_at, at_contains}

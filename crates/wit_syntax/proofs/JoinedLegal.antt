@@ -6,8 +6,7 @@ use Rattle.wit_type_tree.specs.declared.leaves.Id.{Id}
 use Rattle.wit_type_tree.specs.declared.types.«Type».{«Type» as Written}
 use Rattle.wit_syntax.specs.Address.{Address}
 use Rattle.wit_syntax.specs.NameEnds.{End, Elsewhere, named_end, shape_end, EndsAt, IsNoResource}
-use Rattle.wit_syntax.specs.Fault.{Fault, missing_at}
-use Rattle.wit_syntax.specs.Shorthand.{item_word}
+use Rattle.wit_syntax.specs.Fault.{Fault, item_word, missing_at}
 use Rattle.wit_syntax.specs.Foreign.{ForeignVisit}
 use Rattle.wit_syntax.specs.Function.{all_types}
 use Rattle.wit_syntax.specs.Form.{Form, AliasForm}

@@ -8,8 +8,7 @@ use Rattle.wit_tree.specs.declared.tree.AstItem.TheVariants as ast
 use Rattle.wit_tree.specs.declared.tree.PackageFile.{PackageFile}
 use Rattle.wit_graph.proofs.Tables.{matched}
 use Rattle.wit_syntax.specs.Fault.{Fault, item_twice, top_twice}
-use Rattle.wit_syntax.specs.Source.{TopName, top_name, top_names, Item, item_name, declared_items, file_items, all_items, about}
-use Rattle.wit_syntax.specs.Shorthand.{top_text}
+use Rattle.wit_syntax.specs.Source.{TopName, top_name, top_names, Item, item_name, declared_items, file_items, all_items, about, top_text}
 use Rattle.wit_syntax.specs.Bodies.{IsSecond}
 use Rattle.wit_syntax.specs.Splitting.{file_declarations, declarations}
 use Rattle.wit_syntax.proofs.Found.{contains_at, at_contains}

@@ -7,8 +7,7 @@ use Rattle.wit_type_tree.specs.declared.leaves.Id.{Id}
 use Rattle.wit_tree.specs.declared.tree.UsePath.{UsePath}
 use Rattle.wit_tree.specs.declared.tree.UsePath.TheVariants as path
 use Rattle.wit_syntax.specs.Address.{InterfaceNamed, WorldNamed}
-use Rattle.wit_syntax.specs.Source.{TopName, Target, Local, Foreign, leads, path_scope, target_scope}
-use Rattle.wit_syntax.specs.Shorthand.{top_text}
+use Rattle.wit_syntax.specs.Source.{TopName, Target, Local, Foreign, leads, path_scope, target_scope, top_text}
 use Rattle.wit_syntax.specs.ScopeTables.{local_target}
 use Rattle.wit_syntax.proofs.Names.{name_equal}
 use Rattle.wit_syntax.proofs.Found.{find_at, find_passes}

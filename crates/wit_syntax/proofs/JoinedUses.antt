@@ -7,9 +7,8 @@ use Rattle.wit_tree.specs.declared.tree.UsePath.{UsePath}
 use Rattle.wit_tree.specs.declared.tree.PackageFile.{PackageFile}
 use Rattle.wit_package_names.specs.declared.package_name.PackageName.{PackageName}
 use Rattle.wit_syntax.specs.Address.{ForeignNamed, same_address}
-use Rattle.wit_syntax.specs.Fault.{Fault, missing_at}
+use Rattle.wit_syntax.specs.Fault.{Fault, item_word, missing_at}
 use Rattle.wit_syntax.specs.Foreign.{ForeignVisit, foreign_visits, same_item, visited}
-use Rattle.wit_syntax.specs.Shorthand.{item_word}
 use Rattle.wit_syntax.specs.Repeats.{firsts}
 use Rattle.wit_syntax.specs.Source.{TopName, Target, Local, Foreign, leads, Declared, Item, is_world, item_name, parts, all_items, item_named, ScopeName, scope_names, meaning, about}
 use Rattle.wit_syntax.specs.Broken.{is_world_at, IsBrokenUse, MissingUse, WorldUsed}

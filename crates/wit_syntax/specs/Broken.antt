@@ -22,11 +22,10 @@ use Rattle.wit_graph.specs.Order.{ReachesCycle}
 use Rattle.wit_graph.specs.Table.{Row, IsEdge, Leads, target}
 use Rattle.wit_syntax.specs.Metadata.{IsBrokenStability, IsBrokenMetadata}
 use Rattle.wit_syntax.specs.Bodies.{IsSecond, IsBrokenBody}
-use Rattle.wit_syntax.specs.Fault.{Fault, fault_of, fault, fault_in, missing_at, missing_type_at, cyclic_at, function_used, interface_there, item_twice, name_twice, top_twice, world_there, linked_twice}
+use Rattle.wit_syntax.specs.Fault.{Fault, fault_of, fault, fault_in, item_word, missing_at, missing_type_at, cyclic_at, function_used, interface_there, item_twice, name_twice, name_word, top_twice, type_word, world_there, linked_twice}
 use Rattle.wit_syntax.specs.Address.{Address, ForeignNamed, package_of}
 use Rattle.wit_syntax.specs.Words.{mismatch}
-use Rattle.wit_syntax.specs.Source.{path_id, path_scope, Target, Local, Foreign, leads, TopName, top_names, Item, item_name, is_world, all_items, item_named, ScopeName, Used, Defined, local_id, local_name, scope_names, meaning, address, about}
-use Rattle.wit_syntax.specs.Shorthand.{item_word, name_word, top_text, type_word}
+use Rattle.wit_syntax.specs.Source.{path_id, path_scope, Target, Local, Foreign, leads, TopName, top_names, Item, item_name, is_world, all_items, item_named, ScopeName, Used, Defined, local_id, local_name, scope_names, meaning, address, about, top_text}
 use Rattle.wit_syntax.specs.Foreign.{ForeignVisit, foreign_visits, foreign_at}
 use Rattle.wit_syntax.specs.Function.{SourceFunction, role_names}
 use Rattle.wit_syntax.specs.Sides.{on_side, all_scopes, Link, SideLink, side_items, items_on, IsBrokenSides, functions, item_types}

@@ -43,6 +43,16 @@ as_stated number OutOfMemory = record { rule = number; span = record { start = 0
 abbrev pub fault_of : ParseError → Fault
 fault_of e = as_stated e.rule e.kind
 
+-- what is missing or depends on itself: an interface or world, a type, or a name of an interface
+abbrev pub item_word : List ℕ
+item_word = codes "interface or world"
+
+abbrev pub type_word : List ℕ
+type_word = codes "type"
+
+abbrev pub name_word : List ℕ
+name_word = codes "name"
+
 -- a name means nothing of a sort, where it is written
 abbrev pub missing_at : ℕ → List ℕ → Id → Fault
 missing_at number sort id = record { rule = number; span = id.span; says = Missing id.name.now sort None }
@@ -53,7 +63,7 @@ cyclic_at number sort id = record { rule = number; span = id.span; says = Cyclic
 
 -- a name means no type, where it is written; one that types had once gets a hint
 abbrev pub missing_type_at : Id → Fault
-missing_type_at id = record { rule = 15; span = id.span; says = Missing id.name.now (codes "type") (type_hint id.name.now) }
+missing_type_at id = record { rule = 15; span = id.span; says = Missing id.name.now type_word (type_hint id.name.now) }
 
 -- an item has the name of an earlier one
 abbrev pub item_twice : Id → Fault

@@ -11,12 +11,12 @@ pub mod Node
 pub mod Shape
 pub mod Source
 pub mod Foreign
-pub mod Shorthand
 pub mod ScopeTables
 pub mod Bodies
 pub mod Function
 pub mod SignatureRules
 pub mod Sides
+pub mod Shorthand
 pub mod ScopesOfTrees
 pub mod NameEnds
 pub mod Broken

@@ -136,10 +136,6 @@ members i = members_after i [] (side_items i)
 abbrev pub inline_items : Item → List Item
 inline_items i = flat_map (λ m. m.1) (members i)
 
--- those that are written after these
-abbrev pub inline_after : Item → List SideItem → List SideItem → List Item
-inline_after i before xs = flat_map (λ m. m.1) (members_after i before xs)
-
 -- all items: those that files declare, each with those that are written in it
 abbrev pub all_scopes : List PackageFile → List Item
 all_scopes files = flat_map (λ (i : Item). i ∷ inline_items i) (all_items files)

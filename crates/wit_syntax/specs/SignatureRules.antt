@@ -13,8 +13,7 @@ use Rattle.wit_type_tree.specs.declared.types.TypeBody.TheVariants as body
 use Rattle.wit_type_tree.specs.declared.types.«Type».{«Type» as Written}
 use Rattle.wit_type_tree.specs.declared.types.«Type».TheVariants as written
 use Rattle.wit_type_tree.specs.TypeParts.{ok_type}
-use Rattle.wit_syntax.specs.Fault.{Fault, fault, missing_at, function_as_type, lone_setter, param_twice}
-use Rattle.wit_syntax.specs.Shorthand.{name_word}
+use Rattle.wit_syntax.specs.Fault.{Fault, fault, missing_at, function_as_type, lone_setter, name_word, param_twice}
 use Rattle.wit_syntax.specs.Shape.{Word, shape_of, words}
 use Rattle.wit_syntax.specs.Source.{ScopeName, Defined, local_id, local_name, meaning}
 use Rattle.wit_syntax.specs.Function.{Freestanding, Constructor, SourceParam, SourceFunction, all_params, written_types, signature}

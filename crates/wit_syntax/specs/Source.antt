@@ -116,9 +116,13 @@ pub record TopName : Type 0 where
   pub id : Id
   pub target : Target
 
+-- what a name at the top of a file goes by
+abbrev pub top_text : TopName → List ℕ
+top_text t = t.id.name.now
+
 -- where a path leads in a file: a name leads to what the first at its top that goes by it means, every other path where it says
 abbrev pub leads : List TopName → UsePath → Target
-leads top (path.Id id) = option_map_or (λ (t : TopName). t.target) (find (λ (t : TopName). bytes_eq t.id.name.now id.name.now) top) (Local id)
+leads top (path.Id id) = option_map_or (λ (t : TopName). t.target) (find (λ (t : TopName). bytes_eq (top_text t) id.name.now) top) (Local id)
 leads top (path.Package p id) = Foreign (package_of p) id
 
 -- a declared item means itself, a `use` for what its path says where no name at the top is known

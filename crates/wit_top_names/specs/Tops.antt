@@ -8,8 +8,8 @@ use Rattle.wit_top_names.specs.declared.top_name.TopName.{TopName as Borrowed}
 use Rattle.wit_top_names.specs.declared.top_name.Target.{Target as BorrowedTarget}
 use Rattle.wit_top_names.specs.declared.top_name.Target.TheVariants as borrowed
 use Rattle.wit_syntax.specs.Address.{package_of}
-use Rattle.wit_syntax.specs.Source.{Target, Local, Foreign, TopName, Item, item_named, about}
-use Rattle.wit_syntax.specs.Shorthand.{itself, top_text}
+use Rattle.wit_syntax.specs.Source.{Target, Local, Foreign, TopName, Item, item_named, about, top_text}
+use Rattle.wit_syntax.specs.Shorthand.{itself}
 
 -- where a path leads, as it is borrowed
 abbrev pub target_view : BorrowedTarget → Target

@@ -1,8 +1,8 @@
 //! Names at the top of files, and what paths lead to.
 ghost use Rattle.std.specs.Prelude.{◌≡◌, ◌++◌, List, [], map, IfOk, OnOk, string_bytes};
 ghost use Rattle.wit_tree.specs.declared.tree.AstItem.TheVariants.{Use as TheUse};
-ghost use Rattle.wit_syntax.specs.Source.{Local as TheLocal, TopName as Top, Item, top_name as the_name, top_names as the_names, leads as the_leads, file_items, all_items};
-ghost use Rattle.wit_syntax.specs.Shorthand.{around, itself as the_itself, top_text};
+ghost use Rattle.wit_syntax.specs.Source.{Local as TheLocal, TopName as Top, Item, top_name as the_name, top_names as the_names, leads as the_leads, file_items, all_items, top_text};
+ghost use Rattle.wit_syntax.specs.Shorthand.{around, itself as the_itself};
 ghost use Rattle.wit_syntax.specs.ScopeTables.{local_target};
 ghost use Rattle.wit_syntax.specs.Fault.{fault_in};
 ghost use Rattle.wit_first.specs.FileFaults.{lost_fault, top_fault};

@@ -5,14 +5,13 @@ pub use Rattle.wit_first.proofs.Clashes.{clash-made, clash-map, find_none, no_cl
 pub use Rattle.wit_first.proofs.First.{after-append, after-at, after-more, after-next, any-map, any_some, finds_back, finds_memory, finds_same, in-all, in-append, in-at, in-following, in-map, in-more, in-parts, none_both, or_assoc, or_none, repeat-map, reports-after, reports-in, reports_back, reports_prefix, reports_same}
 pub use Rattle.wit_first.proofs.Repeats.{after_kept, repeat_after, repeat_found, unrepeated}
 pub use Rattle.wit_first.proofs.TypeFaults.{fault_parts, tuple_fault, type_kept}
-pub use Rattle.wit_first.specs.AttributeFaults.{counted_fault, external_fault, kinds_fault, metadata_fault, number_of, stability_fault}
-pub use Rattle.wit_first.specs.FileFaults.{file_fault, files_fault, lost_fault, top_fault, tops_fault, unnamed_fault}
+pub use Rattle.wit_first.specs.AttributeFaults.{counted_fault, external_fault, kinds_fault, metadata_fault, number_of, repeat_fault, stability_fault}
+pub use Rattle.wit_first.specs.FileFaults.{file_fault, files_fault, lost_fault, paths_fault, top_fault, tops_fault, unnamed_fault}
 pub use Rattle.wit_first.specs.First.{Finds, FindsBy, IsFirstRepeat, IsOr, Reports, clash_of, first_after, first_in, first_repeat, repeat_of}
 pub use Rattle.wit_first.specs.FunctionFaults.{getter_fault, given_fault, is_written_as, made_fault, params_fault, result_fault}
 pub use Rattle.wit_first.specs.HeaderFaults.{have_docs, is_documented, nesting_fault, other_fault, push_fault, second_docs_fault}
 pub use Rattle.wit_first.specs.Laws.{Agrees}
 pub use Rattle.wit_first.specs.ListFaults.{empty_fault, list_fault, members_fault, names_fault}
-pub use Rattle.wit_first.specs.Checks.{paths_fault, repeat_fault}
 pub use Rattle.wit_first.specs.NameFaults.{item_names_fault, local_names_fault, top_names_fault}
 pub use Rattle.wit_first.specs.TypeFaults.{back_fault, prefix_fault, row_fault, type_fault}
 pub use Rattle.wit_first.specs.UseFaults.{all_uses_fault, item_uses_fault, path_fault, reached_fault}

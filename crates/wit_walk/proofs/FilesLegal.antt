@@ -3,8 +3,7 @@ use Rattle.std.proofs.Common.{◌≡◌, ◌⊎◌, ℕ, zero, suc, Bool, true, 
 use Rattle.wit_syntax.proofs.Common.{DefinitionPart, Extern, ExternKind, ExternPart, Fault, FunctionPart, Id, Include, IncludePart, IsBrokenMetadata, IsBrokenStability, IsBrokenUse, IsSecond, Item, Link, Local, MissingUse, PackageFile, Part, SideItem, SideLink, TopName, Use as WrittenUse, UsePart, UsePath, WorldUsed, all_items, all_uses, all_uses_has, at_contains, at_split, contains_at, extern_items, extern_link, extern_paths, file_items, flat_has, flat_map_has, has_flat, include_path, include_paths, includes, inline_uses, interface_there, is_world, is_world_at, item_named, item_word, leads, map, map_at, missing_at, option_map, part_includes, part_items, part_uses, parts, path_id, side_items, slice_get, top_names, top_text, top_twice, use_path, use_paths, uses, world_there}
 use Rattle.wit_tree.specs.declared.tree.ExternKind.TheVariants as extern
 use Rattle.wit_first.specs.AttributeFaults.{metadata_fault, stability_fault}
-use Rattle.wit_first.specs.FileFaults.{file_fault, files_fault, lost_fault}
-use Rattle.wit_first.specs.Checks.{paths_fault}
+use Rattle.wit_first.specs.FileFaults.{file_fault, files_fault, lost_fault, paths_fault}
 use Rattle.wit_first.specs.First.{first_in}
 use Rattle.wit_first.specs.NameFaults.{top_names_fault}
 use Rattle.wit_first.specs.UseFaults.{all_uses_fault, item_uses_fault, path_fault, reached_fault, use_fault}

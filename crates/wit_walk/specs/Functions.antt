@@ -1,5 +1,5 @@
 -- The first fault of a function of a scope: E22 and E26 to E42.
-use Rattle.std.specs.Prelude.{ℕ, codes, if◌then◌else◌, Bool, false, List, [], ◌++◌, map, Option, None, Some, is_none}
+use Rattle.std.specs.Prelude.{ℕ, if◌then◌else◌, Bool, false, List, [], ◌++◌, map, Option, None, Some, is_none}
 use Rattle.std.specs.List.{list_any}
 use Rattle.std.specs.Option.{option_or}
 use Rattle.std.specs.Str.{bytes_eq}
@@ -7,7 +7,7 @@ use Rattle.wit_type_tree.specs.declared.leaves.Id.{Id}
 use Rattle.wit_type_tree.specs.declared.types.Param.{Param}
 use Rattle.wit_type_tree.specs.declared.types.«Type».{«Type» as Written}
 use Rattle.wit_names.specs.Folded.{lower_case}
-use Rattle.wit_syntax.specs.Fault.{Fault, missing_at, function_as_type, param_twice}
+use Rattle.wit_syntax.specs.Fault.{Fault, missing_at, function_as_type, name_word, param_twice}
 use Rattle.wit_syntax.specs.Function.{Role, Freestanding, SourceParam, SourceFunction, written_param}
 use Rattle.wit_syntax.specs.Source.{ScopeName, meaning}
 use Rattle.wit_first.specs.AttributeFaults.{metadata_fault}
@@ -23,7 +23,7 @@ is_free name role = false
 
 -- a name in a signature that means nothing is that of one of these functions, or of none
 abbrev pub lost_word : List SourceFunction → Id → Fault
-lost_word fns id = if list_any (λ (fn : SourceFunction). is_free id.name.now fn.role) fns then function_as_type id else missing_at 29 (codes "name") id
+lost_word fns id = if list_any (λ (fn : SourceFunction). is_free id.name.now fn.role) fns then function_as_type id else missing_at 29 name_word id
 
 abbrev pub word_fault : List ScopeName → List SourceFunction → Id → Option Fault
 word_fault xs fns id = if is_none (meaning xs id.name.now) then Some (lost_word fns id) else None

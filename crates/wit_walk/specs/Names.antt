@@ -5,7 +5,7 @@ use Rattle.std.specs.Option.{option_map_or, option_or}
 use Rattle.wit_names.specs.Folded.{folded_key}
 use Rattle.wit_type_tree.specs.declared.leaves.Id.{Id}
 use Rattle.wit_tree.specs.declared.tree.PackageFile.{PackageFile}
-use Rattle.wit_syntax.specs.Fault.{Fault, fault_in, missing_at, function_used, name_twice}
+use Rattle.wit_syntax.specs.Fault.{Fault, fault_in, missing_at, function_used, name_twice, name_word}
 use Rattle.wit_syntax.specs.Words.{clash}
 use Rattle.wit_syntax.specs.Function.{SourceFunction}
 use Rattle.wit_syntax.specs.SignatureRules.{Called}
@@ -16,7 +16,7 @@ use Rattle.wit_walk.specs.Functions.{is_free}
 
 -- a name that an interface is asked for is the written name of a function there that belongs to no resource, or nothing's
 abbrev pub lost_use : Item → Id → Fault
-lost_use from id = if list_any (λ (fn : SourceFunction). is_free id.name.now fn.role) (functions from) then function_used id else missing_at 12 (codes "name") id
+lost_use from id = if list_any (λ (fn : SourceFunction). is_free id.name.now fn.role) (functions from) then function_used id else missing_at 12 name_word id
 
 -- a name that is used from an interface of this package, where no type there has it; nothing is known of another package
 abbrev pub use_fault : List PackageFile → ScopeName → Option Fault

@@ -1,9 +1,9 @@
 -- The first fault of files: what `resolve` looks for, in this order.
-use Rattle.std.specs.Prelude.{codes, ◌≡◌, ℕ, ◌≤◌, List, [], ◌∷◌, ◌++◌, map, Option, None, Some, if◌then◌else◌, is_none}
+use Rattle.std.specs.Prelude.{◌≡◌, ℕ, ◌≤◌, List, [], ◌∷◌, ◌++◌, map, Option, None, Some, if◌then◌else◌, is_none}
 use Rattle.wit_tree.specs.declared.tree.PackageFile.{PackageFile}
 use Rattle.wit_graph.specs.Table.{Row}
 use Rattle.wit_syntax.specs.Broken.{last_header}
-use Rattle.wit_syntax.specs.Fault.{Fault, fault, missing_at, missing_type_at, cyclic_at}
+use Rattle.wit_syntax.specs.Fault.{Fault, fault, item_word, missing_at, missing_type_at, cyclic_at, type_word}
 use Rattle.wit_syntax.specs.Foreign.{foreign_visits, ForeignVisit}
 use Rattle.wit_syntax.specs.ScopeTables.{item_rows, rows_of, in_order, in_turn, used, defined, includes, interfaces_of, worlds_of}
 use Rattle.wit_syntax.specs.Sides.{side_items}
@@ -36,7 +36,7 @@ abbrev pub scope_faults : List PackageFile → ℕ → (Item → Option Fault) �
 scope_faults files steps inside i outcome =
     (stability_fault (about i.declared).attributes
     ∷ first_after (name_fault files) [] (used (scope_names i) ++ defined (scope_names i))
-    ∷ order_fault missing_type_at (cyclic_at 16 (codes "type")) outcome
+    ∷ order_fault missing_type_at (cyclic_at 16 type_word) outcome
     ∷ first_in (definition_fault (handle_fault files steps (address i))) (defined (in_order (scope_names i) (order_of outcome)))
     ∷ first_in (include_fault files i.top) (includes i)
     ∷ first_after folded_fault [] (map name_called (in_turn (scope_names i) (order_of outcome)))
@@ -58,7 +58,7 @@ walk_faults files known outcome =
     ∷ first_in (λ (v : ForeignVisit). stability_fault v.attributes) (foreign_visits files)
     ∷ item_names_fault files
     ∷ files_fault files
-    ∷ order_fault (missing_at 7 (codes "interface or world")) (cyclic_at 8 (codes "interface or world")) outcome
+    ∷ order_fault (missing_at 7 item_word) (cyclic_at 8 item_word) outcome
     ∷ tops_fault files
     ∷ all_uses_fault files
     ∷ first_in (contents_fault files known) (interfaces_of (in_order (all_items files) (order_of outcome)))

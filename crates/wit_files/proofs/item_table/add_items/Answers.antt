@@ -1,8 +1,7 @@
 use Rattle.std.proofs.Common.{◌≡◌, List, ◌++◌, Option, Some, None, map, sym, ap, ◌∙◌, subst, Vec, Global}
 use Rattle.wit_syntax.proofs.Common.{AllDiffer, AstItem, Fault, Id, Item, TheInterface, TheWorld, TopName, declared_items, err_from_is_err_and, flat_map, if◌then◌else◌, include_paths, is_world, item_name, item_row, needed-paths, option_or, rows, slice_get, slice_get-get_or, top_names, use_paths}
 use Rattle.wit_tree.specs.declared.tree.AstItem.TheVariants.{Interface as InterfaceItem', World as WorldItem'}
-use Rattle.wit_first.specs.FileFaults.{unnamed_fault}
-use Rattle.wit_first.specs.Checks.{paths_fault}
+use Rattle.wit_first.specs.FileFaults.{paths_fault, unnamed_fault}
 use Rattle.wit_first.specs.First.{first_in}
 use Rattle.wit_first.proofs.First.{in-all, in-flat, in-next, or_none, reports-in, reports_same}
 use Rattle.wit_files.proofs.Gathering.{item_added, item_skipped}

@@ -1,6 +1,6 @@
 use Rattle.std.proofs.Common.{◌≡◌, ◌++◌, List, None, map, take}
 use Rattle.wit_syntax.proofs.Common.{AstItem, Item, declared_items, flat_map, item_row, rows, top_names}
-use Rattle.wit_first.specs.Checks.{paths_fault}
+use Rattle.wit_first.specs.FileFaults.{paths_fault}
 use Rattle.wit_first.specs.First.{first_in}
 use Rattle.wit_top_names.specs.Tops.{AreDeclared}
 use Rattle.wit_files.proofs.item_table.add_items.Given as goal

@@ -1,5 +1,5 @@
 use Rattle.wit_syntax.proofs.Common.{err_from_is_err_and, file_items}
-use Rattle.wit_first.specs.Checks.{paths_fault}
+use Rattle.wit_first.specs.FileFaults.{paths_fault}
 use Rattle.wit_first.specs.First.{first_in}
 use Rattle.wit_first.proofs.First.{none_both, reports_back, reports_prefix}
 use Rattle.wit_files.proofs.tables.Tables.add_file.Goals as goal
