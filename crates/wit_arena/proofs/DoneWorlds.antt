@@ -1,6 +1,6 @@
 -- Interfaces that were added are done.
 use Rattle.std.proofs.Common.{◌≡◌, ℕ, ◌+◌, true, false, List, [], ◌∷◌, ◌++◌, length, map, Option, Some, inl, inr, refl, sym, ap, ◌∙◌, subst, append_assoc, length-append, suc, ◌⊎◌, arith}
-use Rattle.wit_arena.proofs.Names.{Address, AddsDeclared, AddsForeign, AddsInterfaces, Decls, Defines, Imported, Interface, InterfaceNamed, IsInterface, Item, Names, Occurrence, PackageFile, Required, ResolvedScope, ScopeName, TypeDef, TypeOwner, World, about, address, all_items, all_occurrences, append-cancel, append-nil, at_back, at_part, at_prefix, declarations, declared_metadata, flat_map, foreign_interfaces, foreign_use_occurrence, foreign_uses, foreign_worlds, functions, functions_imported, in_turn, inline_items, interface_functions, is_foreign, length-map, map-append, option_map, owner_at, placed_functions, resolved_scope, resolved_scopes, scope, scope_names, slice_get, slice_get-map, unwrap_or, visited, AreIncludes, AreRequired, Collects, Exported, Function, FunctionKey, HasSide, Id, Include, IsInclude, IsWorld, SideFunction, SideInline, SideItem, SideLink, TopName, Turned, WorldArenas, WorldInclude, WorldItem, WorldKey, WorldNamed, after_one, all_handles, at_either, at_split, flat_map-append, flat_map_at, flat_map_has, import_types, includes, inline_after, item_inline, keys, leads, local_names, map_at, name_types, side_items, target_scope, turn_handles, turn_occurrences, type_imports, world_functions, world_types, «Type» as Written, ForeignVisit, slice_get_within}
+use Rattle.wit_arena.proofs.Names.{Address, AddsDeclared, AddsForeign, AddsInterfaces, Decls, Defines, Imported, Interface, InterfaceNamed, IsInterface, Item, Names, Occurrence, PackageFile, Required, ResolvedScope, ScopeName, TypeDef, TypeOwner, World, about, address, all_items, all_occurrences, append-cancel, append-nil, at_back, at_part, at_prefix, declarations, declared_metadata, flat_map, foreign_interfaces, foreign_use_occurrence, foreign_uses, foreign_worlds, functions, functions_imported, in_turn, inline_items, interface_functions, is_foreign, length-map, map-append, option_map, owner_at, placed_functions, resolved_scope, resolved_scopes, scope, scope_names, slice_get, slice_get-map, unwrap_or, visited, AreIncludes, AreRequired, Collects, Exported, Function, FunctionKey, HasSide, Id, Include, IsInclude, IsWorld, TopName, Turned, WorldArenas, WorldInclude, WorldItem, WorldKey, WorldNamed, after_one, all_handles, at_either, at_split, flat_map-append, flat_map_at, flat_map_has, import_types, includes, keys, leads, local_names, map_at, name_types, side_items, target_scope, turn_handles, turn_occurrences, type_imports, world_functions, world_types, «Type» as Written, ForeignVisit, slice_get_within}
 use Rattle.wit_arena.proofs.FreeNames.{free_of, free_keyed}
 use Rattle.wit_arena.proofs.Settled.{stated_placed, world_types-all}
 use Rattle.wit_arena.proofs.Ordered.{Ordered, OrderedWorld, addresses, turned, side_turns, world_turns, all_turns, all_inside}
@@ -320,13 +320,6 @@ one_of_three first ds c t b at = elim (at_part (first ++ c ∷ []) ds t b at) [
   | inl h ↦ elim (at_either first c h.0 b h.1) [ inl old ↦ inl (h.0, old) | inr new ↦ inr (inl new.1) ]
   | inr h ↦ inr (inr h)
 ]
-
--- as many interfaces are written in an item as it has on its sides
-pub inline_count : (before : List SideItem) (w : Item) (xs : List SideItem) → length (inline_after w before xs) ≡ length (flat_map item_inline xs)
-inline_count before w [] = refl
-inline_count before w (SideFunction fn ∷ xs) = inline_count (before ++ SideFunction fn ∷ []) w xs
-inline_count before w (SideLink link ∷ xs) = inline_count (before ++ SideLink link ∷ []) w xs
-inline_count before w (SideInline x name items ∷ xs) = ap suc (inline_count (before ++ SideInline x name items ∷ []) w xs)
 
 -- Where scopes are among all, once all interfaces and all worlds are done.
 pub types_of_resolved_scope : (c : DoneScope) (x : ResolvedScope) → x ≡ resolved_scope_of c → x.types ≡ c.types

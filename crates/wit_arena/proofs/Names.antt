@@ -19,7 +19,7 @@ pub use Rattle.wit_arena.specs.Resolving.{AddsFunctions, AreEnded, AreKnown, Are
 pub use Rattle.wit_arena.specs.Kind.{EntryEnd, IsOther, IsResource, IsUnknown, entry_end, found_end, kind_end, part_end, kind_of}
 pub use Rattle.wit_arena.specs.Occurrences.{End, Expr, Exprs, More, Of, Prim, Use, expr_of, exprs_of, joined, name_exprs, one, AreAt, Collects, Decls, Def, IsAt, IsEntry, IsKeyed, IsOccurrence, IsSeen, Key, Occurrence, Whole, keys, name_occurrences, shape_occurrences, shapes_occurrences, stability_at}
 pub use Rattle.wit_arena.specs.Faithful.{HasArena, HasType, IsAnonymousForm, IsFaithful, IsMadeOf, IsRoot, LiesBelow, OfFunction, OfName, node_parts}
-pub use Rattle.wit_arena.specs.Made.{IsEntryOf, Makes, entries_on, entry, foreign_interface, foreign_world, function_in, include_in, interface, interface_scopes, interface_turn, item_turns, name_imports, name_places, names_in_turn, own_interface, own_interfaces, own_world, role_kind, scope_place, turns_of_world, type_of, types_of, world, world_entries, world_scopes}
+pub use Rattle.wit_arena.specs.Made.{IsEntryOf, Makes, entries_on, entry, foreign_interface, foreign_world, function_in, include_in, interface, interface_scopes, interface_turn, item_turns, member_turns, name_imports, name_places, names_in_turn, own_interface, own_interfaces, own_world, role_kind, scope_place, turns_of_world, type_of, types_of, world, world_entries, world_scopes}
 pub use Rattle.wit_arena.proofs.Members.{entries_walked, side_entries, turns_on_sides, turns_walked, walked_entries, walked_turns}
 pub use Rattle.wit_arena.specs.OneByOne.{OneByOne}
 pub use Rattle.wit_arena.specs.SourceFunctions.{AreSideItems, HasSide, inline_entry, link_item, link_key, put_on, settled, AreFunctions, IsFunction, IsKind, IsParam, by_name, freestanding_names, function_item, kinds_of, placed_functions}

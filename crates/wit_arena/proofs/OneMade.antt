@@ -1,8 +1,7 @@
 -- Where two orders of names agree on items, these are resolved in one way, and are in a package in one way.
 use Rattle.std.proofs.Common.{◌≡◌, ℕ, suc, List, [], ◌∷◌, ◌++◌, Some, refl, ap, ◌∙◌, ◌<◌, Bool, not, length, inl, inr, sym, subst, Contains, true, false, Option, None}
 use Rattle.std.proofs.Math.Path.{fun_ext}
-use Rattle.wit_arena.proofs.Names.{Address, Item, Key, SideFunction, SideInline, SideItem, SideLink, Turned, address, flat_map, inline_items, interface_turn, interfaces_of, item_turns, map, own_interface, own_world, side_items, slice_get, turns_of_world, turns_on_sides, turns_walked, walked_turns, worlds_of, PackageFile, all_items, all_scopes, at_split, contains_at, filter, flat_map_at, flat_map_has, in_order, in_order_at, is_world, item_row, item_rows, kept_at, length-map, one_answer, order_within, own_interfaces, rows_of, scope_names, AllDiffer, AllZip, AreRequired, AstItem, AtForeign, AtResource, Def, Docs, HandleRequires, Id, Interface, IsLegal, Makes, Occurrence, PackageName, Span, Stability, TypeDef, UnresolvedPackage, World, all_occurrences, filter_map, foreign_interface, foreign_interfaces, foreign_world, foreign_worlds, interface_scopes, keys, owner_at, scope, turn_handles, world_scopes, IsOrder}
-use Rattle.wit_arena.proofs.Turns.{function_turn}
+use Rattle.wit_arena.proofs.Names.{Address, Item, Key, SideFunction, SideInline, SideItem, SideLink, Turned, address, flat_map, inline_items, interface_turn, interfaces_of, item_turns, map, member_turns, members, own_interface, own_world, slice_get, turns_of_world, worlds_of, PackageFile, all_items, all_scopes, at_split, contains_at, filter, flat_map_at, flat_map_has, in_order, in_order_at, is_world, item_row, item_rows, kept_at, length-map, one_answer, order_within, own_interfaces, rows_of, scope_names, AllDiffer, AllZip, AreRequired, AstItem, AtForeign, AtResource, Def, Docs, HandleRequires, Id, Interface, IsLegal, Makes, Occurrence, PackageName, Span, Stability, TypeDef, UnresolvedPackage, World, all_occurrences, filter_map, foreign_interface, foreign_interfaces, foreign_world, foreign_worlds, interface_scopes, keys, owner_at, scope, turn_handles, world_scopes, IsOrder}
 use Rattle.wit_arena.proofs.Ends.{ends_one}
 use Rattle.wit_arena.proofs.Occurrence.{firsts-differ}
 use Rattle.wit_arena.proofs.LegalScopes.{scope_differs}
@@ -22,23 +21,23 @@ module _ (order other : Item → List ℕ) where
   abbrev pub Agree : List Item → Type 0
   Agree is = (k : ℕ) (i : Item) → slice_get is k ≡ Some i → order i ≡ other i
 
-  same_on_sides : (s : Address) (xs : List SideItem) (is : List Item) → Agree is → turns_on_sides order s xs is ≡ turns_on_sides other s xs is
-  same_on_sides s [] is agree = refl
-  same_on_sides s (SideFunction fn ∷ xs) is agree = ap (λ (l : List Turned). function_turn s fn ∷ l) (same_on_sides s xs is agree)
-  same_on_sides s (SideLink link ∷ xs) is agree = same_on_sides s xs is agree
-  same_on_sides s (SideInline x name items ∷ xs) [] agree = same_on_sides s xs [] agree
-  same_on_sides s (SideInline x name items ∷ xs) (i ∷ is) agree =
-      cc ((ap (λ (l : List ℕ). interface_turn (λ s. l) i) (agree 0 i refl)), same_on_sides s xs is (λ k. agree (suc k)))
+  same_interface_turns : (is : List Item) → Agree is → map (interface_turn order) is ≡ map (interface_turn other) is
+  same_interface_turns is agree = map_same (interface_turn order) (interface_turn other) is (λ k i at. ap (λ (l : List ℕ). interface_turn (λ s. l) i) (agree k i at))
+
+  same_on_side : (s : Address) (x : SideItem) (is : List Item) → Agree is → member_turns order s x is ≡ member_turns other s x is
+  same_on_side s (SideFunction fn) is agree = refl
+  same_on_side s (SideLink link) is agree = same_interface_turns is agree
+  same_on_side s (SideInline x name items) is agree = same_interface_turns is agree
 
   same_world_turns : (i : Item) → order i ≡ other i → Agree (inline_items i) → turns_of_world order i ≡ turns_of_world other i
   same_world_turns i same inside =
-      let walked : walked_turns order i ≡ walked_turns other i = cc (same, same_on_sides (address i) (side_items i) (inline_items i) inside) in
-      turns_walked i order ∙ walked ∙ sym (turns_walked i other)
+      let on : (Item → List ℕ) → SideItem × List Item → List Turned = λ names m. member_turns names (address i) m.0 m.1 in
+      cc (same, flat_map_same (on order) (on other) (members i) (λ k m at. same_on_side (address i) m.0 m.1 (λ j v there. (let it = flat_map_has (λ (n : SideItem × List Item). n.1) (members i) k j m v at there in inside it.0 v it.1))))
 
   module _ (is : List Item) (interfaces : Agree (interfaces_of is)) (worlds : Agree (worlds_of is)) (inside : (k : ℕ) (i : Item) → slice_get (worlds_of is) k ≡ Some i → Agree (inline_items i)) where
     pub same_turns : item_turns order is ≡ item_turns other is
     same_turns =
-        cc (map_same (interface_turn order) (interface_turn other) (interfaces_of is) (λ k i at. (ap (λ (l : List ℕ). interface_turn (λ s. l) i) (interfaces k i at))), flat_map_same (turns_of_world order) (turns_of_world other) (worlds_of is) (λ k i at. same_world_turns i (worlds k i at) (inside k i at)))
+        cc (same_interface_turns (interfaces_of is) interfaces, flat_map_same (turns_of_world order) (turns_of_world other) (worlds_of is) (λ k i at. same_world_turns i (worlds k i at) (inside k i at)))
 
   pub same_interfaces : (id : Key → ℕ) (is : List Item) → Agree is → map (own_interface id order) is ≡ map (own_interface id other) is
   same_interfaces id is agree = map_same (own_interface id order) (own_interface id other) is (λ k i at. ap (λ (l : List ℕ). own_interface id (λ s. l) i) (agree k i at))

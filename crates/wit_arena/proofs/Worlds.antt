@@ -1,9 +1,9 @@
 -- Worlds that were added are done, after interfaces, each with the interfaces that are written in it.
 use Rattle.std.proofs.Common.{◌≡◌, ℕ, suc, ◌+◌, true, false, List, [], ◌∷◌, ◌++◌, length, map, Some, inl, inr, refl, sym, ap, ◌∙◌, subst, append_assoc, arith, length-append, zero-add, add-zero}
-use Rattle.wit_arena.proofs.Names.{Address, AddsForeign, AddsWorld, AddsWorlds, AreRequired, Collects, Exported, Function, FunctionKey, Id, Imported, Interface, Item, Names, Occurrence, PackageFile, Required, ScopeName, Turned, TypeDef, World, WorldArenas, address, all_handles, all_items, all_occurrences, append-nil, at_back, at_either, at_prefix, at_seam, flat_map, flat_map-append, flat_map_has, foreign_interfaces, foreign_worlds, functions, import_types, in_turn, includes, inline_items, interfaces_at, keys, length-map, local_names, map-append, name_types, nil_from_length, prefix_worlds, resolved_scopes, scope_names, settled, side_items, slice_get, turn_handles, visited, world_functions, worlds_at, written_types, «Type» as Written}
+use Rattle.wit_arena.proofs.Names.{Address, AddsForeign, AddsWorld, AddsWorlds, AreRequired, Collects, Exported, Function, FunctionKey, Id, Imported, Interface, Item, Names, Occurrence, PackageFile, Required, ScopeName, Turned, TypeDef, World, WorldArenas, address, all_handles, all_items, all_occurrences, append-nil, at_back, at_either, at_prefix, at_seam, flat_map, flat_map-append, flat_map_has, foreign_interfaces, foreign_worlds, functions, import_types, in_turn, includes, inline_items, interfaces_at, keys, length-inline_after, length-map, local_names, map-append, name_types, nil_from_length, prefix_worlds, resolved_scopes, scope_names, settled, side_items, slice_get, turn_handles, visited, world_functions, worlds_at, written_types, «Type» as Written}
 use Rattle.wit_arena.proofs.Visits.{AreUsableUses}
 use Rattle.wit_arena.proofs.Ordered.{Ordered, OrderedWorld, addresses, turned, side_turns, world_turns, all_turns, all_inside}
-use Rattle.wit_arena.proofs.DoneWorlds.{InterfacesDone, WorldOwner, inside_of, interface_list, world_list, decls, inline_count, SaysWorld, MakesWorld, world_resolved_scope, DoneWorld, own_scope, scopes_of, all_within, own_order, AreWorldsDone, includes_wider, named_world, own_types, written_more, scopes_more, handles_more, one_of_three}
+use Rattle.wit_arena.proofs.DoneWorlds.{InterfacesDone, WorldOwner, inside_of, interface_list, world_list, decls, SaysWorld, MakesWorld, world_resolved_scope, DoneWorld, own_scope, scopes_of, all_within, own_order, AreWorldsDone, includes_wider, named_world, own_types, written_more, scopes_more, handles_more, one_of_three}
 use Rattle.wit_arena.proofs.Sided.{AreAsStated, AreSided, side_required, all_handles-append}
 use Rattle.wit_arena.proofs.DoneNames.{done_of, required_there}
 use Rattle.wit_arena.proofs.FunctionPart.{AreWhole, DoneFunction, scope_functions, IsFunctionPart, IsScopeWhole}
@@ -98,7 +98,7 @@ module _ (files : List PackageFile) (is ws : List Item) (interfaces : AreOfSort 
           let parts = length-append (map item_of sided.ordered) sided.left in
           let own = length-map sided.ordered item_of in
           let used = sided.consumed in
-          let count = inline_count [] w (side_items w) in
+          let count = length-inline_after w [] (side_items w) in
           let none : sided.left ≡ [] = nil_from_length sided.left (omega (arith, long, parts, own, used, count)) in
           sym (append-nil (map item_of sided.ordered)) ∙ ap (λ (l : List Item). map item_of sided.ordered ++ l) (sym none) ∙ sided.items
 
