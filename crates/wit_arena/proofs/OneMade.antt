@@ -1,7 +1,8 @@
 -- Where two orders of names agree on items, these are resolved in one way, and are in a package in one way.
 use Rattle.std.proofs.Common.{◌≡◌, ℕ, suc, List, [], ◌∷◌, ◌++◌, Some, refl, ap, ◌∙◌, ◌<◌, Bool, not, length, inl, inr, sym, subst, Contains, true, false, Option, None}
 use Rattle.std.proofs.Math.Path.{fun_ext}
-use Rattle.wit_arena.proofs.Names.{Address, Item, Key, SideFunction, SideInline, SideItem, SideLink, Turned, address, flat_map, inline_items, interface_turn, interfaces_of, item_turns, map, member_turns, members, own_interface, own_world, slice_get, turns_of_world, worlds_of, PackageFile, all_items, all_scopes, at_split, contains_at, filter, flat_map_at, flat_map_has, in_order, in_order_at, is_world, item_row, item_rows, kept_at, length-map, one_answer, order_within, own_interfaces, rows_of, scope_names, AllDiffer, AllZip, AreRequired, AstItem, AtForeign, AtResource, Def, Docs, HandleRequires, Id, Interface, IsLegal, Makes, Occurrence, PackageName, Span, Stability, TypeDef, UnresolvedPackage, World, all_occurrences, filter_map, foreign_interface, foreign_interfaces, foreign_world, foreign_worlds, interface_scopes, keys, owner_at, scope, turn_handles, world_scopes, IsOrder}
+use Rattle.wit_arena.proofs.Names.{Address, Item, Key, SideFunction, SideInline, SideItem, SideLink, Turned, address, flat_map, inline_items, interface_turn, interfaces_of, item_turns, map, member_turns, own_interface, own_world, slice_get, turns_of_world, worlds_of, PackageFile, all_items, all_scopes, at_split, contains_at, filter, flat_map_at, flat_map_has, in_order, in_order_at, is_world, item_row, item_rows, kept_at, length-map, one_answer, order_within, own_interfaces, rows_of, scope_names, AllDiffer, AllZip, AreRequired, AstItem, AtForeign, AtResource, Def, Docs, HandleRequires, Id, Interface, IsLegal, Makes, Occurrence, PackageName, Span, Stability, TypeDef, UnresolvedPackage, World, all_occurrences, filter_map, foreign_interface, foreign_interfaces, foreign_world, foreign_worlds, interface_scopes, keys, owner_at, scope, turn_handles, world_scopes, IsOrder}
+use Rattle.wit_syntax.specs.Sides.{members}
 use Rattle.wit_arena.proofs.Ends.{ends_one}
 use Rattle.wit_arena.proofs.Occurrence.{firsts-differ}
 use Rattle.wit_arena.proofs.LegalScopes.{scope_differs}
