@@ -118,6 +118,8 @@ fn resolve_gathered<'f, 'a>(
     ensures first { FindsAfter 1 files.now result }
 {
     let names = FileNames::gather(alloc, files)?;
+    // Most items have a type at least.
+    types.reserve(names.item_order().len())?;
     resolve_named(alloc, &names, files, types)
 }
 

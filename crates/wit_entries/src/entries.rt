@@ -140,6 +140,15 @@ impl Entries {
         }
     }
 
+    /// Makes room for more entries, as many as these.
+    ///
+    /// The error is a failed allocation.
+    pub fn reserve(&mut self, more: usize) -> Result<(), AllocError>
+        ensures { self.new ≡ self.old }
+    {
+        self.arena.reserve(more)
+    }
+
     /// The arena of the entries.
     pub fn into_arena(self) -> Arena<TypeDef, TypePlace>
         ensures { result ≡ self }

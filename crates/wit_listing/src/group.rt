@@ -1,5 +1,5 @@
 //! The listing of a group: of a package and of those that are nested in it.
-ghost use Rattle.std.specs.Prelude.{◌≡◌, ◌++◌, IfOk, OnOk, string_bytes};
+ghost use Rattle.std.specs.Prelude.{◌≡◌, [], ◌++◌, IfOk, OnOk, string_bytes};
 ghost use Rattle.std.specs.List.{flat_map};
 ghost use Rattle.wit_listing.specs.ListingTexts.{Adds};
 ghost use Rattle.wit_listing.specs.Output.{IsWritten};
@@ -23,6 +23,16 @@ fn push_packages(text: &mut String, packages: &[UnresolvedPackage]) -> Result<()
     Ok(())
 }
 
+/// A text with room for the listing of a package, so that it seldom grows: what an entry, an interface
+/// or a world has in it takes some ninety bytes.
+fn empty_listing(alloc: Global, main: &UnresolvedPackage) -> Result<String, AllocError>
+    ensures { IfOk result (λ text. string_bytes text ≡ []) }
+{
+    let parts = main.types.len().saturating_add(main.interfaces.len());
+    let lines = parts.saturating_add(main.worlds.len());
+    String::with_capacity(alloc, lines.saturating_mul(90))
+}
+
 /// The listing, as a text.
 fn listing_of(
     alloc: Global,
@@ -31,7 +41,7 @@ fn listing_of(
 ) -> Result<String, AllocError>
     ensures { IfOk result (λ text. string_bytes text ≡ listing_text main.now nested.now) }
 {
-    let mut text = String::new(alloc);
+    let mut text = empty_listing(alloc, main)?;
     push_package(&mut text, main)?;
     push_packages(&mut text, nested)?;
     Ok(text)
