@@ -38,13 +38,13 @@ fn field(alloc: Global, field: &tree::Field<'_>, ty: Type) -> Result<Field, Allo
 fn resolve_fields(
     alloc: Global,
     types: &mut Entries,
-    scope: TypeScope<'_, '_, '_>,
+    scope: &TypeScope<'_, '_, '_>,
     required: &mut Vec<Required>,
     given: &Stability,
     fields: &[tree::Field<'_>],
 ) -> ParseResult<Row<Field>>
     ensures members { IfOk result (λ made. map field_member made ≡ map (λ f. member f.docs f.name) fields.now) }
-    ensures resolves { ResolvesTypes scope.entry given.now types.old types.new required.old required.new (field_types fields.now) (map (λ f. f.ty)) result }
+    ensures resolves { ResolvesTypes scope.now given.now types.old types.new required.old required.new (field_types fields.now) (map (λ f. f.ty)) result }
 {
     let mut resolved = Vec::with_capacity(alloc, fields.len())?;
     for written in fields {
@@ -93,13 +93,13 @@ fn case(alloc: Global, case: &tree::Case<'_>, ty: Option<Type>) -> Result<Case, 
 fn resolve_case(
     alloc: Global,
     types: &mut Entries,
-    scope: TypeScope<'_, '_, '_>,
+    scope: &TypeScope<'_, '_, '_>,
     required: &mut Vec<Required>,
     given: &Stability,
     written: &tree::Case<'_>,
 ) -> ParseResult<Case>
     ensures member { IfOk result (λ made. case_member made ≡ (member written.now.docs written.now.name, is_some written.now.ty)) }
-    ensures resolves { ResolvesTypes scope.entry given.now types.old types.new required.old required.new (option_to_list written.now.ty) (λ c. option_to_list c.ty) result }
+    ensures resolves { ResolvesTypes scope.now given.now types.old types.new required.old required.new (option_to_list written.now.ty) (λ c. option_to_list c.ty) result }
 {
     match &written.ty {
         Some(ty) => {
@@ -114,13 +114,13 @@ fn resolve_case(
 fn resolve_cases(
     alloc: Global,
     types: &mut Entries,
-    scope: TypeScope<'_, '_, '_>,
+    scope: &TypeScope<'_, '_, '_>,
     required: &mut Vec<Required>,
     given: &Stability,
     cases: &[tree::Case<'_>],
 ) -> ParseResult<Row<Case>>
     ensures members { IfOk result (λ made. map case_member made ≡ map (λ c. (member c.docs c.name, is_some c.ty)) cases.now) }
-    ensures resolves { ResolvesTypes scope.entry given.now types.old types.new required.old required.new (case_types cases.now) (filter_map (λ c. c.ty)) result }
+    ensures resolves { ResolvesTypes scope.now given.now types.old types.new required.old required.new (case_types cases.now) (filter_map (λ c. c.ty)) result }
 {
     let mut resolved = Vec::with_capacity(alloc, cases.len())?;
     for written in cases {
@@ -156,12 +156,12 @@ fn enum_cases(alloc: Global, cases: &[tree::EnumCase<'_>]) -> Result<Row<EnumCas
 fn resolve_plain(
     alloc: Global,
     types: &mut Entries,
-    scope: TypeScope<'_, '_, '_>,
+    scope: &TypeScope<'_, '_, '_>,
     required: &mut Vec<Required>,
     given: &Stability,
     ty: &tree::Type<'_>,
 ) -> ParseResult<TypeDefKind>
-    ensures { ResolvesBody scope.entry given.now types.old types.new required.old required.new (Plain ty.now) result }
+    ensures { ResolvesBody scope.now given.now types.old types.new required.old required.new (Plain ty.now) result }
 {
     if let tree::Type::Own(_, id) = ty {
         let resource = find_resource(alloc, types, scope, required, *id)?;
@@ -177,12 +177,12 @@ fn resolve_plain(
 pub fn resolve_body(
     alloc: Global,
     types: &mut Entries,
-    scope: TypeScope<'_, '_, '_>,
+    scope: &TypeScope<'_, '_, '_>,
     required: &mut Vec<Required>,
     given: &Stability,
     body: &tree::TypeBody<'_>,
 ) -> ParseResult<TypeDefKind>
-    ensures { ResolvesBody scope.entry given.now types.old types.new required.old required.new body.now result }
+    ensures { ResolvesBody scope.now given.now types.old types.new required.old required.new body.now result }
 {
     match body {
         tree::TypeBody::Record { span, fields } => {

@@ -24,7 +24,7 @@ pub fn define(
     let kind = resolve_body(
         alloc,
         types,
-        TypeScope {
+        &TypeScope {
             names: &scope.names,
             functions: None,
         },

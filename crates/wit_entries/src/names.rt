@@ -30,10 +30,10 @@ pub struct TypeScope<'s, 't, 'a> {
 }
 
 /// Whether a function is one by itself, of this name.
-fn is_named(function: BorrowedFunction<'_, '_>, name: &str) -> bool
-    ensures { result ≡ is_free name.now (function_view function.entry).role }
+fn is_named(function: &BorrowedFunction<'_, '_>, name: &str) -> bool
+    ensures { result ≡ is_free name.now (function_view function.now).role }
 {
-    match function {
+    match *function {
         BorrowedFunction::Free(function) => function.name.name == name,
         BorrowedFunction::Of(_, _) | BorrowedFunction::Across(_, _, _, _, _) => false,
     }
@@ -43,7 +43,7 @@ fn is_named(function: BorrowedFunction<'_, '_>, name: &str) -> bool
 fn have_name(functions: &[BorrowedFunction<'_, '_>], name: &str) -> bool
     ensures { result ≡ list_any (λ h. is_free name.now (function_view h).role) functions.now }
 {
-    functions.iter().any(|function| is_named(*function, name))
+    functions.iter().any(|function| is_named(function, name))
 }
 
 /// The words for a function that is used as a type.
@@ -69,8 +69,8 @@ fn refuse_word(alloc: Global, functions: &[BorrowedFunction<'_, '_>], id: Id<'_>
 /// A name that is no type.
 #[cold]
 #[inline(never)]
-fn refuse_lost(alloc: Global, scope: TypeScope<'_, '_, '_>, id: Id<'_>) -> ParseError
-    ensures { Reports (Some (lost_in scope.entry.functions id.entry)) result }
+fn refuse_lost(alloc: Global, scope: &TypeScope<'_, '_, '_>, id: Id<'_>) -> ParseError
+    ensures { Reports (Some (lost_in scope.now.functions id.entry)) result }
 {
     match scope.functions {
         Some(functions) => refuse_word(alloc, functions, id),
@@ -79,9 +79,9 @@ fn refuse_lost(alloc: Global, scope: TypeScope<'_, '_, '_>, id: Id<'_>) -> Parse
 }
 
 /// What a name of the scope means.
-pub fn find_name(alloc: Global, scope: TypeScope<'_, '_, '_>, id: Id<'_>) -> ParseResult<TypeId>
-    ensures found { IfOk result (λ place. env_of scope.entry.names.now id.entry.name.now ≡ Some place) }
-    ensures first { Finds (name_fault (lost_in scope.entry.functions) (env_of scope.entry.names.now) id.entry) result }
+pub fn find_name(alloc: Global, scope: &TypeScope<'_, '_, '_>, id: Id<'_>) -> ParseResult<TypeId>
+    ensures found { IfOk result (λ place. env_of scope.now.names.now id.entry.name.now ≡ Some place) }
+    ensures first { Finds (name_fault (lost_in scope.now.functions) (env_of scope.now.names.now) id.entry) result }
 {
     match scope.names.get(id.name) {
         Some(found) => Ok(*found),
@@ -111,11 +111,11 @@ fn refuse_handle(alloc: Global, id: Id<'_>) -> ParseError
 pub fn find_resource(
     alloc: Global,
     types: &Entries,
-    scope: TypeScope<'_, '_, '_>,
+    scope: &TypeScope<'_, '_, '_>,
     required: &mut Vec<Required>,
     id: Id<'_>,
 ) -> ParseResult<TypeId>
-    ensures { FindsResource scope.entry types.now required.old required.new id.entry result }
+    ensures { FindsResource scope.now types.now required.old required.new id.entry result }
 {
     let place = find_name(alloc, scope, id)?;
     match types.end(place) {

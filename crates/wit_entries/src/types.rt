@@ -53,12 +53,12 @@ fn primitive_type(primitive: tree::Primitive) -> Type
 pub fn read(
     alloc: Global,
     types: &mut Entries,
-    scope: TypeScope<'_, '_, '_>,
+    scope: &TypeScope<'_, '_, '_>,
     required: &mut Vec<Required>,
     given: &Stability,
     ty: &tree::Type<'_>,
 ) -> ParseResult<Reading>
-    ensures { Reads scope.entry given.now types.old types.new required.old required.new ty.now result }
+    ensures { Reads scope.now given.now types.old types.new required.old required.new ty.now result }
 {
     if let tree::Type::Primitive(_, primitive) = ty {
         return Ok(Reading::Leaf(primitive_type(*primitive)));
@@ -85,14 +85,14 @@ pub fn read(
 fn read_form(
     alloc: Global,
     types: &mut Entries,
-    scope: TypeScope<'_, '_, '_>,
+    scope: &TypeScope<'_, '_, '_>,
     required: &mut Vec<Required>,
     given: &Stability,
     ty: &tree::Type<'_>,
 ) -> ParseResult<Reading>
     requires form { IsLeaf (shape_of ty.now) → ⊥ }
     requires unlisted { IsList ty.now → ⊥ }
-    ensures { Reads scope.entry given.now types.old types.new required.old required.new ty.now result }
+    ensures { Reads scope.now given.now types.old types.new required.old required.new ty.now result }
 {
     match ty {
         tree::Type::FixedLengthList(span, item, size) => {
@@ -139,13 +139,13 @@ fn read_form(
 fn resolve_result(
     alloc: Global,
     types: &mut Entries,
-    scope: TypeScope<'_, '_, '_>,
+    scope: &TypeScope<'_, '_, '_>,
     required: &mut Vec<Required>,
     given: &Stability,
     parts: &tree::ResultTypes<'_>,
 ) -> ParseResult<Result_>
     ensures there { IfOk result (λ r. (is_some r.ok ≡ is_some (ok_type parts.now)) × (is_some r.err ≡ is_some (err_type parts.now))) }
-    ensures resolves { ResolvesTypes scope.entry given.now types.old types.new required.old required.new (result_types parts.now) (λ r. (kind_of (Result r)).1) result }
+    ensures resolves { ResolvesTypes scope.now given.now types.old types.new required.old required.new (result_types parts.now) (λ r. (kind_of (Result r)).1) result }
 {
     match parts {
         tree::ResultTypes::Neither => Ok(Result_ {
@@ -180,13 +180,13 @@ fn resolve_result(
 fn resolve_optional(
     alloc: Global,
     types: &mut Entries,
-    scope: TypeScope<'_, '_, '_>,
+    scope: &TypeScope<'_, '_, '_>,
     required: &mut Vec<Required>,
     given: &Stability,
     ty: &Option<Box<tree::Type<'_>>>,
 ) -> ParseResult<Option<Type>>
     ensures there { IfOk result (λ o. is_some o ≡ is_some ty.now) }
-    ensures resolves { ResolvesTypes scope.entry given.now types.old types.new required.old required.new (boxed_types ty.now) option_to_list result }
+    ensures resolves { ResolvesTypes scope.now given.now types.old types.new required.old required.new (boxed_types ty.now) option_to_list result }
 {
     match ty {
         Some(ty) => {
@@ -202,12 +202,12 @@ fn resolve_optional(
 fn resolve_types(
     alloc: Global,
     types: &mut Entries,
-    scope: TypeScope<'_, '_, '_>,
+    scope: &TypeScope<'_, '_, '_>,
     required: &mut Vec<Required>,
     given: &Stability,
     parts: &[tree::Type<'_>],
 ) -> ParseResult<Row<Type>>
-    ensures { ResolvesTypes scope.entry given.now types.old types.new required.old required.new parts.now (λ r. r) result }
+    ensures { ResolvesTypes scope.now given.now types.old types.new required.old required.new parts.now (λ r. r) result }
 {
     let mut resolved = Vec::with_capacity(alloc, parts.len())?;
     for part in parts {
@@ -224,12 +224,12 @@ fn resolve_types(
 pub fn resolve_type(
     alloc: Global,
     types: &mut Entries,
-    scope: TypeScope<'_, '_, '_>,
+    scope: &TypeScope<'_, '_, '_>,
     required: &mut Vec<Required>,
     given: &Stability,
     ty: &tree::Type<'_>,
 ) -> ParseResult<Type>
-    ensures { ResolvesTypes scope.entry given.now types.old types.new required.old required.new (ty.now ∷ []) (λ t. t ∷ []) result }
+    ensures { ResolvesTypes scope.now given.now types.old types.new required.old required.new (ty.now ∷ []) (λ t. t ∷ []) result }
 {
     let reading = read(alloc, types, scope, required, given, ty)?;
     match reading {

@@ -43,5 +43,5 @@ pub(crate) fn resolve_in_signature(
         names: scope.names,
         functions: Some(up_to(scope.functions, place)),
     };
-    resolve_type(alloc, types, scope, required, &Stability::Unknown, ty)
+    resolve_type(alloc, types, &scope, required, &Stability::Unknown, ty)
 }

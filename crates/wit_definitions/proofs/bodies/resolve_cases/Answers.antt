@@ -12,7 +12,7 @@ use Rattle.wit_definitions.proofs.Payloads.{cases_first}
 use Rattle.wit_definitions.proofs.bodies.resolve_cases.Goals as goal
 
 pub loop-written-init : goal.loop-written-init
-loop-written-init c = rw c.in_ok-resolved.ensures.items (record { members = refl; types = types_none c.args.scope c.args.given.now c.args.types.now c.args.required.now.items })
+loop-written-init c = rw c.in_ok-resolved.ensures.items (record { members = refl; types = types_none c.args.scope.now c.args.given.now c.args.types.now c.args.required.now.items })
 
 pub loop-written-preserved : goal.loop-written-preserved
 loop-written-preserved c =
@@ -27,7 +27,7 @@ loop-written-preserved c =
     let types : filter_map (λ (x : Case). x.ty) c.push.new.self.items ≡ filter_map (λ (x : Case). x.ty) out ++ option_to_list own.ty = ap (filter_map (λ (x : Case). x.ty)) c.in_ok-push.ensures.items ∙ filter_map_more (λ (x : Case). x.ty) out own in
     record {
       members = pushed_next case_member (λ (x : WrittenCase). (member x.docs x.name, is_some x.ty)) out _ cs i case _ c.loop-written-test.true c.written-item.is c.loop-written.invariant.members c.in_ok-push.ensures.items c.in_ok-case.ensures.member;
-      types = rw (written, types) (types_more c.args.scope c.args.given.now (case_types (take i cs)) (option_to_list case.ty) (filter_map kept out) (option_to_list own.ty) c.loop-written.invariant.types c.in_ok-case.ensures.resolves);
+      types = rw (written, types) (types_more c.args.scope.now c.args.given.now (case_types (take i cs)) (option_to_list case.ty) (filter_map kept out) (option_to_list own.ty) c.loop-written.invariant.types c.in_ok-case.ensures.resolves);
     }
 
 pub returns-clause-members : goal.returns-clause-members
@@ -43,8 +43,8 @@ returns-clause-resolves c =
 pub returns-in_err-case-clause-resolves : goal.returns-in_err-case-clause-resolves
 returns-in_err-case-clause-resolves c =
     let p = err_from_is_err_and c.from_residual-in_err-case.result c.from_residual-in_err-case.ensures.1 in
-    let lost = lost_in c.args.scope.functions in
-    let env = env_of c.args.scope.names.now in
+    let lost = lost_in c.args.scope.now.functions in
+    let env = env_of c.args.scope.now.names.now in
     let new = c.resolve_case.new.types in
     let cs = c.args.cases.now in
     let i = c.loop-written.written-index in

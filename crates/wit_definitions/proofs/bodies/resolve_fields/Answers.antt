@@ -11,7 +11,7 @@ use Rattle.wit_definitions.specs.Bodies.{field_member}
 use Rattle.wit_definitions.proofs.bodies.resolve_fields.Goals as goal
 
 pub loop-written-init : goal.loop-written-init
-loop-written-init c = rw c.in_ok-resolved.ensures.items (record { members = refl; types = types_none c.args.scope c.args.given.now c.args.types.now c.args.required.now.items })
+loop-written-init c = rw c.in_ok-resolved.ensures.items (record { members = refl; types = types_none c.args.scope.now c.args.given.now c.args.types.now c.args.required.now.items })
 
 pub loop-written-preserved : goal.loop-written-preserved
 loop-written-preserved c =
@@ -26,7 +26,7 @@ loop-written-preserved c =
     let types : map type_of c.push.new.self.items ≡ map type_of out ++ c.in_ok-ty.ty ∷ [] = ap (map type_of) c.in_ok-push.ensures.items ∙ map-append type_of out (own ∷ []) ∙ ap (λ t. map type_of out ++ t ∷ []) c.in_ok-field.ensures.typed in
     record {
       members = pushed_next field_member (λ (x : WrittenField). member x.docs x.name) out _ fs i f _ c.loop-written-test.true c.written-item.is c.loop-written.invariant.members c.in_ok-push.ensures.items c.in_ok-field.ensures.member;
-      types = rw (written, types) (types_more c.args.scope c.args.given.now (field_types (take i fs)) (f.ty ∷ []) (map type_of out) (c.in_ok-ty.ty ∷ []) c.loop-written.invariant.types c.in_ok-ty.ensures);
+      types = rw (written, types) (types_more c.args.scope.now c.args.given.now (field_types (take i fs)) (f.ty ∷ []) (map type_of out) (c.in_ok-ty.ty ∷ []) c.loop-written.invariant.types c.in_ok-ty.ensures);
     }
 
 pub returns-clause-members : goal.returns-clause-members
@@ -42,8 +42,8 @@ returns-clause-resolves c =
 pub returns-in_err-ty-clause-resolves : goal.returns-in_err-ty-clause-resolves
 returns-in_err-ty-clause-resolves c =
     let p = err_from_is_err_and c.from_residual-in_err-ty.result c.from_residual-in_err-ty.ensures.1 in
-    let lost = lost_in c.args.scope.functions in
-    let env = env_of c.args.scope.names.now in
+    let lost = lost_in c.args.scope.now.functions in
+    let env = env_of c.args.scope.now.names.now in
     let new = c.resolve_type.new.types in
     let fs = c.args.fields.now in
     let i = c.loop-written.written-index in

@@ -14,7 +14,7 @@ returns-in-Own c =
     let id = c.in-Own.id in
     let it = c.in_ok-resource.ensures in
     rw c.in-Own.is (record {
-      made = record { form = refl; parts = resolved_word es (env_of c.args.scope.names.now) given id c.in_ok-resource.resource it.made };
+      made = record { form = refl; parts = resolved_word es (env_of c.args.scope.now.names.now) given id c.in_ok-resource.resource it.made };
       handled = it.handled;
       extended = it.extended;
       first = or_none _ ∙ it.first;
@@ -23,11 +23,11 @@ returns-in-Own c =
 pub returns-in_err-reading : goal.returns-in_err-reading
 returns-in_err-reading c =
     let p = err_from_is_err_and c.from_residual-in_err-reading.result c.from_residual-in_err-reading.ensures.1 in
-    rw (p.1, p.2) (one_stopped (lost_in c.args.scope.functions) (env_of c.args.scope.names.now) c.args.ty.now c.in_err-reading.ensures)
+    rw (p.1, p.2) (one_stopped (lost_in c.args.scope.now.functions) (env_of c.args.scope.now.names.now) c.args.ty.now c.in_err-reading.ensures)
 
 pub returns : goal.returns
 returns c =
-    let env = env_of c.args.scope.names.now in
+    let env = env_of c.args.scope.now.names.now in
     let new = c.read.new.types in
     let t = c.args.ty.now in
     let it = c.in_ok-reading.ensures in
