@@ -1,10 +1,11 @@
 -- From scopes that are done to names and functions that are, one by one, and back.
 use Rattle.std.proofs.Common.{◌≡◌, ℕ, zero, suc, List, [], ◌∷◌, ◌++◌, length, map, Some, inl, inr, sym, ap, ◌∙◌, subst}
-use Rattle.wit_arena.proofs.Names.{Address, AddsFunctions, AllDiffer, AreEnded, AreFunctions, AreKnown, AreNames, AreNew, AreOwned, AreRequired, Collects, Decls, Def, Defines, Extends, Function, Id, IsFunction, Occurrence, PackageFile, Required, ResolvedScope, ScopeName, SourceFunction, TypeDef, TypeOwner, all_function_occurrences, at_either, at_part, at_prefix, at_seam, differ_more, env_of, flat_map, flat_map_at, keys, local_name, local_names, map-append, map_at, names_in, option_map, scope, slice_get, slice_get-map}
+use Rattle.wit_arena.proofs.Names.{Address, AddsFunctions, AllDiffer, AreEnded, AreFunctions, AreKnown, AreNames, AreNew, AreOwned, AreRequired, Collects, Decls, Def, Defines, Extends, Function, Id, Occurrence, PackageFile, Required, ResolvedScope, ScopeName, SourceFunction, TypeDef, TypeOwner, all_function_occurrences, at_either, at_part, at_prefix, at_seam, differ_more, env_of, flat_map, flat_map_at, keys, local_name, local_names, map-append, map_at, names_in, option_map, scope, slice_get, slice_get-map}
 use Rattle.wit_arena.proofs.DefinitionPart.{name_seen_in, known_kept}
 use Rattle.wit_arena.proofs.FunctionPart.{DoneFunction, done_functions, scope_functions, AreDoneNames, IsFunctionPart, AreWhole}
+use Rattle.wit_arena.proofs.PlacingFunctions.{IsFunction, function_extended, function_of, functions_by, made_count}
 use Rattle.wit_arena.proofs.Occurrence.{collects_append, collects_from, collects_extended, collects_longer}
-use Rattle.wit_arena.proofs.Resolving.{function_extended, names_beside, no_name_in_functions, DoneScope, done_address, resolved_scope_of, IsTurn, IsNameOf, IsDone}
+use Rattle.wit_arena.proofs.Resolving.{names_beside, no_name_in_functions, DoneScope, done_address, resolved_scope_of, IsTurn, IsNameOf, IsDone}
 use Rattle.wit_arena.proofs.Turns.{all_name_occurrences}
 use Rattle.wit_arena.proofs.Required.{in_scope, ended_required, required_extended}
 use Rattle.wit_arena.proofs.Ends.{IsDeclared}
@@ -43,7 +44,7 @@ module _ (files : List PackageFile) (decls : Decls) (written : List Occurrence) 
   function_made k g at =
       let it = flat_map_at scope_functions cs k g at in
       let one = done_function_from it.1.address it.1.functions it.1.made it.3.0 g it.3.1 in
-      subst (λ (s : Address). IsFunction (keys d.seen) s g.fn g.made) (sym one.whose) ((d.made it.0 it.1 it.2).each it.3.0 g.fn g.made one.written one.made_at)
+      subst (λ (s : Address). IsFunction (keys d.seen) s g.fn g.made) (sym one.whose) (function_of (keys d.seen) it.1.address it.1.functions it.1.made (d.made it.0 it.1 it.2) it.3.0 g.fn g.made one.written one.made_at)
 
   -- what is done can go on
   pub function_part_of : IsFunctionPart files decls written cs (flat_map scope_functions cs) es
@@ -61,12 +62,9 @@ module _ (files : List PackageFile) (decls : Decls) (written : List Occurrence) 
 
 module _ (files : List PackageFile) (decls : Decls) (written : List Occurrence) (cs : List DoneScope) (gs : List DoneFunction) (es : List TypeDef) (d : IsFunctionPart files decls written cs gs es) (w : AreWhole files cs gs (keys d.seen)) where
   functions_made : (t : ℕ) (c : DoneScope) → slice_get cs t ≡ Some c → AreFunctions (keys d.seen) c.address c.functions c.made
-  functions_made t c at = record {
-    count = (w.whole t c at).count;
-    each = λ k fn f written_at made_at. (
-        let j = w.made t k c (done_function c.address fn f) at (done_function_at c.address c.functions c.made k fn f written_at made_at) in
-        d.made j.0 (done_function c.address fn f) j.1);
-  }
+  functions_made t c at = functions_by (keys d.seen) c.address c.functions c.made (w.whole t c at).count (λ k fn f written_at made_at. (
+      let j = w.made t k c (done_function c.address fn f) at (done_function_at c.address c.functions c.made k fn f written_at made_at) in
+      d.made j.0 (done_function c.address fn f) j.1))
 
   -- what is whole is done
   pub done_of : IsDone files decls written cs es
@@ -173,14 +171,14 @@ module _ (files : List PackageFile) (decls : Decls) (written : List Occurrence) 
   added = adds.from decls d.seen d.occurrence (d.are_present t c at_c)
 
   pub functions_count : length fs ≡ length fns
-  functions_count = added.holds.count
+  functions_count = made_count (keys added.now) c.address added.occurrence.keyed.once fns fs added.holds
 
   all_made : (k : ℕ) (g : DoneFunction) → slice_get (gs ++ more) k ≡ Some g → IsFunction (keys added.now) g.address g.fn g.made
   all_made k g at = elim (at_part gs more k g at) [
     | inl h ↦ function_extended (collects_extended rest_after d.seen added.now added.collects) g.address g.fn g.made (d.made h.0 g h.1)
     | inr h ↦ (
         let one = done_function_from c.address fns fs h.0 g h.1 in
-        subst (λ (x : Address). IsFunction (keys added.now) x g.fn g.made) (sym one.whose) (added.holds.each h.0 g.fn g.made one.written one.made_at))
+        subst (λ (x : Address). IsFunction (keys added.now) x g.fn g.made) (sym one.whose) (function_of (keys added.now) c.address fns fs added.holds h.0 g.fn g.made one.written one.made_at))
   ]
 
   -- functions of a scope that is there

@@ -1,9 +1,10 @@
 -- What follows for a package whose scopes are done.
 use Rattle.std.proofs.Common.{◌≡◌, ◌↔◌, ◌<◌, ℕ, List, [], ◌∷◌, length, map, take, Option, Some, None, ◌⊎◌, Contains, arith, inl, inr, refl, sym, ap, ◌∙◌, subst}
-use Rattle.wit_arena.proofs.Names.{Address, AllDiffer, Decls, Def, Expr, Exprs, Form, Function, FunctionKey, HasType, IsAnonymousForm, IsAt, IsBelow, IsEntry, IsFaithful, IsFunction, IsRoot, Key, Names, Occurrence, OfFunction, OfName, PackageFile, Place, ScopeName, Shape, SourceFunction, TypeDef, TypeOwner, UnknownForm, UnresolvedPackage, Whole, Word, about_name, at_contains, at_within, contains_at, differ_at, expr_of, first_foreign_uses, function_key, function_types, functions_at, functions_of, keys, kind_of, local_id, local_name, lookup-place, named_node, names_of, node_parts, owner_of, role_side, scope, signature, slice_get, slice_get_within, unwrap_or}
+use Rattle.wit_arena.proofs.Names.{Address, AllDiffer, Decls, Def, Expr, Exprs, Form, Function, FunctionKey, HasType, IsAnonymousForm, IsAt, IsBelow, IsEntry, IsFaithful, IsRoot, Key, Names, Occurrence, OfFunction, OfName, PackageFile, Place, ScopeName, Shape, SourceFunction, TypeDef, TypeOwner, UnknownForm, UnresolvedPackage, Whole, Word, about_name, at_contains, at_within, contains_at, differ_at, expr_of, first_foreign_uses, function_key, function_types, functions_at, functions_of, keys, kind_of, local_id, local_name, lookup-place, named_node, names_of, node_parts, owner_of, role_side, scope, signature, slice_get, slice_get_within, unwrap_or}
 use Rattle.wit_types.specs.declared.types.«Type».{«Type» as Ty}
 use Rattle.wit_types.specs.declared.types.«Type».TheVariants.{Id}
-use Rattle.wit_arena.proofs.Resolving.{function_typed, type_of, DoneScope, IsWholeOf, IsInSignatureOf, IsPresent}
+use Rattle.wit_arena.proofs.Resolving.{type_of, DoneScope, IsWholeOf, IsInSignatureOf, IsPresent}
+use Rattle.wit_arena.proofs.PlacingFunctions.{IsFunction, function_of, function_typed, made_count, made_name}
 use Rattle.wit_arena.proofs.OneKind.{Extended, at_injective, at_functional, same_some}
 use Rattle.wit_arena.proofs.Occurrence.{Has, collects_from}
 use Rattle.wit_arena.proofs.Parts.{all_parts}
@@ -61,9 +62,9 @@ module _ (files : List PackageFile) (decls : Decls) (written : List Occurrence) 
   at_made t c at k f made =
       let are = d.made t c at in
       let lt = slice_get_within c.made k f made in
-      let count = are.count in
+      let count = made_count ks c.address d.occurrence.keyed.once c.functions c.made are in
       let fn = at_within c.functions k (omega arith) in
-      (k, fn.0, fn.1, refl, are.each k fn.0 f fn.1 made)
+      (k, fn.0, fn.1, refl, function_of ks c.address c.functions c.made are k fn.0 f fn.1 made)
 
   formed : (j : ℕ) (e : TypeDef) → slice_get p.types j ≡ Some e → e.name ≡ None → IsAnonymousForm (kind_of e.kind).0
   formed j e at none =
@@ -80,7 +81,7 @@ module _ (files : List PackageFile) (decls : Decls) (written : List Occurrence) 
   stated_at : (t : ℕ) (c : DoneScope) (k : ℕ) (fn : SourceFunction) (f : Function) → slice_get cs t ≡ Some c → slice_get c.functions k ≡ Some fn → slice_get c.made k ≡ Some f → IsFunction ks c.address fn f → Contains (functions_of p c.owner) (function_key fn, f)
   stated_at t c k fn f at fat made is =
       let place = (d.each t c at).stated.has k fn f fat made in
-      contains_at (functions_of p c.owner) place.0 (function_key fn, f) (ap (λ (l : List (FunctionKey × Function)). slice_get l place.0) (owners.functions t c at) ∙ place.1 ∙ ap (λ (n : List ℕ). Some ((role_side fn.role, n), f)) is.name)
+      contains_at (functions_of p c.owner) place.0 (function_key fn, f) (ap (λ (l : List (FunctionKey × Function)). slice_get l place.0) (owners.functions t c at) ∙ place.1 ∙ ap (λ (n : List ℕ). Some ((role_side fn.role, n), f)) (made_name ks c.address d.occurrence.keyed.once fn f is))
 
   -- what a name of a scope is written with is below it
   reached_from : (j : ℕ) (form : Form) (parts : Exprs) → slice_get ks j ≡ Some (Whole form parts) → IsWholeOf cs form parts → (x : Place) × HasType files p x (Id j)
@@ -111,7 +112,7 @@ module _ (files : List PackageFile) (decls : Decls) (written : List Occurrence) 
       let c = w.resolved_scope in
       let i = w.inside in
       let f = function_at files decls written cs p.types d w.place c i.index i.fn w.at i.among in
-      let typed = function_typed ks c.address i.fn f.0 f.2 in
+      let typed = function_typed ks c.address d.occurrence.keyed.once i.fn f.0 f.2 in
       let ty = type_of typed i.position i.shape i.written in
       let lead = leads files decls written cs p d c.address i.shape ty.0 j form parts (typed.each i.position i.shape ty.0 i.written ty.1) there i.has in
       let among : Contains (functions_at files c.address) i.fn = contains_at (functions_at files c.address) i.index i.fn (ap (λ (l : List SourceFunction). slice_get l i.index) (sym (d.each w.place c w.at).functions) ∙ i.among) in (
@@ -185,7 +186,7 @@ module _ (files : List PackageFile) (decls : Decls) (written : List Occurrence) 
       let k = function_place s fn w.place w.resolved_scope w.at w.scope among in
       let f = function_at files decls written cs p.types d w.place w.resolved_scope k.0 fn w.at k.1 in
       let stated = stated_at w.place w.resolved_scope k.0 fn f.0 w.at k.1 f.1 f.2 in
-      (f.0, subst (λ (z : TypeOwner). Contains (functions_of p z) (function_key fn, f.0)) w.whose stated, (function_typed ks w.resolved_scope.address fn f.0 f.2).count)
+      (f.0, subst (λ (z : TypeOwner). Contains (functions_of p z) (function_key fn, f.0)) w.whose stated, (function_typed ks w.resolved_scope.address d.occurrence.keyed.once fn f.0 f.2).count)
 
   -- a name of an owner means the place where it occurred
   pub name_at : (o : TypeOwner) (s : Address) (k : ℕ) (name : List ℕ) (id : ℕ) → owner_of p o ≡ Some s → slice_get (names_of p o) k ≡ Some (name, id) → slice_get ks id ≡ Some (Def s name)
@@ -206,7 +207,7 @@ module _ (files : List PackageFile) (decls : Decls) (written : List Occurrence) 
         let there = at_contains (functions_of p o) (function_key fn, f) present in
         let made = (d.each w.place c w.at).stated.from there.0 (function_key fn) f (ap (λ (l : List (FunctionKey × Function)). slice_get l there.0) (sym (ap (functions_of p) (sym w.whose) ∙ owners.functions w.place w.resolved_scope w.at)) ∙ there.1) in
         let index = at_made w.place c w.at made.0 f made.1 in
-        let key : function_key index.1 ≡ function_key fn = ap (λ (n : List ℕ). (role_side index.1.role, n)) (sym index.4.name) ∙ made.2 index.1 (ap (slice_get c.functions) (sym index.3) ∙ index.2) in
+        let key : function_key index.1 ≡ function_key fn = ap (λ (n : List ℕ). (role_side index.1.role, n)) (sym (made_name ks c.address d.occurrence.keyed.once index.1 f index.4)) ∙ made.2 index.1 (ap (slice_get c.functions) (sym index.3) ∙ index.2) in
         let place = differ_at function_key c.functions (apart w.place c w.at) index.0 k.0 index.1 fn index.2 k.1 key in
         let one = same_some (sym index.2 ∙ ap (slice_get c.functions) place ∙ k.1) in
         subst (λ (z : Address). IsFunction ks z fn f) w.scope (subst (λ (g : SourceFunction). IsFunction ks c.address g f) one index.4)
@@ -216,7 +217,7 @@ module _ (files : List PackageFile) (decls : Decls) (written : List Occurrence) 
     root_at s x ty (OfName o n id called among present written is) =
         let k = at_contains (names_of p o) (local_name n, id) present in
         subst (λ (z : Shape). IsAt ks (expr_of s z) ty) (sym written) (id, is, name_at o s k.0 (local_name n) id called k.1)
-    root_at s x ty (OfFunction o fn f k called among present written is) = (function_typed ks s fn f (function_is o s fn f called among present)).each k x ty written is
+    root_at s x ty (OfFunction o fn f k called among present written is) = (function_typed ks s d.occurrence.keyed.once fn f (function_is o s fn f called among present)).each k x ty written is
 
     pub type_at : (x : Place) (ty : Ty) → HasType files p x ty → IsAt ks (expr_of x.0 x.1) ty
     type_at x ty h = below_at files decls written cs p d h.path h.top x h.whole ty (root_at h.top.0 h.top.1 h.whole h.root) h.below h.is

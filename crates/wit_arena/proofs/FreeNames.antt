@@ -1,9 +1,10 @@
 -- The written names of functions that are no resource's, in the source and in the package.
-use Rattle.std.proofs.Common.{◌≡◌, ℕ, zero, List, [], ◌∷◌, ◌++◌, Some, refl, sym, ap, ◌∙◌, subst, arith, Contains}
-use Rattle.wit_arena.proofs.Names.{Address, AreFunctions, Constructor, Def, DefinitionPart, ExternPart, Freestanding, FuncForm, Function, FunctionKey, FunctionKind, FunctionPart, Id, IsFunction, IsKind, Item, Key, Method, OnSide, Part, ResourceFunc, Role, SourceFunction, Static, TypeBody, WorldSide, accessor, at_contains, at_within, contains_at, definition_functions, extern_at, flat_map, flat_map_at, flat_map_has, free_function, freestanding_names, functions, keyed, map, map_at, part_functions, part_of_function, resource_function, role_names, role_side, slice_get, slice_get_within}
+use Rattle.std.proofs.Common.{◌≡◌, ℕ, zero, List, [], ◌∷◌, ◌++◌, length, Some, refl, sym, ap, ◌∙◌, subst, arith, Contains}
+use Rattle.wit_arena.proofs.Names.{Address, Constructor, Def, DefinitionPart, ExternPart, Freestanding, FuncForm, Function, FunctionKey, FunctionPart, Id, Item, Key, Method, OnSide, Part, ResourceFunc, Role, SourceFunction, Static, TypeBody, WorldSide, accessor, at_contains, at_within, contains_at, definition_functions, extern_at, flat_map, flat_map_at, flat_map_has, free_function, freestanding_names, function_in, functions, keyed, length-map, map, map_at, part_functions, part_of_function, resource_function, role_kind, role_names, role_side, slice_get, slice_get_within}
 use Rattle.wit_type_tree.specs.declared.types.FuncForm.TheVariants as form
 use Rattle.wit_type_tree.specs.declared.types.TypeBody.TheVariants as body
 use Rattle.wit_type_tree.specs.declared.types.ResourceFunc.TheVariants as resource
+use Rattle.wit_arena.proofs.PlacingFunctions.{one_mapped}
 use Rattle.wit_arena.proofs.Turns.{freestanding_kind, method_kind, static_kind}
 
 -- of functions of the package, each under its side and name
@@ -48,12 +49,12 @@ no_static _ r name = refl
 abbrev pub free_names : Item → List (List ℕ)
 free_names i = flat_map (λ fn. role_names fn.role) (functions i)
 
-free_role : (ks : List Key) (s : Address) (role : Role) (k : FunctionKind) (name : List ℕ) → IsCalled role name → IsKind (λ name r. slice_get ks r ≡ Some (Def s name)) role k → freestanding_names k name ≡ role_names role
-free_role ks s (Freestanding id form) k name called is = ap (λ x. freestanding_names x name) is ∙ ap (freestanding_names (freestanding_kind form)) called ∙ free_kind form id.name.now
-free_role ks s (Method of form) k name called is = ap (λ x. freestanding_names x name) is.1 ∙ no_method form is.0 name
-free_role ks s (Static of form) k name called is = ap (λ x. freestanding_names x name) is.1 ∙ no_static form is.0 name
-free_role ks s (Constructor of) k name called is = ap (λ x. freestanding_names x name) is.1
-free_role ks s (OnSide side id form) k name called is = ap (λ x. freestanding_names x name) is ∙ ap (freestanding_names (freestanding_kind form)) called ∙ free_kind form id.name.now
+free_role : (place : Id → ℕ) (role : Role) (name : List ℕ) → IsCalled role name → freestanding_names (role_kind place role) name ≡ role_names role
+free_role place (Freestanding id form) name called = ap (freestanding_names (freestanding_kind form)) called ∙ free_kind form id.name.now
+free_role place (Method of form) name called = no_method form (place of) name
+free_role place (Static of form) name called = no_static form (place of) name
+free_role place (Constructor of) name called = refl
+free_role place (OnSide side id form) name called = ap (freestanding_names (freestanding_kind form)) called ∙ free_kind form id.name.now
 
 -- so it is of the functions of an item
 resource_called : (r : Id) (g : ResourceFunc) → IsCalled (resource_function r g).role (resource_function r g).name
@@ -77,19 +78,24 @@ function_called i k fn at =
     let it = part_of_function i k fn at in
     part_called it.1 it.3.0 fn it.3.1
 
-names_again : (ks : List Key) (s : Address) (i : Item) (k : ℕ) (fn : SourceFunction) (f : Function) → slice_get (functions i) k ≡ Some fn → IsFunction ks s fn f → role_names fn.role ≡ freestanding_names f.kind f.name
-names_again ks s i k fn f at is = sym (ap (freestanding_names f.kind) is.name ∙ free_role ks s fn.role f.kind fn.name (function_called i k fn at) is.kind)
+names_again : (id : Key → ℕ) (s : Address) (i : Item) (k : ℕ) (fn : SourceFunction) (f : Function) → slice_get (functions i) k ≡ Some fn → f ≡ function_in id s fn → role_names fn.role ≡ freestanding_names f.kind f.name
+names_again id s i k fn f at is = sym (ap (λ (g : Function). freestanding_names g.kind g.name) is ∙ free_role (λ of. id (Def s of.name.now)) fn.role fn.name (function_called i k fn at))
 
-module _ (ks : List Key) (s : Address) (i : Item) (made : List Function) (stated : List (FunctionKey × Function)) (are : AreFunctions ks s (functions i) made) (says : AreStated (functions i) made stated) where
+module _ (id : Key → ℕ) (s : Address) (i : Item) (made : List Function) (stated : List (FunctionKey × Function)) (are : made ≡ map (function_in id s) (functions i)) (says : AreStated (functions i) made stated) where
+  as_many : length made ≡ length (functions i)
+  as_many = ap length are ∙ length-map (functions i) (function_in id s)
+
+  again : (k : ℕ) (fn : SourceFunction) (f : Function) → slice_get (functions i) k ≡ Some fn → slice_get made k ≡ Some f → role_names fn.role ≡ freestanding_names f.kind f.name
+  again k fn f at there = names_again id s i k fn f at (one_mapped (function_in id s) (functions i) made are k fn f at there)
+
   -- the written names of an item's functions are those that its owner states
   pub free_stated : (name : List ℕ) → Contains (free_names i) name → Contains (free_of stated) name
   free_stated name among =
       let n = at_contains (free_names i) name among in
       let it = flat_map_at (λ (fn : SourceFunction). role_names fn.role) (functions i) n.0 name n.1 in
       let lt = slice_get_within (functions i) it.0 it.1 it.2 in
-      let count = are.count in
-      let f = at_within made it.0 (omega arith) in
-      let same : role_names it.1.role ≡ freestanding_names f.0.kind f.0.name = names_again ks s i it.0 it.1 f.0 it.2 (are.each it.0 it.1 f.0 it.2 f.1) in
+      let f = at_within made it.0 (omega (arith, lt, as_many)) in
+      let same : role_names it.1.role ≡ freestanding_names f.0.kind f.0.name = again it.0 it.1 f.0 it.2 f.1 in
       let place = says.has it.0 it.1 f.0 it.2 f.1 in
       let it' = flat_map_has (λ (x : FunctionKey × Function). freestanding_names x.1.kind x.1.name) stated place.0 it.3.0 (made_key it.1 f.0, f.0) name place.1 (ap (λ (l : List (List ℕ)). slice_get l it.3.0) (sym same) ∙ it.3.1) in
       contains_at (free_of stated) it'.0 name it'.1
@@ -100,8 +106,7 @@ module _ (ks : List Key) (s : Address) (i : Item) (made : List Function) (stated
       let it = flat_map_at (λ (x : FunctionKey × Function). freestanding_names x.1.kind x.1.name) stated n.0 name n.1 in
       let f = says.from it.0 it.1.0 it.1.1 it.2 in
       let lt = slice_get_within made f.0 it.1.1 f.1 in
-      let count = are.count in
-      let fn = at_within (functions i) f.0 (omega arith) in
-      let same : role_names fn.0.role ≡ freestanding_names it.1.1.kind it.1.1.name = names_again ks s i f.0 fn.0 it.1.1 fn.1 (are.each f.0 fn.0 it.1.1 fn.1 f.1) in
+      let fn = at_within (functions i) f.0 (omega (arith, lt, as_many)) in
+      let same : role_names fn.0.role ≡ freestanding_names it.1.1.kind it.1.1.name = again f.0 fn.0 it.1.1 fn.1 f.1 in
       let it' = flat_map_has (λ (fn : SourceFunction). role_names fn.role) (functions i) f.0 it.3.0 fn.0 name fn.1 (ap (λ (l : List (List ℕ)). slice_get l it.3.0) same ∙ it.3.1) in
       contains_at (free_names i) it'.0 name it'.1

@@ -1,7 +1,8 @@
 -- What is while scopes are being resolved: names of scopes first, and then functions of them, one by one.
 use Rattle.std.proofs.Common.{◌≡◌, ℕ, List, [], ◌∷◌, length, map, Some}
-use Rattle.wit_arena.proofs.Names.{Address, AllDiffer, AreNames, AreRequired, Collects, Decls, Def, Function, IsFunction, IsOccurrence, Key, Occurrence, PackageFile, SourceFunction, TypeDef, env_of, functions_at, keys, local_names, scope, slice_get, turn_handles}
+use Rattle.wit_arena.proofs.Names.{Address, AllDiffer, AreNames, AreRequired, Collects, Decls, Def, Function, IsOccurrence, Key, Occurrence, PackageFile, SourceFunction, TypeDef, env_of, functions_at, keys, local_names, scope, slice_get, turn_handles}
 use Rattle.wit_arena.proofs.FreeNames.{AreStated}
+use Rattle.wit_arena.proofs.PlacingFunctions.{IsFunction}
 use Rattle.wit_arena.proofs.Resolving.{DoneScope, done_address, turn_of, IsTurn, IsNameOf}
 
 -- a function of a scope, and the one of the package that was made of it

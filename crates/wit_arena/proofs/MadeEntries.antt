@@ -1,10 +1,10 @@
 -- Where a function gives the place of each key, each entry of the arena of types is stated.
 use Rattle.std.proofs.Common.{◌≡◌, ℕ, List, ◌∷◌, length, take, Option, Some, None, sym, ap, ◌∙◌}
-use Rattle.wit_arena.proofs.Names.{Address, Decls, Def, Docs, Exprs, Form, IsEntry, IsEntryOf, IsOccurrence, Key, Metadata, Occurrence, PackageFile, Span, Stability, TypeDef, TypeDefKind, TypeOwner, Whole, about_name, contains_at, declarations, entry, first_known, keys, kind_of, length-map, map, name_exprs, no_docs, option_map, owner_at, scope, slice_get, slice_get-map, stability_at, types_of}
+use Rattle.wit_arena.proofs.Names.{Address, Decls, Def, Docs, Exprs, Form, IsEntry, IsEntryOf, IsOccurrence, Key, Metadata, Occurrence, PackageFile, Span, Stability, TypeDef, TypeDefKind, TypeOwner, Whole, about_name, contains_at, declarations, entry, first_known, keys, kind_of, length-map, map, name_exprs, no_docs, option_map, owner_at, scope, slice_get, slice_get-map, stability_at, types_of, GivesPlaces}
 use Rattle.wit_types.specs.declared.types.TypeOwner.TheVariants as owner
 use Rattle.wit_types.specs.declared.types.«Type».{«Type» as Ty}
 use Rattle.wit_arena.specs.Occurrences.{settled}
-use Rattle.wit_arena.proofs.Placing.{GivesPlaces, gives_used, all_at-types_of}
+use Rattle.wit_arena.proofs.Placing.{gives_used, all_at-types_of}
 
 kind_stated : (k : Form × List Ty) (form : Form) (parts : List Ty) → k.0 ≡ form → k.1 ≡ parts → k ≡ (form, parts)
 kind_stated k form parts same_form same_parts = λ i. (same_form i, same_parts i)

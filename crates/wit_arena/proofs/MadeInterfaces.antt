@@ -1,10 +1,9 @@
 -- Where a function gives the place of each key, each interface of the package is stated.
 use Rattle.std.proofs.Common.{◌≡◌, ℕ, List, [], Option, Some, None, ap, ◌∙◌}
-use Rattle.wit_arena.proofs.Names.{Docs, ForeignVisit, Function, Interface, IsForeignInterface, IsInterface, Item, Key, Metadata, PackageFile, Span, Stability, about, address, by_name, declared_metadata, foreign_interface, function_in, functions as item_functions, interface, map_map, name_places, names_in_turn, own_interface, placed, placed_functions, metadata, no_docs}
+use Rattle.wit_arena.proofs.Names.{Docs, ForeignVisit, Function, Interface, IsForeignInterface, IsInterface, Item, Key, Metadata, PackageFile, Span, Stability, about, address, by_name, declared_metadata, foreign_interface, function_in, functions as item_functions, interface, map_map, name_places, names_in_turn, own_interface, placed, placed_functions, metadata, no_docs, GivesPlaces}
 use Rattle.wit_arena.proofs.Ordered.{Ordered, ordered_names, turned}
 use Rattle.wit_arena.proofs.PackageIfDone.{IsResolvedInterface}
-use Rattle.wit_arena.proofs.Placing.{GivesPlaces}
-use Rattle.wit_arena.proofs.PlacingFunctions.{functions-in, types-places}
+use Rattle.wit_arena.proofs.PlacingFunctions.{types-places}
 use Rattle.wit_arena.proofs.Turns.{foreign_turned}
 
 abbrev fields : Option (List ℕ) → List (List ℕ × ℕ) → List (List ℕ × Function) → Docs → Stability → Option ℕ → Span → Option ℕ → Interface
@@ -30,6 +29,6 @@ module _ (id : Key → ℕ) (ks : List Key) (gives : GivesPlaces id ks) where
   own_interface-as_stated order o i in_turn h =
       let s = address o.item in
       let types = types-places id ks gives (turned o) i.types h.types ∙ ap (name_places id s) in_turn in
-      let made = functions-in id ks gives s (item_functions o.item) h.functions.0 h.functions.1 in
+      let made = h.functions.1 id gives in
       let functions = h.functions.2 ∙ ap placed_functions made ∙ ap (placed Some) (map_map by_name (function_in id s) (item_functions o.item)) in
       interface_stated (about o.item.declared).called (about o.item.declared).id.span (declared_metadata o.item.declared) i (own_interface id order o.item).types (own_interface id order o.item).functions h.says types functions

@@ -1,12 +1,12 @@
 -- Of legal files, a package whose arenas are given by their relations is what they make.
 use Rattle.std.proofs.Common.{◌≡◌, ℕ, List, ◌++◌, Some, refl, sym, ap, ◌∙◌, subst}
-use Rattle.wit_arena.proofs.Names.{Address, AreRequired, IsEntryOf, IsLegal, Item, Key, Makes, Occurrence, PackageFile, TypeDef, UnresolvedPackage, address, all_items, all_occurrences, first_docs, firsts, flat_map, foreign_interface, foreign_interfaces, foreign_world, foreign_worlds, headers, in_order, interface_scopes, item_turns, keys, last_header, map, option_map, own_interface, own_interfaces, own_world, owner_at, package_of, position_or_len, scope, slice_get, take, turn_handles, world_scopes, worlds_of}
+use Rattle.wit_arena.proofs.Names.{Address, AreRequired, IsEntryOf, IsLegal, Item, Key, Makes, Occurrence, PackageFile, TypeDef, UnresolvedPackage, address, all_items, all_occurrences, first_docs, firsts, flat_map, foreign_interface, foreign_interfaces, foreign_world, foreign_worlds, headers, in_order, interface_scopes, item_turns, keys, last_header, map, option_map, own_interface, own_interfaces, own_world, owner_at, package_of, position_or_len, scope, slice_get, take, turn_handles, world_scopes, worlds_of, GivesPlaces}
 use Rattle.wit_tree.specs.declared.tree.PackageName.{PackageName as Header}
 use Rattle.wit_arena.proofs.Ordered.{Ordered, OrderedWorld, all_inside, all_turns, interface_addresses, world_addresses}
 use Rattle.wit_arena.proofs.PackageIfDone.{IsPackage, NamesOthers}
 use Rattle.wit_arena.proofs.SameKeys.{same_key, same_key_determines}
 use Rattle.wit_arena.proofs.Occurrence.{collects-firsts}
-use Rattle.wit_arena.proofs.Placing.{GivesPlaces, gives_places}
+use Rattle.wit_arena.proofs.Placing.{gives_places}
 use Rattle.wit_arena.proofs.MadeEntries.{entries_count, entries_stated}
 use Rattle.wit_arena.proofs.MadeScopes.{scope_place-found, interface_scopes-differ, world_scopes-differ}
 use Rattle.wit_arena.proofs.MadeSides.{ArePlaced}

@@ -1,14 +1,13 @@
 -- Where a function gives the place of each key, and scopes are where they are stated to, each world of the package is stated.
 use Rattle.std.proofs.Common.{◌≡◌, ℕ, List, [], ◌∷◌, ◌++◌, Option, refl, sym, ap, ◌∙◌, subst}
-use Rattle.wit_arena.proofs.Names.{Address, AreSideItems, Def, Docs, Exported, ForeignVisit, Function, Imported, Include, IsForeignWorld, IsInclude, IsWorld, Item, Key, Metadata, ScopeName, Span, Stability, TopName, Type_, World, WorldInclude, WorldItem, WorldKey, WorldNamed, WorldSide, about, address, declared_metadata, entries_on, entries_walked, flat_map, foreign_world, function_in, functions as item_functions, include_in, includes, inline_items, item_function, leads, local_id, local_name, map, name_imports, name_places, names_in_turn, own_world, settled, side_items, target_scope, type_imports, world, world_entries, world_types, metadata, no_docs}
+use Rattle.wit_arena.proofs.Names.{Address, AreSideItems, Def, Docs, Exported, ForeignVisit, Function, Imported, Include, IsForeignWorld, IsInclude, IsWorld, Item, Key, Metadata, ScopeName, Span, Stability, TopName, Type_, World, WorldInclude, WorldItem, WorldKey, WorldNamed, WorldSide, about, address, declared_metadata, entries_on, entries_walked, flat_map, foreign_world, function_in, functions as item_functions, include_in, includes, inline_items, item_function, leads, local_id, local_name, map, name_imports, name_places, names_in_turn, own_world, settled, side_items, target_scope, type_imports, world, world_entries, world_types, metadata, no_docs, GivesPlaces}
 use Rattle.wit_model.specs.declared.world.IncludeName.{IncludeName}
 use Rattle.wit_model.specs.declared.world.WorldKey.TheVariants as key
 use Rattle.wit_arena.proofs.Ordered.{OrderedWorld, addresses, ordered_names, turned}
 use Rattle.wit_arena.proofs.PackageIfDone.{IsResolvedWorld}
 use Rattle.wit_arena.proofs.ScopesInTurn.{ordered_addresses}
 use Rattle.wit_arena.proofs.MadeSides.{ArePlaced, side_items-as_stated}
-use Rattle.wit_arena.proofs.Placing.{GivesPlaces}
-use Rattle.wit_arena.proofs.PlacingFunctions.{functions-in, types-places, one_by_one-image}
+use Rattle.wit_arena.proofs.PlacingFunctions.{types-places, one_by_one-image}
 
 abbrev Entries : Type 0
 Entries = List (WorldKey × WorldItem)
@@ -64,7 +63,7 @@ module _ (id : Key → ℕ) (ks : List Key) (gives : GivesPlaces id ks) (ss : Li
         let s = address i in
         let names = ordered_names o.own in
         let written = ordered_addresses o.inside (inline_items i) inside in
-        let made = functions-in id ks gives s (item_functions i) h.sides.functions h.sides.are in
+        let made = h.sides.are id gives in
         let types = types-places id ks gives (turned o.own) (world_types w) h.types in
         let named = ap (type_imports names) types ∙ type_imports-as_stated id s names ∙ ap (name_imports id s) in_turn in
         let imported = side_stated Imported i (addresses o.inside) h.sides.functions h.sides.imports.0 written made h.sides.imports.1 in

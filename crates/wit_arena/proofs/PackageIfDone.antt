@@ -1,8 +1,9 @@
 -- The package that files make, part by part: what the steps of resolving them come to.
 use Rattle.std.proofs.Common.{◌≡◌, ℕ, List, Some, sym, ap, ◌∙◌, subst, arith, ◌+◌, ◌++◌, length, inl, inr, refl, append_assoc}
-use Rattle.wit_arena.proofs.Names.{Address, AreIncludes, AreRequired, Collects, Exported, Function, HasSide, HasTypes, Imported, Interface, IsForeignInterface, IsForeignWorld, IsFunction, IsInterface, IsOccurrence, IsWorld, Key, Occurrence, OneByOne, PackageFile, Required, TypeDef, UnresolvedPackage, World, [], about, address, all_occurrences, declarations, declared_metadata, dep, first_foreign_uses, flat_map, foreign_interfaces, foreign_packages, foreign_worlds, functions as item_functions, includes, keys, map, placed_functions, turn_handles, type_imports, world_types, AreAt, Decls, Def, ScopeName, SourceFunction, TypeOwner, at_within, differ_at, kind_of, local_name, lookup-at, map_at, name_exprs, one, option_map, scope, slice_get, slice_get-map, slice_get_within, AddsForeign, AreFunctions, AreSideItems, ForeignVisit, Id, IsOrder, Item, Names, Turned, WorldArenas, all_items, at_back, at_part, at_prefix, flat_map-append, functions, in_order, inline_items, interfaces_of, item_rows, length-map, map-append, map_map, resolved_scope, rows_of, scope_names, settled, side_items, visited, worlds_of}
+use Rattle.wit_arena.proofs.Names.{Address, AreIncludes, AreRequired, Collects, Exported, Function, HasSide, HasTypes, Imported, Interface, IsForeignInterface, IsForeignWorld, IsInterface, IsOccurrence, IsWorld, Key, Occurrence, OneByOne, PackageFile, Required, TypeDef, UnresolvedPackage, World, [], about, address, all_occurrences, declarations, declared_metadata, dep, first_foreign_uses, flat_map, foreign_interfaces, foreign_packages, foreign_worlds, functions as item_functions, includes, keys, map, placed_functions, turn_handles, type_imports, world_types, AreAt, Decls, Def, ScopeName, SourceFunction, TypeOwner, at_within, differ_at, kind_of, local_name, lookup-at, map_at, name_exprs, one, option_map, scope, slice_get, slice_get-map, slice_get_within, AddsForeign, AreFunctions, AreSideItems, ForeignVisit, Id, IsOrder, Item, Names, Turned, WorldArenas, all_items, at_back, at_part, at_prefix, flat_map-append, functions, in_order, inline_items, interfaces_of, item_rows, length-map, map-append, map_map, resolved_scope, rows_of, scope_names, settled, side_items, visited, worlds_of}
 use Rattle.wit_arena.proofs.Ordered.{AreOrdered, Ordered, ordered_names, turned, OrderedWorld, all_turns, all_inside, addresses, interface_addresses, world_addresses, world_turns}
 use Rattle.wit_arena.proofs.OneKind.{all_at_untaken}
+use Rattle.wit_arena.proofs.PlacingFunctions.{IsFunction, function_of, made_count}
 use Rattle.wit_arena.proofs.Shape.{entry_of_key}
 use Rattle.wit_arena.proofs.Resolving.{DoneScope, turn_of, IsPresent, members}
 use Rattle.wit_arena.proofs.Prefix.{interface_scope, prefix_scopes}
@@ -20,13 +21,13 @@ BothParts {X} {Y} {Z} First Then xs ys zs = (prefix : List Z) × (rest : List Z)
 pub record IsResolvedInterface (ks : List Key) (o : Ordered) (i : Interface) : Type 0 where
   pub says : IsInterface (about o.item.declared).called (about o.item.declared).id.span (declared_metadata o.item.declared) i
   pub types : HasTypes ks (turned o) i.types
-  pub functions : (fs : List Function) × OneByOne (IsFunction ks (address o.item)) (item_functions o.item) fs × (i.functions ≡ placed_functions fs)
+  pub functions : (fs : List Function) × AreFunctions ks (address o.item) (item_functions o.item) fs × (i.functions ≡ placed_functions fs)
 
 -- After the names of types a world has on its sides what an item has there, with functions over the types of the package, and each setter
 -- after its getter where nothing is included; the interfaces have these addresses, and those that are written in it have those.
 pub record HasSides (ks : List Key) (interfaces inside : List Address) (o : Ordered) (w : World) : Type 0 where
   pub functions : List Function
-  pub are : OneByOne (IsFunction ks (address o.item)) (item_functions o.item) functions
+  pub are : AreFunctions ks (address o.item) (item_functions o.item) functions
   pub imports : HasSide interfaces inside o.item Imported functions (type_imports (ordered_names o) (world_types w)) w.imports
   pub exports : HasSide interfaces inside o.item Exported functions [] w.exports
 
@@ -109,9 +110,9 @@ module _ (files : List PackageFile) (decls : Decls) (written : List Occurrence) 
   function_at t c k fn at fat =
       let are = d.made t c at in
       let lt = slice_get_within c.functions k fn fat in
-      let count = are.count in
+      let count = made_count ks c.address d.occurrence.keyed.once c.functions c.made are in
       let f = at_within c.made k (omega arith) in
-      (f.0, f.1, are.each k fn f.0 fat f.1)
+      (f.0, f.1, function_of ks c.address c.functions c.made are k fn f.0 fat f.1)
 
 -- What follows for a package once all interfaces and all worlds are done.
 module _ (files : List PackageFile) (is ws : List Item) (start middle : List TypeDef) (prefix xs : List Interface) (wprefix : List World) (foreign : AddsForeign files start prefix wprefix) (irs wrs : List Required) (new : List TypeDef) (a : WorldArenas) (d : InterfacesDone files is ws prefix is middle xs irs) (e : AreWorldsDone files is ws wprefix d.ordered (prefix_scopes files prefix ++ d.scopes) ws new a wrs) where

@@ -1,9 +1,9 @@
 -- Where a function gives the place of each key, what means written functions and for names is stated.
-use Rattle.std.proofs.Common.{◌≡◌, ℕ, suc, List, [], ◌∷◌, Option, Some, None, refl, sym, ap, ◌∙◌, arith}
-use Rattle.wit_arena.proofs.Names.{Address, Constructor, Def, Docs, Function, FunctionKind, HasTypes, Id, IsAt, IsFunction, IsKind, IsParam, Key, Method, OneByOne, Param, Role, ScopeName, Shape, SourceFunction, SourceParam, Span, Stability, Static, Turned, all_params, expr_of, function_in, kinds_of, local_name, map, name_places, option_map, option_to_list, role_kind, slice_get, type_of}
+use Rattle.std.proofs.Common.{◌≡◌, ℕ, suc, List, [], ◌∷◌, ◌++◌, length, Option, Some, None, refl, sym, ap, ◌∙◌, arith}
+use Rattle.wit_arena.proofs.Names.{Address, AllDiffer, AreFunctions, AreMetadata, Def, Docs, Function, FunctionKind, GivesPlaces, HasTypes, Id, IsAt, Key, OneByOne, Param, ScopeName, Shape, SourceFunction, SourceParam, Span, Stability, Turned, all_params, docs_of, expr_of, exprs_of, function_in, function_types, gathered, length-map, local_name, map, map-append, map_map, metadata, name_places, option_map, option_to_list, role_kind, signature, slice_get, slice_get-map, type_of, types_of}
 use Rattle.wit_types.specs.declared.types.«Type».{«Type» as Ty}
-use Rattle.wit_functions.specs.declared.function.FunctionKind.TheVariants as kind
-use Rattle.wit_arena.proofs.Placing.{GivesPlaces, at-type_of}
+use Rattle.wit_arena.proofs.OneKind.{Extended, same_some}
+use Rattle.wit_arena.proofs.Placing.{at_places, gives_fewer, gives_in, place_in}
 
 -- what is one by one beside a list, where what is beside each of its elements is stated, is its image
 pub one_by_one-image : {X Y : Type 0} (Holds : X → Y → Type 0) (f : X → Y) (xs : List X) (ys : List Y) → ((k : ℕ) (x : X) (y : Y) → slice_get xs k ≡ Some x → Holds x y → y ≡ f x) → OneByOne Holds xs ys → ys ≡ map f xs
@@ -11,42 +11,107 @@ one_by_one-image Holds f [] [] as_stated h = refl
 one_by_one-image Holds f (x ∷ xs) (y ∷ ys) as_stated h = cc (as_stated 0 x y refl (h.each 0 x y refl refl), one_by_one-image Holds f xs ys (λ k. as_stated (suc k)) (record { count = omega (arith, h.count); each = λ k. h.each (suc k) }))
 one_by_one-image Holds f xs ys as_stated h = absurd (omega (arith, h.count))
 
+-- what is at a place of an image
+pub one_mapped : {X Y : Type 0} (g : X → Y) (xs : List X) (ys : List Y) → ys ≡ map g xs → (k : ℕ) (x : X) (y : Y) → slice_get xs k ≡ Some x → slice_get ys k ≡ Some y → y ≡ g x
+one_mapped {X} {Y} g xs ys same k x y at there = same_some (sym there ∙ ap (λ (l : List Y). slice_get l k) same ∙ slice_get-map g xs k ∙ ap (option_map g) at)
+
 abbrev param : List ℕ → Ty → Span → Param
 param name ty span = record { name = name; ty = ty; span = span }
 
 abbrev function : List ℕ → FunctionKind → List Param → Option Ty → Docs → Stability → Span → Option (List ℕ) → Function
 function name kind params result docs stability span id = record { name = name; kind = kind; params = params; result = result; docs = docs; stability = stability; span = span; external_id = id }
 
+-- what a parameter of the package says apart from its type, and what the written one does
+abbrev pub said : Param → List ℕ × Span
+said p = (p.name, p.span)
+
+abbrev pub as_written : SourceParam → List ℕ × Span
+as_written w = (w.name, w.span)
+
+module _ (id : Key → ℕ) (s : Address) where
+  abbrev pub type_in : Shape → Ty
+  type_in x = type_of id (expr_of s x)
+
+  abbrev param_in : SourceParam → Param
+  param_in x = param x.name (type_in x.shape) x.span
+
+  listed : (o : Option Shape) → option_to_list (option_map type_in o) ≡ map type_in (option_to_list o)
+  listed None = refl
+  listed (Some x) = refl
+
+  -- the types of a function are those of its signature
+  pub types_in : (fn : SourceFunction) → function_types (function_in id s fn) ≡ map type_in (signature fn)
+  types_in fn =
+      let shapes = map (λ (x : SourceParam). x.shape) (all_params fn) in
+      ap (λ (l : List Ty). l ++ option_to_list (option_map type_in fn.result)) (map_map (λ (p : Param). p.ty) param_in (all_params fn) ∙ sym (map_map type_in (λ (x : SourceParam). x.shape) (all_params fn)))
+      ∙ ap (λ (l : List Ty). map type_in shapes ++ l) (listed fn.result)
+      ∙ sym (map-append type_in shapes (option_to_list fn.result))
+
+  pub types_gathered : (xs : List Shape) → types_of id (exprs_of s (gathered xs)) ≡ map type_in xs
+  types_gathered [] = refl
+  types_gathered (x ∷ xs) = ap (λ (l : List Ty). type_in x ∷ l) (types_gathered xs)
+
+  -- parameters and a result are given by what they say and by their types
+  parts_same : (ws : List SourceParam) (ps : List Param) (x : Option Shape) (t : Option Ty) → map said ps ≡ map as_written ws → map (λ (p : Param). p.ty) ps ++ option_to_list t ≡ map type_in (map (λ (w : SourceParam). w.shape) ws ++ option_to_list x) → (ps ≡ map param_in ws) × (t ≡ option_map type_in x)
+  parts_same [] [] None None alike typed = (refl, refl)
+  parts_same [] [] (Some x) (Some t) alike typed = (refl, (let same : t ≡ type_in x = cc in ap Some same))
+  parts_same (w ∷ ws) (p ∷ ps) x t alike typed =
+      let rest = parts_same ws ps x t (cc) (cc) in
+      let head : said p ≡ as_written w = cc in
+      let ty : p.ty ≡ type_in w.shape = cc in
+      let name : p.name ≡ w.name = ap (λ (n : List ℕ × Span). n.0) head in
+      let span : p.span ≡ w.span = ap (λ (n : List ℕ × Span). n.1) head in
+      let same : param p.name p.ty p.span ≡ param_in w = cc (name, ty, span) in
+      (ap (λ (q : Param). q ∷ ps) same ∙ ap (λ (l : List Param). param_in w ∷ l) rest.0, rest.1)
+  parts_same ws ps x t alike typed = absurd (let f : ⊥ = cc in f)
+
+  -- and so is a function
+  pub function_same : (fn : SourceFunction) (f : Function) → f.name ≡ fn.name → f.kind ≡ role_kind (λ (of : Id). id (Def s of.name.now)) fn.role → map said f.params ≡ map as_written (all_params fn) → function_types f ≡ map type_in (signature fn) → f.span ≡ fn.span → AreMetadata (metadata (docs_of fn.docs) fn.attributes) f.docs f.stability f.external_id → f ≡ function_in id s fn
+  function_same fn f name kind alike typed span noted =
+      let both = parts_same (all_params fn) f.params fn.result f.result alike typed in
+      let same : function f.name f.kind f.params f.result f.docs f.stability f.span f.external_id ≡ function_in id s fn = cc (name, kind, both.0, both.1, noted.docs, noted.stability, span, noted.external_id) in
+      same
+
+-- over the places of these keys, this is a function of a scope
+abbrev pub IsFunction : List Key → Address → SourceFunction → Function → Type 0
+IsFunction ks s written f = (id : Key → ℕ) → GivesPlaces id ks → f ≡ function_in id s written
+
+-- so it is over those of more
+pub function_extended : {a b : List Key} → Extended a b → (s : Address) (fn : SourceFunction) (f : Function) → IsFunction a s fn f → IsFunction b s fn f
+function_extended g s fn f is = λ id gives. is id (gives_fewer g id gives)
+
+-- types are at the places of shapes, one for each
+abbrev pub AreTyped : List Key → Address → List Shape → List Ty → Type 0
+AreTyped ks s xs ts = OneByOne (λ (x : Shape) (t : Ty). IsAt ks (expr_of s x) t) xs ts
+
+module _ (ks : List Key) (s : Address) where
+  -- functions are the written ones exactly where each is
+  module _ (fns : List SourceFunction) (fs : List Function) where
+    pub function_of : AreFunctions ks s fns fs → (k : ℕ) (fn : SourceFunction) (f : Function) → slice_get fns k ≡ Some fn → slice_get fs k ≡ Some f → IsFunction ks s fn f
+    function_of are k fn f at there = λ id gives. one_mapped (function_in id s) fns fs (are id gives) k fn f at there
+
+    pub functions_by : length fs ≡ length fns → ((k : ℕ) (fn : SourceFunction) (f : Function) → slice_get fns k ≡ Some fn → slice_get fs k ≡ Some f → IsFunction ks s fn f) → AreFunctions ks s fns fs
+    functions_by count each = λ id gives. one_by_one-image (IsFunction ks s) (function_in id s) fns fs (λ k fn f at is. is id gives) (record { count = count; each = each })
+
+  module _ (differ : AllDiffer ks) where
+    pub made_count : (fns : List SourceFunction) (fs : List Function) → AreFunctions ks s fns fs → length fs ≡ length fns
+    made_count fns fs are = ap length (are (place_in ks 0) (gives_in ks 0 differ)) ∙ length-map fns (function_in (place_in ks 0) s)
+
+    module _ (fn : SourceFunction) (f : Function) (is : IsFunction ks s fn f) where
+      pub made_name : f.name ≡ fn.name
+      made_name = ap (λ (g : Function). g.name) (is (place_in ks 0) (gives_in ks 0 differ))
+
+      types_over : (far : ℕ) → function_types f ≡ map (type_in (place_in ks far) s) (signature fn)
+      types_over far = ap function_types (is (place_in ks far) (gives_in ks far differ)) ∙ types_in (place_in ks far) s fn
+
+      -- the types of a function are at the places of its signature
+      pub function_typed : AreTyped ks s (signature fn) (function_types f)
+      function_typed = record {
+        count = ap length (types_over 0) ∙ length-map (signature fn) (type_in (place_in ks 0) s);
+        each = λ k x t at there. at_places ks (expr_of s x) t (one_mapped (type_in (place_in ks 0) s) (signature fn) (function_types f) (types_over 0) k x t at there) (one_mapped (type_in (place_in ks 1) s) (signature fn) (function_types f) (types_over 1) k x t at there);
+      }
+
 module _ (id : Key → ℕ) (ks : List Key) (gives : GivesPlaces id ks) where
-  kind-role : (s : Address) (role : Role) (k : FunctionKind) → IsKind (λ name r. slice_get ks r ≡ Some (Def s name)) role k → k ≡ role_kind (λ (of : Id). id (Def s of.name.now)) role
-  kind-role s (Method of form) k h = h.1 ∙ ap (kinds_of form).method (sym (gives.at h.0 (Def s of.name.now) h.2))
-  kind-role s (Static of form) k h = h.1 ∙ ap (kinds_of form).static (sym (gives.at h.0 (Def s of.name.now) h.2))
-  kind-role s (Constructor of) k h = h.1 ∙ ap kind.Constructor (sym (gives.at h.0 (Def s of.name.now) h.2))
-  kind-role s _ k h = h
-
-  abbrev param_in : Address → SourceParam → Param
-  param_in s x = param x.name (type_of id (expr_of s x.shape)) x.span
-
-  param_stated : (s : Address) (x : SourceParam) (p : Param) → IsParam ks s x p → p ≡ param_in s x
-  param_stated s x p h =
-      let same : param p.name p.ty p.span ≡ param_in s x = cc (h.0, h.1, at-type_of id ks gives (expr_of s x.shape) p.ty h.2) in
-      same
-
-  result_stated : (s : Address) (x : Option Shape) (t : Option Ty) → OneByOne (λ (y : Shape) (u : Ty). IsAt ks (expr_of s y) u) (option_to_list x) (option_to_list t) → t ≡ option_map (λ y. type_of id (expr_of s y)) x
-  result_stated s None None h = refl
-  result_stated s (Some x) (Some t) h = ap Some (at-type_of id ks gives (expr_of s x) t (h.each 0 x t refl refl))
-  result_stated s x t h = absurd (omega (arith, h.count))
-
-  pub function-in : (s : Address) (written : SourceFunction) (f : Function) → IsFunction ks s written f → f ≡ function_in id s written
-  function-in s written f h =
-      let params = one_by_one-image (IsParam ks s) (param_in s) (all_params written) f.params (λ k x p at. param_stated s x p) h.params in
-      let result = result_stated s written.result f.result h.result in
-      let same : function f.name f.kind f.params f.result f.docs f.stability f.span f.external_id ≡ function_in id s written = cc (h.name, kind-role s written.role f.kind h.kind, params, result, h.metadata.docs, h.metadata.stability, h.span, h.metadata.external_id) in
-      same
-
-  pub functions-in : (s : Address) (written : List SourceFunction) (fs : List Function) → OneByOne (IsFunction ks s) written fs → fs ≡ map (function_in id s) written
-  functions-in s written fs h = one_by_one-image (IsFunction ks s) (function_in id s) written fs (λ k fn f at. function-in s fn f) h
-
   places_stated : (s : Address) (xs : List ScopeName) (types : List (List ℕ × ℕ)) → map (λ n. n.0) types ≡ map local_name xs → ((k : ℕ) (name : List ℕ) (i : ℕ) → slice_get types k ≡ Some (name, i) → slice_get ks i ≡ Some (Def s name)) → types ≡ name_places id s xs
   places_stated s (x ∷ xs) ((name, i) ∷ ts) names at = cc (gives.at i (Def s name) (at 0 name i refl), places_stated s xs ts (cc) (λ k. at (suc k)))
   places_stated s [] [] names at = refl

@@ -93,7 +93,7 @@ no_item [] p name = refl
 no_item (i ∷ is) p name = rw (not_declared i.declared p name) (no_item is p name)
 
 pub no_functions : (ks : List Key) (s : Address) → AreFunctions ks s [] []
-no_functions ks s = record { count = refl; each = λ k fn f at. absurd (let f : ⊥ = cc in f) }
+no_functions ks s = λ id gives. refl
 
 -- what is taken holds no type
 no_types_used : (ts : List ForeignUse) → flat_map name_types (map (λ (t : ForeignUse). ForeignName t.attributes t.id) ts) ≡ []

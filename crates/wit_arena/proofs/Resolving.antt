@@ -1,11 +1,12 @@
 -- What occurs in types, one after another.
-use Rattle.std.proofs.Common.{ℕ, List, [], ◌∷◌, ◌++◌, refl, sym, ap, ◌∙◌, ◌≡◌, map, Some, subst, arith, ◌+◌, length, length-append}
-use Rattle.wit_arena.proofs.Names.{Address, AreAt, AreResolved, End, Env, Exprs, IsInterned, Occurrence, Of, Span, Stability, TypeDef, TypeDefKind, Whole, all_seen, append-nil, joined, keys, kind_of, one, Shape, Shapes, expr_of, exprs_of, seen, shape_occurrences, shapes_occurrences, AreFunctions, AreNames, Collects, Constructor, Def, Form, Function, FunctionKind, IsAt, IsFunction, IsKind, IsParam, Key, Method, OneByOne, Param, Role, SourceFunction, SourceParam, Static, Unknown, all_function_occurrences, all_params, at_within, flat_map, flat_map-flat_map, function_types, gathered, length-map, map_at, option_to_list, signature, slice_get, slice_get_within, AddsFunctions, AreMetadata, AreShapes, Freestanding, Names, OnSide, SaysParam, at_back, at_prefix, docs_of, env_of, flat_map-append, metadata, option_map, slice_get-map, AllDiffer, AreDistinct, AreRequired, Decls, FunctionKey, IsOccurrence, PackageFile, Required, ResolvedScope, ScopeName, Turned, TypeOwner, functions_at, local_name, local_names, name_exprs, scope, turn_handles}
+use Rattle.std.proofs.Common.{ℕ, List, [], ◌∷◌, ◌++◌, refl, sym, ap, ◌∙◌, ◌≡◌, map, Some, subst, arith, ◌+◌}
+use Rattle.wit_arena.proofs.Names.{Address, AreAt, AreResolved, End, Env, Exprs, IsInterned, Occurrence, Of, Span, Stability, TypeDef, TypeDefKind, Whole, all_seen, append-nil, joined, keys, kind_of, one, Shape, Shapes, expr_of, exprs_of, seen, shape_occurrences, shapes_occurrences, AreFunctions, AreNames, Collects, Def, Form, Function, Key, OneByOne, Param, SourceFunction, SourceParam, Unknown, all_function_occurrences, all_params, at_within, flat_map, flat_map-flat_map, function_types, gathered, signature, slice_get, slice_get_within, AddsFunctions, AreMetadata, AreShapes, Names, docs_of, env_of, flat_map-append, metadata, AllDiffer, AreDistinct, AreRequired, Decls, FunctionKey, IsOccurrence, PackageFile, Required, ResolvedScope, ScopeName, Turned, TypeOwner, functions_at, local_name, local_names, name_exprs, scope, turn_handles, GivesPlaces, Id, function_in, map-append, role_kind}
 use Rattle.wit_types.specs.declared.types.«Type».{«Type» as Ty}
-use Rattle.wit_types.specs.declared.types.«Type».TheVariants.{Id}
-use Rattle.wit_arena.proofs.OneKind.{all_at_extended, all_at_joined, all_seen-joined, Extended, key_extended, at_extended}
+use Rattle.wit_types.specs.declared.types.«Type».TheVariants as type
+use Rattle.wit_arena.proofs.OneKind.{all_at_extended, all_at_joined, all_seen-joined}
 use Rattle.wit_arena.proofs.Occurrence.{keys-append, collects_extended, extends_then, names_kept, occur_whole, IsOnly, Has, no_defs, has_from, collects_append}
-use Rattle.wit_arena.proofs.Required.{one_by_one-append, one_by_one-more, one_by_one-none}
+use Rattle.wit_arena.proofs.Placing.{all_at-types_of, gives_fewer}
+use Rattle.wit_arena.proofs.PlacingFunctions.{as_written, function_same, said, types_gathered}
 use Rattle.wit_arena.proofs.FreeNames.{free_of, AreStated}
 use Rattle.wit_syntax.specs.Shape as shape
 use Rattle.wit_arena.specs.Occurrences as exprs
@@ -25,13 +26,13 @@ resolved_more {old} {mid} {new} {s} {env} {a} {b} {es} {fs} {ts} {us} p q = reco
 }
 
 -- the whole after its parts
-pub resolved_whole : {old mid new : List TypeDef} {s : Address} {env : Env} {a : List Occurrence} {es : Exprs} (kind : TypeDefKind) (given : Stability) (span : Span) (i : ℕ) → IsOnly kind → AreResolved old mid s env a es (kind_of kind).1 → IsInterned mid new kind given span i → AreResolved old new s env (a ++ record { key = Whole (kind_of kind).0 es; span = span; given = given } ∷ []) (one (Of (kind_of kind).0 es)) (Id i ∷ [])
+pub resolved_whole : {old mid new : List TypeDef} {s : Address} {env : Env} {a : List Occurrence} {es : Exprs} (kind : TypeDefKind) (given : Stability) (span : Span) (i : ℕ) → IsOnly kind → AreResolved old mid s env a es (kind_of kind).1 → IsInterned mid new kind given span i → AreResolved old new s env (a ++ record { key = Whole (kind_of kind).0 es; span = span; given = given } ∷ []) (one (Of (kind_of kind).0 es)) (type.Id i ∷ [])
 resolved_whole {old} {mid} {new} {s} {env} {a} {es} kind given span i only p interned = record {
   same = keys-append a (record { key = Whole (kind_of kind).0 es; span = span; given = given } ∷ []) ∙ ap (λ ks. ks ++ Whole (kind_of kind).0 es ∷ []) p.same ∙ sym (append-nil (all_seen es ++ Whole (kind_of kind).0 es ∷ []));
   from = λ decls ms m names. (
       let x = p.from decls ms m names in
       let y = occur_whole decls x.now mid new kind given span es i only x.occurrence x.holds interned in
-      extends_then (λ ks. AreAt ks (one (Of (kind_of kind).0 es)) (Id i ∷ [])) x y ((i, refl, y.holds), tt));
+      extends_then (λ ks. AreAt ks (one (Of (kind_of kind).0 es)) (type.Id i ∷ [])) x y ((i, refl, y.holds), tt));
 }
 
 -- What occurs in types, by its keys.
@@ -82,46 +83,6 @@ whole_in_functions s fns form parts h =
     let x = has_from (shape_occurrences s Unknown) (signature f.1) (Whole form parts) f.3 in
     record { index = f.0; fn = f.1; among = f.2; position = x.0; shape = x.1; written = x.2; has = subst (λ (ks : List Key). Has ks (Whole form parts)) (keys-shape s Unknown x.1) x.3 }
 
--- a function is the written one over more keys, too
-kind_extended : {a b : List Key} → Extended a b → (s : Address) (role : Role) (k : FunctionKind) → IsKind (λ name r. slice_get a r ≡ Some (Def s name)) role k → IsKind (λ name r. slice_get b r ≡ Some (Def s name)) role k
-kind_extended g s (Method of form) k h = (h.0, h.1, key_extended g h.0 (Def s of.name.now) h.2)
-kind_extended g s (Static of form) k h = (h.0, h.1, key_extended g h.0 (Def s of.name.now) h.2)
-kind_extended g s (Constructor of) k h = (h.0, h.1, key_extended g h.0 (Def s of.name.now) h.2)
-kind_extended g s _ k h = h
-
-pub function_extended : {a b : List Key} → Extended a b → (s : Address) (fn : SourceFunction) (f : Function) → IsFunction a s fn f → IsFunction b s fn f
-function_extended g s fn f h = record {
-  name = h.name;
-  kind = kind_extended g s fn.role f.kind h.kind;
-  params = record {
-    count = h.params.count;
-    each = λ k w p at there. (let it = h.params.each k w p at there in (it.0, it.1, at_extended g (expr_of s w.shape) p.ty it.2));
-  };
-  result = record { count = h.result.count; each = λ k x t at there. at_extended g (expr_of s x) t (h.result.each k x t at there) };
-  span = h.span;
-  metadata = h.metadata;
-}
-
-pub functions_extended : {a b : List Key} → Extended a b → (s : Address) (fns : List SourceFunction) (fs : List Function) → AreFunctions a s fns fs → AreFunctions b s fns fs
-functions_extended g s fns fs h = record { count = h.count; each = λ k fn f at there. function_extended g s fn f (h.each k fn f at there) }
-
--- types are at the places of shapes, one for each
-abbrev pub AreTyped : List Key → Address → List Shape → List Ty → Type 0
-AreTyped ks s xs ts = OneByOne (λ (x : Shape) (t : Ty). IsAt ks (expr_of s x) t) xs ts
-
-params_typed : (ks : List Key) (s : Address) (written : List SourceParam) (ps : List Param) → OneByOne (IsParam ks s) written ps → AreTyped ks s (map (λ p. p.shape) written) (map (λ p. p.ty) ps)
-params_typed ks s written ps h = record {
-  count = length-map ps (λ p. p.ty) ∙ h.count ∙ sym (length-map written (λ p. p.shape));
-  each = λ k x t at there. (
-      let w = map_at (λ (p : SourceParam). p.shape) written k x at in
-      let p = map_at (λ (p : Param). p.ty) ps k t there in
-      subst (λ (y : Shape). IsAt ks (expr_of s y) t) w.2 (subst (IsAt ks (expr_of s w.0.shape)) p.2 (h.each k w.0 p.0 w.1 p.1).2));
-}
-
--- the types of a function of the package are at the places of its signature
-pub function_typed : (ks : List Key) (s : Address) (fn : SourceFunction) (f : Function) → IsFunction ks s fn f → AreTyped ks s (signature fn) (function_types f)
-function_typed ks s fn f h = one_by_one-append (λ (x : Shape) (t : Ty). IsAt ks (expr_of s x) t) (map (λ p. p.shape) (all_params fn)) (option_to_list fn.result) (map (λ (x : Param). x.ty) f.params) (option_to_list f.result) (params_typed ks s (all_params fn) f.params h.params) h.result
-
 -- each has one beside it
 pub type_of : {X Y : Type 0} {Holds : X → Y → Type 0} {xs : List X} {ys : List Y} → OneByOne Holds xs ys → (k : ℕ) (x : X) → slice_get xs k ≡ Some x → (y : Y) × (slice_get ys k ≡ Some y)
 type_of {X} {Y} {Holds} {xs} {ys} h k x at = let lt = slice_get_within xs k x at in let count = h.count in at_within ys k (omega arith)
@@ -139,7 +100,7 @@ functions_append old mid new s names fns gns fs gs p q = record {
         now = y.now;
         collects = subst (λ (l : List Occurrence). Collects ms l y.now) (sym whole) (collects_append prefix back ms x.now y.now x.collects y.collects);
         occurrence = y.occurrence;
-        holds = one_by_one-append (IsFunction (keys y.now) s) fns gns fs gs (functions_extended (collects_extended back x.now y.now y.collects) s fns fs x.holds) y.holds;
+        holds = λ id gives. ap (λ (l : List Function). l ++ gs) (x.holds id (gives_fewer (collects_extended back x.now y.now y.collects) id gives)) ∙ ap (λ (l : List Function). map (function_in id s) fns ++ l) (y.holds id gives) ∙ sym (map-append (function_in id s) fns gns);
       });
 }
 
@@ -153,60 +114,20 @@ gathered_exprs s (x ∷ xs) ys = ap (λ (es : Exprs). exprs.More (expr_of s x) e
 pub shapes_append : (old mid new : List TypeDef) (s : Address) (env : Env) (xs ys : List Shape) (ts us : List Ty) → AreShapes old mid s env xs ts → AreShapes mid new s env ys us → AreShapes old new s env (xs ++ ys) (ts ++ us)
 shapes_append old mid new s env xs ys ts us p q = subst (λ (ms : List Occurrence). AreResolved old new s env ms (exprs_of s (gathered (xs ++ ys))) (ts ++ us)) (sym (flat_map-append (shape_occurrences s Unknown) xs ys)) (subst (λ (es : Exprs). AreResolved old new s env (flat_map (shape_occurrences s Unknown) xs ++ flat_map (shape_occurrences s Unknown) ys) es (ts ++ us)) (sym (gathered_exprs s xs ys)) (resolved_more p q))
 
-kind_present : (ks : List Key) (s : Address) (env : Env) (role : Role) (k : FunctionKind) → AreNames ks s env → IsKind (λ name r. env name ≡ Some r) role k → IsKind (λ name r. slice_get ks r ≡ Some (Def s name)) role k
-kind_present ks s env (Freestanding id form) k names h = h
-kind_present ks s env (Method of form) k names h = (h.0, h.1, names.present of.name.now h.0 h.2)
-kind_present ks s env (Static of form) k names h = (h.0, h.1, names.present of.name.now h.0 h.2)
-kind_present ks s env (Constructor of) k names h = (h.0, h.1, names.present of.name.now h.0 h.2)
-kind_present ks s env (OnSide side id form) k names h = h
-
--- types at the places of shapes, one by one
-typed_of : (ks : List Key) (s : Address) (xs : List Shape) (ts : List Ty) → AreAt ks (exprs_of s (gathered xs)) ts → AreTyped ks s xs ts
-typed_of ks s [] [] h = one_by_one-none (λ (y : Shape) (u : Ty). IsAt ks (expr_of s y) u)
-typed_of ks s (x ∷ xs) (t ∷ ts) h = one_by_one-more (λ (y : Shape) (u : Ty). IsAt ks (expr_of s y) u) x t xs ts h.0 (typed_of ks s xs ts h.1)
-typed_of ks s [] (t ∷ ts) h = absurd h
-typed_of ks s (x ∷ xs) [] h = absurd h
-
--- of as many types in front, those after are those of the shapes after
-typed_prefix : (ks : List Key) (s : Address) (xs ys : List Shape) (ts us : List Ty) → length ts ≡ length xs → AreTyped ks s (xs ++ ys) (ts ++ us) → AreTyped ks s xs ts
-typed_prefix ks s xs ys ts us long h = record { count = long; each = λ k x t at there. h.each k x t (at_prefix xs ys k x at) (at_prefix ts us k t there) }
-
-typed_back : (ks : List Key) (s : Address) (xs ys : List Shape) (ts us : List Ty) → length ts ≡ length xs → AreTyped ks s (xs ++ ys) (ts ++ us) → AreTyped ks s ys us
-typed_back ks s xs ys ts us long h = record {
-  count = (let a = length-append ts us in let b = length-append xs ys in let c = h.count in omega arith);
-  each = λ k x t at there. h.each (length xs + k) x t (at_back xs ys k x at) (subst (λ (n : ℕ). slice_get (ts ++ us) (n + k) ≡ Some t) long (at_back ts us k t there));
-}
-
 -- a function of the package is the written one apart from its types
 pub record SaysFunction (env : Env) (fn : SourceFunction) (f : Function) : Type 0 where
   pub name : f.name ≡ fn.name
-  pub kind : IsKind (λ name r. env name ≡ Some r) fn.role f.kind
-  pub params : OneByOne SaysParam (all_params fn) f.params
+  pub kind : (place : Id → ℕ) → ((of : Id) (r : ℕ) → env of.name.now ≡ Some r → place of ≡ r) → f.kind ≡ role_kind place fn.role
+  pub params : map said f.params ≡ map as_written (all_params fn)
   pub span : f.span ≡ fn.span
   pub metadata : AreMetadata (metadata (docs_of fn.docs) fn.attributes) f.docs f.stability f.external_id
 
 -- a function whose types are at their places is the written one
-function_is : (ks : List Key) (s : Address) (env : Env) (fn : SourceFunction) (f : Function) → AreNames ks s env → SaysFunction env fn f → AreAt ks (exprs_of s (gathered (signature fn))) (function_types f) → IsFunction ks s fn f
-function_is ks s env fn f names says at =
-    let typed = typed_of ks s (signature fn) (function_types f) at in
-    let shapes = map (λ (p : SourceParam). p.shape) (all_params fn) in
-    let types = map (λ (x : Param). x.ty) f.params in
-    let long : length types ≡ length shapes = length-map f.params (λ (x : Param). x.ty) ∙ says.params.count ∙ sym (length-map (all_params fn) (λ (p : SourceParam). p.shape)) in
-    let prefix = typed_prefix ks s shapes (option_to_list fn.result) types (option_to_list f.result) long typed in
-    let back = typed_back ks s shapes (option_to_list fn.result) types (option_to_list f.result) long typed in
-    record {
-      name = says.name;
-      kind = kind_present ks s env fn.role f.kind names says.kind;
-      params = record {
-        count = says.params.count;
-        each = λ k w p w_at p_at. (
-            let it = says.params.each k w p w_at p_at in
-            (it.0, it.1, prefix.each k w.shape p.ty (slice_get-map (λ (q : SourceParam). q.shape) (all_params fn) k ∙ ap (option_map (λ (q : SourceParam). q.shape)) w_at) (slice_get-map (λ (q : Param). q.ty) f.params k ∙ ap (option_map (λ (q : Param). q.ty)) p_at)));
-      };
-      result = back;
-      span = says.span;
-      metadata = says.metadata;
-    }
+function_is : (ks : List Key) (s : Address) (env : Env) (fn : SourceFunction) (f : Function) → AreNames ks s env → SaysFunction env fn f → AreAt ks (exprs_of s (gathered (signature fn))) (function_types f) → (id : Key → ℕ) → GivesPlaces id ks → f ≡ function_in id s fn
+function_is ks s env fn f names says at id gives =
+    let kind = says.kind (λ (of : Id). id (Def s of.name.now)) (λ of r meant. gives.at r (Def s of.name.now) (names.present of.name.now r meant)) in
+    let types = all_at-types_of id ks gives (exprs_of s (gathered (signature fn))) (function_types f) at ∙ types_gathered id s (signature fn) in
+    function_same id s fn f says.name kind says.params types says.span says.metadata
 
 -- one function
 pub function_one : (old new : List TypeDef) (s : Address) (names : Names) (fn : SourceFunction) (f : Function) → SaysFunction (env_of names) fn f → AreShapes old new s (env_of names) (signature fn) (function_types f) → AddsFunctions old new s names (fn ∷ []) (f ∷ [])
@@ -219,7 +140,7 @@ function_one old new s names fn f says h = record {
         now = x.now;
         collects = subst (λ (l : List Occurrence). Collects ms l x.now) (sym (append-nil more)) x.collects;
         occurrence = x.occurrence;
-        holds = one_by_one-more (IsFunction (keys x.now) s) fn f [] [] (function_is (keys x.now) s (env_of names) fn f kept says x.holds) (one_by_one-none (IsFunction (keys x.now) s));
+        holds = λ id gives. ap (λ (g : Function). g ∷ []) (function_is (keys x.now) s (env_of names) fn f kept says x.holds id gives);
       });
 }
 

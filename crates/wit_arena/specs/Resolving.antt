@@ -1,14 +1,15 @@
 -- What resolving does: to the arena of types, from whatever occurred before, and to those of interfaces and worlds.
 use Rattle.std.specs.Prelude.{◌≡◌, ℕ, List, [], ◌∷◌, ◌++◌, length, map, Option, Some, None, ◌⊎◌, slice_get, nat_eq, IsSome, ◌+◌}
-use Rattle.wit_arena.specs.Names.{Address, AreDistinct, Exported, ForeignUse, Function, Id, Imported, Interface, InterfaceNamed, IsOrder, Item, Metadata, PackageFile, Param, ScopeName, Shape, Shapes, SideFunction, SideInline, SideItem, SideLink, SourceFunction, SourceParam, Span, Stability, TypeDef, TypeDefKind, TypeOwner, Type_, Unknown, Used, World, WorldNamed, about, address, all_handles, all_types, declared_metadata, first_foreign_uses, flat_map, foreign_interfaces, foreign_worlds, functions as item_functions, in_turn, includes, inline_items, insert_entry, local_name, local_names, lookup, metadata, name_types, no_docs, pointwise, rows_of, scope_names, side_items, unwrap_or, visited, written_types, «Type» as Ty, signature, stability_of}
+use Rattle.wit_arena.specs.Names.{Address, AreDistinct, Exported, ForeignUse, Function, Id, Imported, Interface, InterfaceNamed, IsOrder, Item, Metadata, PackageFile, ScopeName, Shape, Shapes, SideFunction, SideInline, SideItem, SideLink, SourceFunction, Span, Stability, TypeDef, TypeDefKind, TypeOwner, Type_, Unknown, Used, World, WorldNamed, about, address, all_handles, all_types, declared_metadata, first_foreign_uses, flat_map, foreign_interfaces, foreign_worlds, functions as item_functions, in_turn, includes, inline_items, insert_entry, local_name, local_names, lookup, metadata, name_types, no_docs, pointwise, rows_of, scope_names, side_items, unwrap_or, visited, written_types, «Type» as Ty, signature, stability_of}
 use Rattle.wit_type_tree.specs.declared.leaves.Attribute.{Attribute}
 use Rattle.wit_tree.specs.declared.tree.UseName.{UseName}
 use Rattle.wit_arena.specs.Occurrences.{Expr, Prim, Use, Of, Exprs, End, More, exprs_of, Key, Def, Whole, Occurrence, keys, IsSeen, Collects, AreAt, Decls, IsOccurrence, name_occurrences, settled, shape_occurrences}
 use Rattle.wit_arena.specs.UnfoldedTypes.{At, IsInterface, IsWorld, IsForeignWorld}
-use Rattle.wit_arena.specs.SourceFunctions.{AreFunctions, freestanding_names, placed_functions, HasSide}
+use Rattle.wit_arena.specs.SourceFunctions.{freestanding_names, placed_functions, HasSide}
 use Rattle.wit_arena.specs.Kind.{IsResource, IsUnknown as IsUnknownEntry, entry_end}
 use Rattle.wit_types.specs.declared.types.TypeDefKind.TheVariants.{Unknown as UnknownKind}
 use Rattle.wit_arena.specs.OneByOne.{OneByOne}
+use Rattle.wit_arena.specs.Made.{function_in}
 use Rattle.wit_arena.specs.Whole.{owner_at, IsForeignInterface, type_imports, AreIncludes}
 use Rattle.wit_types.specs.declared.types.«Type».TheVariants as type
 use Rattle.wit_types.specs.declared.types.TypeOwner.TheVariants as owner
@@ -157,6 +158,14 @@ pub record IsNameIndex (called : List ℕ → Address) (all : List Address) (by_
   pub present : (name : List ℕ) (t : ℕ) → env_of by_name name ≡ Some t → slice_get all t ≡ Some (called name)
   pub has : (t : ℕ) (name : List ℕ) → slice_get all t ≡ Some (called name) → IsSome (env_of by_name name)
 
+-- this gives the place of each of these keys
+pub record GivesPlaces (id : Key → ℕ) (ks : List Key) : Type 0 where
+  pub at : (i : ℕ) (k : Key) → slice_get ks i ≡ Some k → id k ≡ i
+
+-- over the places of these keys, these are the functions of a scope, in source order
+abbrev pub AreFunctions : List Key → Address → List SourceFunction → List Function → Type 0
+AreFunctions ks s written fs = (id : Key → ℕ) → GivesPlaces id ks → fs ≡ map (function_in id s) written
+
 -- From whatever occurred, the new arena is that with what occurs in functions of a scope, whose names these are.
 pub record AddsFunctions (old new : List TypeDef) (s : Address) (names : Names) (fns : List SourceFunction) (fs : List Function) : Type 0 where
   pub from : (decls : Decls) (ms : List Occurrence) → IsOccurrence decls ms old → AreNames (keys ms) s (env_of names) → Extends decls ms (all_function_occurrences s fns) new (λ ks. AreFunctions ks s fns fs)
@@ -179,10 +188,6 @@ gathered (x ∷ xs) = shape.More x (gathered xs)
 -- From whatever occurred, the new arena is that with what occurs in these types, and they mean those.
 abbrev pub AreShapes : List TypeDef → List TypeDef → Address → Env → List Shape → List Ty → Type 0
 AreShapes old new s env xs ts = AreResolved old new s env (flat_map (shape_occurrences s Unknown) xs) (exprs_of s (gathered xs)) ts
-
--- a parameter of the package is the written one apart from its type
-abbrev pub SaysParam : SourceParam → Param → Type 0
-SaysParam w p = (p.name ≡ w.name) × (p.span ≡ w.span)
 
 -- what the names of a scope add to the arena of types, in the order of its table; `cs` are the scopes that they may use
 pub record AddsScope (old new : List TypeDef) (cs : List ResolvedScope) (o : TypeOwner) (xs : List ScopeName) (types : Names) : Type 0 where

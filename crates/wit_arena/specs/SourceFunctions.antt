@@ -1,10 +1,8 @@
--- What the functions of a package say, each a written one, whose types are at the places of their expressions; and what is on the sides of a world, after types.
+-- The kinds and the names of functions, and what is on the sides of a world, after types.
 use Rattle.std.specs.Prelude.{◌≡◌, ℕ, List, [], ◌∷◌, map, Some, slice_get, codes, if◌then◌else◌, ◌++◌, Option}
-use Rattle.wit_arena.specs.Names.{Address, AreMetadata, Constructor, Extern, ExternalId, Freestanding, Function, FunctionKind, Id, Include, Item, Link, Method, OnSide, Param, Role, Shape, SideFunction, SideInline, SideItem, SideLink, SourceFunction, SourceParam, Static, TopName, WorldItem, WorldKey, WorldSide, all_params, docs_of, function_of, includes, metadata, no_docs, option_map_or, option_to_list, path_id, path_scope, placed, role_side, same_side, side_items, stability_of, stated_text, «Type» as Ty, unwrap_or}
+use Rattle.wit_arena.specs.Names.{Address, Extern, ExternalId, Function, FunctionKind, Id, Include, Item, Link, SideFunction, SideInline, SideItem, SideLink, TopName, WorldItem, WorldKey, WorldSide, docs_of, function_of, includes, no_docs, option_map_or, option_to_list, path_id, path_scope, placed, role_side, same_side, side_items, stability_of, stated_text, unwrap_or}
 use Rattle.wit_names.specs.Prefix.{rest_after}
 use Rattle.wit_type_tree.specs.declared.types.FuncForm.{FuncForm}
-use Rattle.wit_arena.specs.Occurrences.{expr_of, Key, Def, IsAt}
-use Rattle.wit_arena.specs.OneByOne.{OneByOne}
 use Rattle.wit_type_tree.specs.declared.types.FuncForm.TheVariants as form
 use Rattle.wit_functions.specs.declared.function.FunctionKind.TheVariants as kind
 use Rattle.wit_model.specs.declared.world.WorldKey.TheVariants as key
@@ -22,31 +20,6 @@ kinds_of form.Plain = record { freestanding = kind.Freestanding; method = kind.M
 kinds_of form.Async = record { freestanding = kind.AsyncFreestanding; method = kind.AsyncMethod; static = kind.AsyncStatic }
 kinds_of form.Getter = record { freestanding = kind.Getter; method = kind.MethodGetter; static = kind.StaticGetter }
 kinds_of form.Setter = record { freestanding = kind.Setter; method = kind.MethodSetter; static = kind.StaticSetter }
-
--- the kind of a function of a role, over the place of its resource, where `Is` says which name is at which place
-abbrev pub IsKind : (List ℕ → ℕ → Type 0) → Role → FunctionKind → Type 0
-IsKind Is (Freestanding id form) k = k ≡ (kinds_of form).freestanding
-IsKind Is (Method of form) k = (r : ℕ) × (k ≡ (kinds_of form).method r) × Is of.name.now r
-IsKind Is (Static of form) k = (r : ℕ) × (k ≡ (kinds_of form).static r) × Is of.name.now r
-IsKind Is (Constructor of) k = (r : ℕ) × (k ≡ kind.Constructor r) × Is of.name.now r
-IsKind Is (OnSide side id form) k = k ≡ (kinds_of form).freestanding
-
--- a parameter of the package is the written one
-abbrev pub IsParam : List Key → Address → SourceParam → Param → Type 0
-IsParam ks s written p = (p.name ≡ written.name) × (p.span ≡ written.span) × IsAt ks (expr_of s written.shape) p.ty
-
--- a function of the package is the written one
-pub record IsFunction (ks : List Key) (s : Address) (written : SourceFunction) (f : Function) : Type 0 where
-  pub name : f.name ≡ written.name
-  pub kind : IsKind (λ name r. slice_get ks r ≡ Some (Def s name)) written.role f.kind
-  pub params : OneByOne (IsParam ks s) (all_params written) f.params
-  pub result : OneByOne (λ (x : Shape) (t : Ty). IsAt ks (expr_of s x) t) (option_to_list written.result) (option_to_list f.result)
-  pub span : f.span ≡ written.span
-  pub metadata : AreMetadata (metadata (docs_of written.docs) written.attributes) f.docs f.stability f.external_id
-
--- these are the functions of a scope, in source order
-abbrev pub AreFunctions : List Key → Address → List SourceFunction → List Function → Type 0
-AreFunctions ks s written fs = OneByOne (IsFunction ks s) written fs
 
 -- the written name of a function that is no resource's
 abbrev pub freestanding_names : FunctionKind → List ℕ → List (List ℕ)

@@ -171,7 +171,7 @@ body_added old mid new cs o item types ids own all fs n adds g q named differ = 
 
 -- an interface without functions adds none
 functions_none : (es : List TypeDef) (s : Address) (names : Names) → AddsFunctions es es s names [] []
-functions_none es s names = record { from = λ decls ms occurrence known. record { now = ms; collects = refl; occurrence = occurrence; holds = record { count = refl; each = λ k x y at there. absurd (let f : ⊥ = cc in f) } } }
+functions_none es s names = record { from = λ decls ms occurrence known. record { now = ms; collects = refl; occurrence = occurrence; holds = λ id gives. refl } }
 
 pub none_added : (old mid : List TypeDef) (cs : List ResolvedScope) (o : TypeOwner) (item : Item) (types : Names) (ids : List Id) (own : List Required) → is_world item ≡ false → functions item ≡ [] → list_any (λ (id : Id). list_any is_ascii_uppercase id.name.now) ids ≡ false → AddsTurn old mid cs o (scope_names item) types ids own → AddsBody old mid cs o item types ids [] own
 none_added old mid cs o item types ids own sort none lower n = body_added old mid mid cs o item types ids own own [] n

@@ -1,6 +1,6 @@
 -- A worked row with the functions of a resource and of an interface, computed by the definitions.
-use Rattle.std.proofs.Common.{◌≡◌, ℕ, zero, suc, false, true, List, [], ◌∷◌, length, map, Option, Some, None, refl, subst, lit<}
-use Rattle.wit_arena.proofs.Common.{Address, AreFunctions, Borrow, BorrowForm, Box, Constructor, Def, End, Expr, FixedLengthListForm, Freestanding, Function, FunctionKey, FunctionKind, FutureForm, Global, Id, Interface, InterfaceNamed, IsAt, IsFunction, IsParam, Item, Key, MapForm, Method, More, NamedFunc, None', Occurrence, Of, OneByOne, OptionForm, PackageFile, Param, Prim, Primitive, Resource, Shape, Some', SourceFunction, SourceParam, Span, Static, StreamForm, TheInterface, TypeDef, TypeDefKind, Unknown, UnresolvedPackage, Use, Whole, Word, all_handles, codes, expr_of, flat_map, folded_key, free_function, function_types, functions, functions_of, item_types, no_docs, occurrences, one, package_tree, placed_functions, resource_function, role_names, rows_of, scope_names, signature, slice_get, source_tree, top_names, turned, «Type» as Written}
+use Rattle.std.proofs.Common.{◌≡◌, ℕ, false, true, List, [], ◌∷◌, map, Option, Some, None, refl, lit<, sym, ap, ◌∙◌}
+use Rattle.wit_arena.proofs.Common.{Address, AreFunctions, Borrow, BorrowForm, Box, Constructor, Def, End, Expr, FixedLengthListForm, Freestanding, Function, FunctionKey, FunctionKind, FutureForm, Global, Id, Interface, InterfaceNamed, Item, Key, MapForm, Method, More, NamedFunc, None', Occurrence, Of, OptionForm, PackageFile, Param, Prim, Primitive, Resource, Shape, Some', SourceFunction, Span, Static, StreamForm, TheInterface, TypeDef, TypeDefKind, Unknown, UnresolvedPackage, Use, Whole, Word, all_handles, codes, flat_map, folded_key, free_function, function_types, functions, functions_of, item_types, no_docs, occurrences, one, package_tree, placed_functions, resource_function, role_names, rows_of, scope_names, signature, source_tree, top_names, turned, «Type» as Written, GivesPlaces, function_in}
 use Rattle.wit_syntax.proofs.Common.{Interface as WrittenInterface, Param as WrittenParam}
 use denote.RawPtr.{Ptr}
 use Rattle.wit_type_tree.specs.declared.types.Primitive.TheVariants as primitive
@@ -17,28 +17,6 @@ use Rattle.wit_types.specs.declared.types.TypeOwner.TheVariants as owner
 use Rattle.wit_functions.specs.declared.function.FunctionKind.TheVariants as function_kind
 use Rattle.wit_syntax.specs.Shape as shape
 use Rattle.wit_meaning_examples.proofs.Examples.{at, id, vec, no_comments, unstated, header}
-
--- what holds of two lists, place by place
-abbrev pub Pairs : {X Y : Type 0} → (X → Y → Type 0) → List X → List Y → Type 0
-Pairs P [] ys = Unit {0}
-Pairs P (x ∷ xs) [] = Unit {0}
-Pairs P (x ∷ xs) (y ∷ ys) = P x y × Pairs P xs ys
-
-pub pairs : {X Y : Type 0} (P : X → Y → Type 0) (xs : List X) (ys : List Y) → Pairs P xs ys → (k : ℕ) (x : X) (y : Y) → slice_get xs k ≡ Some x → slice_get ys k ≡ Some y → P x y
-pairs P [] ys all k x y at there = absurd (let f : ⊥ = cc in f)
-pairs P (z ∷ xs) [] all k x y at there = absurd (let f : ⊥ = cc in f)
-pairs P (z ∷ xs) (w ∷ ys) all zero x y at there =
-    let first : z ≡ x = cc in
-    let second : w ≡ y = cc in
-    subst (P x) second (subst (λ v. P v w) first all.0)
-pairs P (z ∷ xs) (w ∷ ys) all (suc k) x y at there = pairs P xs ys all.1 k x y at there
-
-pub params_are : (ks : List Key) (s : Address) (written : List SourceParam) (ps : List Param) → length ps ≡ length written → Pairs (IsParam ks s) written ps → OneByOne (IsParam ks s) written ps
-params_are ks s written ps count all = record { count = count; each = pairs (IsParam ks s) written ps all }
-
--- a result is the written one
-pub result_is : (ks : List Key) (s : Address) (x : Shape) (t : Ty) → IsAt ks (expr_of s x) t → OneByOne (λ (y : Shape) (u : Ty). IsAt ks (expr_of s y) u) (x ∷ []) (t ∷ [])
-result_is ks s x t is = record { count = refl; each = pairs (λ (y : Shape) (u : Ty). IsAt ks (expr_of s y) u) (x ∷ []) (t ∷ []) (is, tt) }
 
 -- package foo:foo; interface i { resource r { constructor(n: u32); m: async func(x: borrow<r>) -> future<u8>; s: static func() -> r; } f: func(a: map<string, list<u8, 4>>) -> option<stream>; }
 module _ (ptr : Ptr) (alloc : Global) where
@@ -196,21 +174,36 @@ module _ (ptr : Ptr) (alloc : Global) where
   placed : map (λ (g : FunctionKey × Function). g.0.1) (functions_of whole (owner.Interface 0)) ≡ (codes "[constructor]r" ∷ codes "[method]r.m" ∷ codes "[static]r.s" ∷ codes "f" ∷ [])
   placed = refl
 
-  -- each is the written one
-  is_constructor : IsFunction ks in_i (resource_function r.name (resource.Constructor (no_comments ptr alloc) (unstated ptr alloc) (at 44 55) (vec ptr alloc (n_u32 ∷ []) (lit< tt)) None)) made_constructor
-  is_constructor = record { name = refl; kind = (0, refl, refl); params = params_are ks in_i _ _ refl ((refl, refl, refl), tt); result = result_is ks in_i _ _ (0, refl, refl); span = refl; metadata = record { docs = refl; stability = refl; external_id = refl } }
+  -- each is the written one, over the places of what occurs
+  module _ (place : Key → ℕ) (gives : GivesPlaces place ks) where
+    r_place : place (Def in_i (codes "r")) ≡ 0
+    r_place = gives.at 0 (Def in_i (codes "r")) refl
 
-  is_method : IsFunction ks in_i (resource_function r.name (resource.Method method_m)) made_method
-  is_method = record { name = refl; kind = (0, refl, refl); params = params_are ks in_i _ _ refl ((refl, refl, (1, refl, refl)), ((refl, refl, (1, refl, refl)), tt)); result = result_is ks in_i _ _ (2, refl, refl); span = refl; metadata = record { docs = refl; stability = refl; external_id = refl } }
+    is_constructor : made_constructor ≡ function_in place in_i (resource_function r.name (resource.Constructor (no_comments ptr alloc) (unstated ptr alloc) (at 44 55) (vec ptr alloc (n_u32 ∷ []) (lit< tt)) None))
+    is_constructor = ap (λ (k : ℕ). function (codes "[constructor]r") (function_kind.Constructor k) (given (codes "n") type.U32 (at 56 57) ∷ []) (Some (type.Id k)) (at 44 55)) (sym r_place)
 
-  is_static : IsFunction ks in_i (resource_function r.name (resource.Static static_s)) made_static
-  is_static = record { name = refl; kind = (0, refl, refl); params = params_are ks in_i _ _ refl tt; result = result_is ks in_i _ _ (0, refl, refl); span = refl; metadata = record { docs = refl; stability = refl; external_id = refl } }
+    is_method : made_method ≡ function_in place in_i (resource_function r.name (resource.Method method_m))
+    is_method =
+        let method = λ (k b f : ℕ). function (codes "[method]r.m") (function_kind.AsyncMethod k) (given (codes "self") (type.Id b) (at 74 78) ∷ given (codes "x") (type.Id b) (at 79 80) ∷ []) (Some (type.Id f)) (at 65 66) in
+        let borrow = Whole BorrowForm (one (Use in_i (codes "r"))) in
+        let future = Whole (FutureForm true) (one (Prim primitive.U8)) in
+        ap (λ (k : ℕ). method k 1 2) (sym r_place) ∙ ap (λ (b : ℕ). method (place (Def in_i (codes "r"))) b 2) (sym (gives.at 1 borrow refl)) ∙ ap (method (place (Def in_i (codes "r"))) (place borrow)) (sym (gives.at 2 future refl))
 
-  is_f : IsFunction ks in_i (free_function f) made_f
-  is_f = record { name = refl; kind = refl; params = params_are ks in_i _ _ refl ((refl, refl, (4, refl, refl)), tt); result = result_is ks in_i _ _ (6, refl, refl); span = refl; metadata = record { docs = refl; stability = refl; external_id = refl } }
+    is_static : made_static ≡ function_in place in_i (resource_function r.name (resource.Static static_s))
+    is_static = ap (λ (k : ℕ). function (codes "[static]r.s") (function_kind.Static k) [] (Some (type.Id k)) (at 108 109)) (sym r_place)
+
+    is_f : made_f ≡ function_in place in_i (free_function f)
+    is_f =
+        let free = λ (a b : ℕ). function (codes "f") function_kind.Freestanding (given (codes "a") (type.Id a) (at 141 142) ∷ []) (Some (type.Id b)) (at 133 134) in
+        let map_form = Whole MapForm (More (Prim primitive.String) (one fixed)) in
+        let option_form = Whole OptionForm (one stream) in
+        ap (λ (a : ℕ). free a 6) (sym (gives.at 4 map_form refl)) ∙ ap (free (place map_form)) (sym (gives.at 6 option_form refl))
+
+    all_are : made ≡ map (function_in place in_i) (functions item)
+    all_are = cc (is_constructor, is_method, is_static, is_f)
 
   are_functions : AreFunctions ks in_i (functions item) made
-  are_functions = record { count = refl; each = pairs (IsFunction ks in_i) (functions item) made (is_constructor, (is_method, (is_static, (is_f, tt)))) }
+  are_functions = all_are
 
   -- the trees of their types are those of the files
   trees_in_files : map (λ (x : shape.Shape). source_tree files 4 (in_i, x)) (flat_map signature (functions item)) ≡ map (package_tree whole 4) (flat_map function_types made)

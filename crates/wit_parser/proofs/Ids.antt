@@ -1,19 +1,18 @@
 -- The ids of a package that legal files make are places of entries of its arenas.
 use Rattle.std.proofs.Common.{◌≡◌, ◌<◌, ◌≤◌, ℕ, ◌+◌, List, ◌++◌, length, map, take, Option, Some, None, refl, sym, ap, ◌∙◌, subst, arith, inl, inr, length-append, zero, suc, [], ◌∷◌}
-use Rattle.wit_items.proofs.Common.{Address, AstItem, Def, Extern, ForeignVisit, GivesPlaces, Id, IsEntry, IsKeyed, IsLegal, IsSeen, Key, Link, Makes, Occurrence, PackageFile, PackageName, SourceFunction, Stability, TypeDef, UnresolvedPackage, Whole, WorldInclude, WorldNamed, address, all_at_untaken, declarations, dep, dep_item, entry_of_interface, entry_of_world, filter, flat_map, foreign_entry, foreign_interface, foreign_interfaces, foreign_items, foreign_packages, foreign_turned, foreign_world, foreign_worlds, function_in, functions, include_in, includes, inline_entry, inline_items, interface_scopes, interface_turn, item_link, item_sort, item_turns, kept_at, keys, kind_of, leads, length-map, link_item, link_key, local_name, map_at, name_exprs, names_in_turn, option_map, option_or, own_interface, own_interfaces, own_world, package_of, path_scope, place_at, position-Some, same_address, same_package, scope_place, side_items, slice_get, slice_get_within, target_scope, turn_handles, unwrap_or, visited, world_scopes, worlds_of, AllZip, AreAt, AreRequired, Constructor, End, Expr, Exprs, Freestanding, FuncForm, Function, FunctionKind, HandleRequires, HasTypes, IsAt, IsBelow, IsFunction, IsKind, Method, More, Of, OnSide, Prim, Role, Span, Static, Turned, Use, at_within, expr_of, filter_map, freestanding_kind, function_types, method_kind, same_some, signature, static_kind}
+use Rattle.wit_items.proofs.Common.{Address, AstItem, Def, Extern, ForeignVisit, GivesPlaces, Id, IsEntry, IsKeyed, IsLegal, IsSeen, Key, Link, Makes, Occurrence, PackageFile, PackageName, SourceFunction, Stability, TypeDef, UnresolvedPackage, Whole, WorldInclude, WorldNamed, address, all_at_untaken, declarations, dep, dep_item, entry_of_interface, entry_of_world, filter, flat_map, foreign_entry, foreign_interface, foreign_interfaces, foreign_items, foreign_packages, foreign_turned, foreign_world, foreign_worlds, function_in, functions, include_in, includes, inline_entry, inline_items, interface_scopes, interface_turn, item_link, item_sort, item_turns, kept_at, keys, kind_of, leads, length-map, link_item, link_key, local_name, map_at, name_exprs, names_in_turn, option_map, option_or, own_interface, own_interfaces, own_world, package_of, path_scope, place_at, position-Some, same_address, same_package, scope_place, side_items, slice_get, slice_get_within, target_scope, turn_handles, unwrap_or, visited, world_scopes, worlds_of, AllZip, AreAt, AreRequired, Constructor, End, Expr, Exprs, Freestanding, FuncForm, Function, HandleRequires, HasTypes, IsAt, IsBelow, Method, More, Of, OnSide, Prim, Role, Span, Static, Turned, Use, expr_of, filter_map, freestanding_kind, method_kind, same_some, static_kind, role_kind}
 use Rattle.wit_arena.proofs.Common.{Item}
 use Rattle.wit_arena.proofs.Shape.{key_of}
 use Rattle.wit_parser.proofs.EachMade.{Entry, exports_each, imports_each, members_each}
 use Rattle.wit_parser.proofs.Images.{images_at}
 use Rattle.wit_parser.proofs.PartsSeen.{entries_made, made_places}
 use Rattle.wit_parser.proofs.PartsOrders.{ItemPresent, interface_seen, world_seen, foreign_seen}
-use Rattle.wit_parser.proofs.PartsTurns.{function_in-is, name_places-are, seen_at}
+use Rattle.wit_parser.proofs.PartsTurns.{FunctionPresent, RolePresent, name_places-are, seen_at, signature_at}
 use Rattle.wit_parser.proofs.PartsScopes.{has_places, HasPlaces}
 use Rattle.wit_parser.specs.Ids.{IsFunctionWithin, IsKeyWithin, IsItemWithin, IsOwnerWithin, IsTypeWithin, IsInterfaceWithin, IsWorldWithin, IsForeignWithin, AreIdsWithin, AreTypesWithin, AreNamesWithin}
 use Rattle.wit_types.specs.declared.types.«Type».{«Type» as Ty}
 use Rattle.wit_functions.specs.FunctionKinds.{resource_of}
 use Rattle.wit_arena.proofs.OneKind.{primitive_below}
-use Rattle.wit_arena.proofs.Resolving.{function_typed}
 use Rattle.wit_types.specs.declared.types.TypeOwner.TheVariants as owner
 use Rattle.wit_model.specs.declared.world.WorldItem.TheVariants as item
 use Rattle.wit_model.specs.declared.world.WorldKey.TheVariants as key
@@ -60,27 +59,23 @@ module _ (p : UnresolvedPackage) (ks : List Key) (count : length p.types ≡ len
   pub names_within : (t : Turned) (names : List (List ℕ × ℕ)) → HasTypes ks t names → AreNamesWithin p names
   names_within t names has k name id at = key_within id (Def t.address name) (has.places k name id at)
 
-  -- the resource of a function
-  one_resource : (s : Address) (of : Id) (r id : ℕ) (k : FunctionKind) → resource_of k ≡ Some r → slice_get ks r ≡ Some (Def s of.name.now) → resource_of k ≡ Some id → id < length p.types
-  one_resource s of r id k is at has = subst (λ (n : ℕ). n < length p.types) (same_some (sym is ∙ has)) (key_within r (Def s of.name.now) at)
+  module _ (id : Key → ℕ) (gives : GivesPlaces id ks) (s : Address) where
+    -- the resource of a function
+    one_resource : (k : Key) (r : Option ℕ) (i : ℕ) → IsSeen ks k → r ≡ Some (id k) → r ≡ Some i → i < length p.types
+    one_resource k r i seen is has = subst (λ (n : ℕ). n < length p.types) (same_some (sym is ∙ has)) (key_within (id k) k (seen_at id ks gives k seen))
 
-  resource_within : (s : Address) (role : Role) (k : FunctionKind) → IsKind (λ name r. slice_get ks r ≡ Some (Def s name)) role k → (id : ℕ) → resource_of k ≡ Some id → id < length p.types
-  resource_within s (Freestanding of f) k is id has = absurd (free_resource f id (sym (ap resource_of is) ∙ has))
-  resource_within s (Method of f) k is id has = one_resource s of is.0 id k (ap resource_of is.1 ∙ method_resource f is.0) is.2 has
-  resource_within s (Static of f) k is id has = one_resource s of is.0 id k (ap resource_of is.1 ∙ static_resource f is.0) is.2 has
-  resource_within s (Constructor of) k is id has = one_resource s of is.0 id k (ap resource_of is.1) is.2 has
-  resource_within s (OnSide side of f) k is id has = absurd (free_resource f id (sym (ap resource_of is) ∙ has))
+    resource_within : (role : Role) → RolePresent (IsSeen ks) s role → (i : ℕ) → resource_of (role_kind (λ (of : Id). id (Def s of.name.now)) role) ≡ Some i → i < length p.types
+    resource_within (Freestanding of f) seen i has = absurd (free_resource f i has)
+    resource_within (Method of f) seen i has = one_resource (Def s of.name.now) (resource_of (method_kind f (id (Def s of.name.now)))) i seen (method_resource f (id (Def s of.name.now))) has
+    resource_within (Static of f) seen i has = one_resource (Def s of.name.now) (resource_of (static_kind f (id (Def s of.name.now)))) i seen (static_resource f (id (Def s of.name.now))) has
+    resource_within (Constructor of) seen i has = one_resource (Def s of.name.now) (Some (id (Def s of.name.now))) i seen refl has
+    resource_within (OnSide side of f) seen i has = absurd (free_resource f i has)
 
-  pub function_within : (s : Address) (fn : SourceFunction) (f : Function) → IsFunction ks s fn f → IsFunctionWithin p f
-  function_within s fn f is = record {
-    resource = resource_within s fn.role f.kind is.kind;
-    types = λ k ty at. (
-        let typed = function_typed ks s fn f is in
-        let within = slice_get_within (function_types f) k ty at in
-        let as_many = typed.count in
-        let x = at_within (signature fn) k (omega arith) in
-        type_within (expr_of s x.0) ty (typed.each k x.0 ty x.1 at));
-  }
+    pub function_within : (fn : SourceFunction) → FunctionPresent (IsSeen ks) s fn → IsFunctionWithin p (function_in id s fn)
+    function_within fn h = record {
+      resource = resource_within fn.role h.role;
+      types = λ k ty at. (let x = signature_at id ks gives s fn h k ty at in type_within (expr_of s x.0) ty x.1);
+    }
 
   -- what handles require
   pub required_within : (files : List PackageFile) (hs : List (Address × Id)) (rs : List (ℕ × Span)) → AreRequired files ks hs rs → (k : ℕ) (r : ℕ × Span) → slice_get rs k ≡ Some r → r.0 < length p.types
@@ -173,7 +168,7 @@ module _ (files : List PackageFile) (p : UnresolvedPackage) (legal : IsLegal fil
   -- the functions of an item, all of whose types occur
   module _ (i : Item) (h : ItemPresent (IsSeen (keys m.seen)) m.order i) where
     made_within : (k : ℕ) (fn : SourceFunction) → slice_get (functions i) k ≡ Some fn → IsFunctionWithin p (function_in m.id (address i) fn)
-    made_within k fn at = function_within p (keys m.seen) as_many_types (address i) fn (function_in m.id (address i) fn) (function_in-is m.id (keys m.seen) places (address i) fn (h.functions k fn at))
+    made_within k fn at = function_within p (keys m.seen) as_many_types m.id places (address i) fn (h.functions k fn at)
 
     own_interface_within : IsInterfaceWithin p (own_interface m.id m.order i)
     own_interface_within = record {

@@ -1,7 +1,9 @@
 -- Where a function gives the place of each key, what it says of a key that occurs is there.
 use Rattle.std.proofs.Common.{◌≡◌, ℕ, List, [], ◌∷◌, ◌+◌, length, Option, Some, None, refl, sym, ap, ◌∙◌, subst, ◌≤◌, zero, suc, ◌++◌, take, ◌⊎◌, inl, inr, arith, append_assoc, append-nil, length-append, ◌<◌, Bool, true}
-use Rattle.wit_items.proofs.Common.{Address, AreAt, Constructor, Def, End, Expr, Exprs, Freestanding, GivesPlaces, HasTypes, Id, IsAt, IsFunction, IsKind, IsParam, IsSeen, Key, Method, More, Of, OnSide, OneByOne, Param, Prim, Role, ScopeName, Shape, SourceFunction, SourceParam, Static, Turned, Use, Whole, all_params, at_back, at_prefix, expr_of, function_in, length-map, local_name, map, map_at, map_map, name_places, option_map, option_to_list, role_kind, same_some, signature, slice_get, slice_get-map, type_of, types_of, Collects, Contains, Has, Occurrence, Shapes, Span, Stability, Unknown, Word, about_name, all_function_occurrences, all_words, at_seam, exprs_of, flat_map, keys, keys-append, name_exprs, name_occurrences, parts_occurrences, shape_occurrences, shapes_occurrences, slice_get_within, take_seam, three_ways, unwrap_or, words, Attribute, Defined, ForeignName, IsEntered, IsItem, IsLegal, IsOrder, MissingInSignature, OfNothing, Ordered, PackageFile, Row, Scope, UseName, Used, address, all_scopes, append-nil, at_contains, at_within, bytes_eq, cases_Bool, contains_at, defined, differ_at, filter, find_at, find_passes, flat_map-append, flat_map_has, function_as_type, functions, in_order, in_turn_has, is_defined, kept_early, kept_next, kept_past, meaning, missing_at, name_equal, name_word, names_differ, names_within, needed_ids, ordered_names, own_names, place_of-Some, row_before, row_of, rows_of, scope, scope_among, scope_is, scope_names, take_all, target, turn_occurrences, turned, used, used_has, used_is}
+use Rattle.wit_items.proofs.Common.{Address, AreAt, Constructor, Def, End, Expr, Exprs, GivesPlaces, HasTypes, Id, IsAt, IsSeen, Key, Method, More, Of, Param, Prim, Role, ScopeName, Shape, SourceFunction, SourceParam, Static, Turned, Use, Whole, all_params, at_back, at_prefix, expr_of, function_in, length-map, local_name, map, map_at, map_map, name_places, option_map, role_kind, same_some, signature, slice_get, slice_get-map, type_of, types_of, Collects, Contains, Has, Occurrence, Shapes, Span, Stability, Unknown, Word, about_name, all_function_occurrences, all_words, at_seam, exprs_of, flat_map, keys, keys-append, name_exprs, name_occurrences, parts_occurrences, shape_occurrences, shapes_occurrences, slice_get_within, take_seam, three_ways, unwrap_or, words, Attribute, Defined, ForeignName, IsEntered, IsItem, IsLegal, IsOrder, MissingInSignature, OfNothing, Ordered, PackageFile, Row, Scope, UseName, Used, address, all_scopes, append-nil, at_contains, at_within, bytes_eq, cases_Bool, contains_at, defined, differ_at, filter, find_at, find_passes, flat_map-append, flat_map_has, function_as_type, functions, in_order, in_turn_has, is_defined, kept_early, kept_next, kept_past, meaning, missing_at, name_equal, name_word, names_differ, names_within, needed_ids, ordered_names, own_names, place_of-Some, row_before, row_of, rows_of, scope, scope_among, scope_is, scope_names, take_all, target, turn_occurrences, turned, used, used_has, used_is, AreFunctions, at-type_of, function_types, kinds_of, Freestanding, OnSide}
+use Rattle.wit_arena.proofs.PlacingFunctions.{function_same, functions_by, one_mapped, said, type_in, types_in}
 use Rattle.wit_types.specs.declared.types.«Type».{«Type» as Ty}
+use Rattle.wit_functions.specs.declared.function.FunctionKind.TheVariants as kind
 use Rattle.wit_walk.proofs.Common.{More, Of, Prim, Function, OfFunction, used_at}
 use Rattle.wit_syntax.specs.Shape.{End}
 use Rattle.wit_arena.specs.Occurrences as expr
@@ -29,13 +31,6 @@ pub record FunctionPresent (among : Key → Type 0) (s : Address) (fn : SourceFu
   pub role : RolePresent among s fn.role
   pub types : (k : ℕ) (x : Shape) → slice_get (signature fn) k ≡ Some x → IsPresent among (expr_of s x)
 
--- a list belongs to its image, one by one
-pub one_by_one-mapped : {X Y : Type 0} (Holds : X → Y → Type 0) (f : X → Y) (xs : List X) → ((k : ℕ) (x : X) → slice_get xs k ≡ Some x → Holds x (f x)) → OneByOne Holds xs (map f xs)
-one_by_one-mapped Holds f xs as_stated = record {
-  count = length-map xs f;
-  each = λ k x y at there. subst (Holds x) (same_some (sym (slice_get-map f xs k ∙ ap (option_map f) at) ∙ there)) (as_stated k x at);
-}
-
 module _ (id : Key → ℕ) (ks : List Key) (gives : GivesPlaces id ks) where
   -- what occurs is at its place
   pub seen_at : (k : Key) → IsSeen ks k → slice_get ks (id k) ≡ Some k
@@ -50,34 +45,41 @@ module _ (id : Key → ℕ) (ks : List Key) (gives : GivesPlaces id ks) where
   types_of-at End h = tt
   types_of-at (More e es) h = (type_of-at e h.0, types_of-at es h.1)
 
-  role-kind : (s : Address) (role : Role) → RolePresent (IsSeen ks) s role → IsKind (λ name r. slice_get ks r ≡ Some (Def s name)) role (role_kind (λ (of : Id). id (Def s of.name.now)) role)
-  role-kind s (Method of form) h = (id (Def s of.name.now), refl, seen_at (Def s of.name.now) h)
-  role-kind s (Static of form) h = (id (Def s of.name.now), refl, seen_at (Def s of.name.now) h)
-  role-kind s (Constructor of) h = (id (Def s of.name.now), refl, seen_at (Def s of.name.now) h)
-  role-kind s _ h = refl
-
   abbrev param_in : Address → SourceParam → Param
   param_in s x = record { name = x.name; ty = type_of id (expr_of s x.shape); span = x.span }
 
-  result-is : (s : Address) (o : Option Shape) → ((k : ℕ) (x : Shape) → slice_get (option_to_list o) k ≡ Some x → IsPresent (IsSeen ks) (expr_of s x)) → OneByOne (λ (y : Shape) (u : Ty). IsAt ks (expr_of s y) u) (option_to_list o) (option_to_list (option_map (λ y. type_of id (expr_of s y)) o))
-  result-is s None h = one_by_one-mapped (λ (y : Shape) (u : Ty). IsAt ks (expr_of s y) u) (λ y. type_of id (expr_of s y)) [] (λ k x at. absurd (let f : ⊥ = cc in f))
-  result-is s (Some x) h = one_by_one-mapped (λ (y : Shape) (u : Ty). IsAt ks (expr_of s y) u) (λ y. type_of id (expr_of s y)) (x ∷ []) (λ k y at. type_of-at (expr_of s y) (h k y at))
+  -- so do the types of a function
+  pub signature_at : (s : Address) (fn : SourceFunction) → FunctionPresent (IsSeen ks) s fn → (k : ℕ) (ty : Ty) → slice_get (function_types (function_in id s fn)) k ≡ Some ty → (x : Shape) × IsAt ks (expr_of s x) ty
+  signature_at s fn h k ty at =
+      let x = map_at (type_in id s) (signature fn) k ty (ap (λ (l : List Ty). slice_get l k) (sym (types_in id s fn)) ∙ at) in
+      (x.0, subst (IsAt ks (expr_of s x.0)) x.2 (type_of-at (expr_of s x.0) (h.types k x.0 x.1)))
 
-  -- a function that is stated is the written one
-  pub function_in-is : (s : Address) (fn : SourceFunction) → FunctionPresent (IsSeen ks) s fn → IsFunction ks s fn (function_in id s fn)
-  function_in-is s fn h =
-      let shapes = map (λ (p : SourceParam). p.shape) (all_params fn) in
-      record {
-        name = refl;
-        kind = role-kind s fn.role h.role;
-        params = one_by_one-mapped (IsParam ks s) (param_in s) (all_params fn) (λ k x at. (refl, refl, type_of-at (expr_of s x.shape) (h.types k x.shape (at_prefix shapes (option_to_list fn.result) k x.shape (slice_get-map (λ (p : SourceParam). p.shape) (all_params fn) k ∙ ap (option_map (λ (p : SourceParam). p.shape)) at)))));
-        result = result-is s fn.result (λ k x at. h.types (length shapes + k) x (at_back shapes (option_to_list fn.result) k x at));
-        span = refl;
-        metadata = record { docs = refl; stability = refl; external_id = refl };
-      }
+  -- wherever else that is the place of each key, the functions are the same
+  module _ (id' : Key → ℕ) (gives' : GivesPlaces id' ks) (s : Address) where
+    role_kept : (role : Role) → RolePresent (IsSeen ks) s role → role_kind (λ (of : Id). id (Def s of.name.now)) role ≡ role_kind (λ (of : Id). id' (Def s of.name.now)) role
+    role_kept role h = by role h
+      where
+        same : (k : Key) → IsSeen ks k → id k ≡ id' k
+        same k h = gives.at h.0 k h.1 ∙ sym (gives'.at h.0 k h.1)
 
-  pub functions_in-are : (s : Address) (fns : List SourceFunction) → ((k : ℕ) (fn : SourceFunction) → slice_get fns k ≡ Some fn → FunctionPresent (IsSeen ks) s fn) → OneByOne (IsFunction ks s) fns (map (function_in id s) fns)
-  functions_in-are s fns h = one_by_one-mapped (IsFunction ks s) (function_in id s) fns (λ k fn at. function_in-is s fn (h k fn at))
+        by : (role : Role) → RolePresent (IsSeen ks) s role → role_kind (λ (of : Id). id (Def s of.name.now)) role ≡ role_kind (λ (of : Id). id' (Def s of.name.now)) role
+        by (Method of form) h = ap (kinds_of form).method (same (Def s of.name.now) h)
+        by (Static of form) h = ap (kinds_of form).static (same (Def s of.name.now) h)
+        by (Constructor of) h = ap kind.Constructor (same (Def s of.name.now) h)
+        by _ h = refl
+
+    shapes_kept : (xs : List Shape) → ((k : ℕ) (x : Shape) → slice_get xs k ≡ Some x → IsPresent (IsSeen ks) (expr_of s x)) → map (type_in id s) xs ≡ map (type_in id' s) xs
+    shapes_kept [] h = refl
+    shapes_kept (x ∷ xs) h =
+        let first = at-type_of id' ks gives' (expr_of s x) (type_of id (expr_of s x)) (type_of-at (expr_of s x) (h 0 x refl)) in
+        ap (λ (t : Ty). t ∷ map (type_in id s) xs) first ∙ ap (λ (l : List Ty). type_in id' s x ∷ l) (shapes_kept xs (λ k. h (suc k)))
+
+    function_kept : (fn : SourceFunction) → FunctionPresent (IsSeen ks) s fn → function_in id s fn ≡ function_in id' s fn
+    function_kept fn h = function_same id' s fn (function_in id s fn) refl (role_kept fn.role h.role) (map_map said (param_in s) (all_params fn)) (types_in id s fn ∙ shapes_kept (signature fn) h.types) refl (record { docs = refl; stability = refl; external_id = refl })
+
+  -- functions that are stated are the written ones
+  pub functions_in-are : (s : Address) (fns : List SourceFunction) → ((k : ℕ) (fn : SourceFunction) → slice_get fns k ≡ Some fn → FunctionPresent (IsSeen ks) s fn) → AreFunctions ks s fns (map (function_in id s) fns)
+  functions_in-are s fns h = functions_by ks s fns (map (function_in id s) fns) (length-map fns (function_in id s)) (λ k fn f at there id' gives'. one_mapped (function_in id s) fns (map (function_in id s) fns) refl k fn f at there ∙ function_kept id' gives' s fn (h k fn at))
 
   -- names that are stated mean their places
   pub name_places-are : (t : Turned) → ((k : ℕ) (x : ScopeName) → slice_get t.names k ≡ Some x → IsSeen ks (Def t.address (local_name x))) → HasTypes ks t (name_places id t.address t.names)

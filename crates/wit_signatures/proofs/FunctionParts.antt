@@ -1,7 +1,7 @@
 -- Parameters and results over their types, one after the other.
 use Rattle.std.proofs.Common.{◌≡◌, ◌≤◌, ℕ, List, [], ◌∷◌, ◌++◌, length, map, Option, Some, None, refl, sym, ap, ◌∙◌, subst, arith, append_assoc}
-use Rattle.wit_arena.proofs.Common.{Address, AreShapes, Env, Id, IsInterned, Param, ResourceFunc, SaysParam, Shape, SourceParam, Span, TypeDef, Unknown, map-append, resource_function, self_param, shapes_append, shapes_none, written_param, «Type» as Written}
-use Rattle.wit_arena.proofs.Required.{one_by_one-append, one_by_one-more, one_by_one-none}
+use Rattle.wit_arena.proofs.Common.{Address, AreShapes, Env, Id, IsInterned, Param, ResourceFunc, Shape, SourceParam, Span, TypeDef, Unknown, map-append, resource_function, self_param, shapes_append, shapes_none, written_param, «Type» as Written, length-map}
+use Rattle.wit_arena.proofs.PlacingFunctions.{as_written, said}
 use Rattle.wit_walk.proofs.Common.{Param as WrittenParam}
 use Rattle.wit_type_tree.specs.declared.types.ResourceFunc.TheVariants as resource
 use Rattle.wit_types.specs.declared.types.«Type».{«Type» as Ty}
@@ -16,14 +16,18 @@ use Rattle.wit_entries.proofs.Reading.{resolved_word, whole_present}
 use Rattle.wit_signatures.proofs.SignatureTypes.{result_shape}
 
 params_none : (es : List TypeDef) (env : Env) → AreParamsOver es es env [] []
-params_none es env = record { says = one_by_one-none SaysParam; types = λ s. shapes_none es s env }
+params_none es env = record { says = refl; types = λ s. shapes_none es s env }
 
-params_one : (old new : List TypeDef) (env : Env) (w : SourceParam) (p : Param) → SaysParam w p → ((s : Address) → AreShapes old new s env (w.shape ∷ []) (p.ty ∷ [])) → AreParamsOver old new env (w ∷ []) (p ∷ [])
-params_one old new env w p says is = record { says = one_by_one-more SaysParam w p [] [] says (one_by_one-none SaysParam); types = is }
+params_one : (old new : List TypeDef) (env : Env) (w : SourceParam) (p : Param) → p.name ≡ w.name → p.span ≡ w.span → ((s : Address) → AreShapes old new s env (w.shape ∷ []) (p.ty ∷ [])) → AreParamsOver old new env (w ∷ []) (p ∷ [])
+params_one old new env w p name span is = record { says = cc (name, span); types = is }
+
+-- there are as many parameters as written ones
+pub params_count : (old new : List TypeDef) (env : Env) (ws : List SourceParam) (ps : List Param) → AreParamsOver old new env ws ps → length ps ≡ length ws
+params_count old new env ws ps h = sym (length-map ps said) ∙ ap length h.says ∙ length-map ws as_written
 
 params_append : (old mid new : List TypeDef) (env : Env) (ws vs : List SourceParam) (ps qs : List Param) → AreParamsOver old mid env ws ps → AreParamsOver mid new env vs qs → AreParamsOver old new env (ws ++ vs) (ps ++ qs)
 params_append old mid new env ws vs ps qs p q = record {
-  says = one_by_one-append SaysParam ws vs ps qs p.says q.says;
+  says = map-append said ps qs ∙ ap (λ (l : List (List ℕ × Span)). l ++ map said qs) p.says ∙ ap (λ (l : List (List ℕ × Span)). map as_written ws ++ l) q.says ∙ sym (map-append as_written ws vs);
   types = λ s. subst (λ (ts : List Ty). AreShapes old new s env (map (λ (w : SourceParam). w.shape) (ws ++ vs)) ts) (sym (map-append (λ (p : Param). p.ty) ps qs))
       (subst (λ (xs : List Shape). AreShapes old new s env xs (map (λ (p : Param). p.ty) ps ++ map (λ (p : Param). p.ty) qs)) (sym (map-append (λ (w : SourceParam). w.shape) ws vs))
       (shapes_append old mid new s env (map (λ (w : SourceParam). w.shape) ws) (map (λ (w : SourceParam). w.shape) vs) (map (λ (p : Param). p.ty) ps) (map (λ (p : Param). p.ty) qs) (p.types s) (q.types s)));
@@ -33,16 +37,16 @@ params_append old mid new env ws vs ps qs p q = record {
 pub params_more : (first mid new : List TypeDef) (env : Env) (ws : List SourceParam) (done all : List WrittenParam) (item : WrittenParam) (ps qs : List Param) (p : Param) (ty : Ty) → all ≡ done ++ item ∷ [] → qs ≡ ps ++ p ∷ [] → (p.name ≡ item.name.name.now) × (p.span ≡ item.name.span) × (p.ty ≡ ty) → AreTypes mid new env Unknown (item.ty ∷ []) (ty ∷ []) → AreParamsOver first mid env (ws ++ map written_param done) ps → AreParamsOver first new env (ws ++ map written_param all) qs
 params_more first mid new env ws done all item ps qs p ty in_use pushed says is h =
     let w = written_param item in
-    let one = params_one mid new env w p (says.0, says.1) (λ s. subst (λ (x : Ty). AreShapes mid new s env (w.shape ∷ []) (x ∷ [])) (sym says.2) (is s)) in
+    let one = params_one mid new env w p says.0 says.1 (λ s. subst (λ (x : Ty). AreShapes mid new s env (w.shape ∷ []) (x ∷ [])) (sym says.2) (is s)) in
     let both = params_append first mid new env (ws ++ map written_param done) (w ∷ []) ps (p ∷ []) h one in
     let written : (ws ++ map written_param done) ++ w ∷ [] ≡ ws ++ map written_param all = append_assoc ws (map written_param done) (w ∷ []) ∙ ap (λ (l : List SourceParam). ws ++ l) (sym (map-append written_param done (item ∷ []))) ∙ ap (λ (l : List WrittenParam). ws ++ map written_param l) (sym in_use) in
     subst (AreParamsOver first new env (ws ++ map written_param all)) (sym pushed) (subst (λ (l : List SourceParam). AreParamsOver first new env l (ps ++ p ∷ [])) written both)
 
 -- the type of a method's first parameter, once it is interned
-pub self_over : (old new : List TypeDef) (env : Env) (r : Id) (word : Span) (place i : ℕ) (p : Param) → env r.name.now ≡ Some place → IsInterned old new (kind.Handle (handle.Borrow place)) Unknown word i → SaysParam (self_param r word) p → p.ty ≡ type.Id i → AreParamsOver old new env (self_param r word ∷ []) (p ∷ [])
-self_over old new env r word place i p found interned says same =
+pub self_over : (old new : List TypeDef) (env : Env) (r : Id) (word : Span) (place i : ℕ) (p : Param) → env r.name.now ≡ Some place → IsInterned old new (kind.Handle (handle.Borrow place)) Unknown word i → p.name ≡ (self_param r word).name → p.span ≡ (self_param r word).span → p.ty ≡ type.Id i → AreParamsOver old new env (self_param r word ∷ []) (p ∷ [])
+self_over old new env r word place i p found interned name span same =
     let is = whole_present old old new env Unknown (self_param r word).shape (kind.Handle (handle.Borrow place)) word i (refl, refl, tt, resolved_word old env Unknown r place found) interned in
-    params_one old new env (self_param r word) p says (λ s. subst (λ (x : Ty). AreShapes old new s env ((self_param r word).shape ∷ []) (x ∷ [])) (sym same) (is s))
+    params_one old new env (self_param r word) p name span (λ s. subst (λ (x : Ty). AreShapes old new s env ((self_param r word).shape ∷ []) (x ∷ [])) (sym same) (is s))
 
 -- a written result means a type
 pub result_view : (old new : List TypeDef) (env : Env) (h : BorrowedFunction) (t : Written) (ty : Ty) → (function_view h).func.result ≡ Some t → AreTypes old new env Unknown (t ∷ []) (ty ∷ []) → IsResultOver old new env (function_view h).result (Some ty)

@@ -1,10 +1,12 @@
 //! Functions over their resolved types.
+ghost use Rattle.std.specs.Option.{unwrap_or};
 ghost use Rattle.std.specs.Prelude.{◌≡◌, ◌<◌, ◌∷◌, [], List, IfOk, None, Some, length};
 ghost use Rattle.wit_types.specs.declared.types.TypeDef.{TypeDef as Entry};
 ghost use Rattle.wit_syntax.specs.Function.{self_param as the_self};
 ghost use Rattle.wit_first.specs.First.{Finds};
 ghost use Rattle.wit_first.specs.FunctionFaults.{getter_fault};
-ghost use Rattle.wit_arena.specs.SourceFunctions.{IsKind, kinds_of};
+ghost use Rattle.wit_arena.specs.Made.{role_kind};
+ghost use Rattle.wit_arena.specs.SourceFunctions.{kinds_of};
 ghost use Rattle.wit_arena.specs.Resolving.{env_of};
 ghost use Rattle.wit_entries.specs.EntryFaults.{IsExtended};
 ghost use Rattle.wit_rules.specs.Signatures.{function_view, owner_of, functions_view, HasOwner, HaveOwners, AreParamsOver, IsResultOver};
@@ -77,7 +79,7 @@ fn place_of(names: &TextTable<TypeId>, resource: Id<'_>) -> TypeId
 /// The kind of a function.
 fn kind_of(names: &TextTable<TypeId>, function: BorrowedFunction<'_, '_>) -> FunctionKind
     requires { HasOwner (env_of names.now) (owner_of (function_view function).role) }
-    ensures { IsKind (λ name r. env_of names.now name ≡ Some r) (function_view function.entry).role result }
+    ensures { result ≡ role_kind (λ of. unwrap_or (env_of names.now of.name.now) 0) (function_view function.entry).role }
 {
     match function {
         BorrowedFunction::Free(f) => freestanding(f.func.form),

@@ -7,7 +7,7 @@ use Rattle.wit_entries.proofs.Resolves.{memory_stopped}
 use Rattle.wit_rules.specs.Signatures.{function_view, functions_view, AreParamsOver}
 use Rattle.wit_signatures.specs.FunctionsOfScope.{fault_at}
 use Rattle.wit_signatures.proofs.FunctionFaults.{apart_found, param_next, param_repeated, params_extended, repeat_lent}
-use Rattle.wit_signatures.proofs.FunctionParts.{given_few, params_more}
+use Rattle.wit_signatures.proofs.FunctionParts.{given_few, params_count, params_more}
 use Rattle.wit_signatures.proofs.functions.all_params.Goals as goal
 
 pub loop-written-init : goal.loop-written-init
@@ -17,7 +17,7 @@ loop-written-init c =
     let given = c.in_ok-params.ensures.params in
     record {
       params = subst (λ (ws : List SourceParam). AreParamsOver c.args.types.now c.given_params.new.types env ws c.in_ok-params.params.items) (sym (append-nil fn.given)) given;
-      count = (let n = given.says.count in omega arith);
+      count = (let n = params_count c.args.types.now c.given_params.new.types env fn.given c.in_ok-params.params.items given in omega arith);
       distinct = λ k is le. omega arith;
       none = refl;
       handled = requires_none env c.given_params.new.types c.args.required.now.items;

@@ -83,10 +83,11 @@ returns-clause-adds c =
     let mid = c.all_params.new.types in
     let new = c.resolve_result.new.types in
     let result = c.in_ok-result.ensures.adds in
+    let owner = c.requires.owners.each c.args.place _ (borrowed_here hs c.args.place d c.requires.place) in
     let noted = noted_as here c.in_ok-metadata.metadata c.docs.result.now c.attributes.result.now c.in_ok-metadata.ensures.as_stated c.docs.ensures c.attributes.ensures in
     let handled = requires_types env mid new (map (λ p. p.ty) here.func.params.items) (option_to_list here.func.result) c.args.required.now.items c.all_params.new.required.items c.resolve_result.new.required.items c.in_ok-result.ensures.finds.extended c.in_ok-params.ensures.handled result.1 in
     record {
-      adds = λ fn at s. borrowed_adds c.args.types.now mid new s c.args.scope.names.now here fn _ (borrowed_at hs c.args.place d fn c.requires.place at) c.in_ok-params.ensures.made result.0 c.in_ok-name.ensures c.kind_of.ensures c.span.ensures noted;
+      adds = λ fn at s. borrowed_adds c.args.types.now mid new s c.args.scope.names.now here fn _ (borrowed_at hs c.args.place d fn c.requires.place at) c.in_ok-params.ensures.made result.0 c.in_ok-name.ensures owner c.kind_of.ensures c.span.ensures noted;
       named = λ fn at. (
           let same = borrowed_at hs c.args.place d fn c.requires.place at in
           (c.in_ok-name.ensures ∙ ap (λ (g : SourceFunction). g.name) same, c.span.ensures ∙ ap (λ (g : SourceFunction). g.span) same));
