@@ -1,6 +1,6 @@
 -- Interfaces that were added are done.
 use Rattle.std.proofs.Common.{◌≡◌, ℕ, ◌+◌, true, false, List, [], ◌∷◌, ◌++◌, length, map, Option, Some, inl, inr, refl, sym, ap, ◌∙◌, subst, append_assoc, length-append, suc, ◌⊎◌, arith}
-use Rattle.wit_arena.proofs.Names.{Address, AddsDeclared, AddsForeign, AddsInterfaces, Decls, Defines, Imported, Interface, InterfaceNamed, IsInterface, Item, Names, Occurrence, PackageFile, Required, ResolvedScope, ScopeName, TypeDef, TypeOwner, World, about, address, all_items, all_occurrences, append-cancel, append-nil, at_back, at_part, at_prefix, declarations, declared_metadata, flat_map, foreign_interfaces, foreign_use_occurrence, foreign_uses, foreign_worlds, functions, functions_imported, in_turn, inline_items, interface_functions, is_foreign, length-map, map-append, option_map, owner_at, placed_functions, resolved_scope, resolved_scopes, scope, scope_names, slice_get, slice_get-map, unwrap_or, visited, AreIncludes, AreRequired, Collects, Exported, Function, FunctionKey, HasSide, Id, Include, IsInclude, IsWorld, TopName, Turned, WorldArenas, WorldInclude, WorldItem, WorldKey, WorldNamed, after_one, all_handles, at_either, at_split, flat_map-append, flat_map_at, flat_map_has, import_types, includes, keys, leads, local_names, map_at, name_types, side_items, target_scope, turn_handles, turn_occurrences, type_imports, world_functions, world_types, «Type» as Written, ForeignVisit, slice_get_within}
+use Rattle.wit_arena.proofs.Names.{Address, AddsDeclared, AddsForeign, AddsInterfaces, Decls, Defines, Imported, Interface, InterfaceNamed, IsInterface, Item, Names, Occurrence, PackageFile, Required, ResolvedScope, ScopeName, TypeDef, TypeOwner, World, about, address, all_items, all_occurrences, append-cancel, append-nil, at_back, at_part, at_prefix, declarations, declared_metadata, flat_map, foreign_interfaces, foreign_use_occurrence, foreign_uses, foreign_worlds, functions, functions_imported, in_turn, inline_items, interface_functions, is_foreign, length-map, map-append, option_map, owner_at, placed_functions, resolved_scope, resolved_scopes, scope, scope_names, slice_get, slice_get-map, unwrap_or, visited, AreIncludes, AreRequired, Collects, Exported, Function, FunctionKey, HasSide, Id, Include, IsInclude, IsWorld, TopName, Turned, WorldArenas, WorldInclude, WorldItem, WorldKey, WorldNamed, after_one, all_handles, at_either, at_split, flat_map-append, flat_map_at, flat_map_has, import_types, includes, keys, leads, local_names, map_at, name_types, side_items, target_scope, turn_handles, turn_occurrences, type_imports, world_functions, world_types, «Type» as Written, ForeignVisit, slice_get_within, foreign_world}
 use Rattle.wit_arena.proofs.FreeNames.{free_of, free_keyed}
 use Rattle.wit_arena.proofs.Settled.{stated_placed, world_types-all}
 use Rattle.wit_arena.proofs.Ordered.{Ordered, OrderedWorld, addresses, turned, side_turns, world_turns, all_turns, all_inside}
@@ -136,7 +136,7 @@ module _ (files : List PackageFile) (is ws : List Item) where
       next_interface xs = ap owner.Interface (length-append prefix xs ∙ ap (λ n. n + length xs) (foreign.interfaces.count ∙ sym (length-map (foreign_interfaces files) visited)))
 
       pub next_world : (xs : List World) → owner.World (length (wprefix ++ xs)) ≡ WorldOwner files (length xs)
-      next_world xs = ap owner.World (length-append wprefix xs ∙ ap (λ n. n + length xs) (foreign.worlds.count ∙ sym (length-map (foreign_worlds files) visited)))
+      next_world xs = ap owner.World (length-append wprefix xs ∙ ap (λ n. n + length xs) (ap length foreign.worlds ∙ length-map (foreign_worlds files) foreign_world ∙ sym (length-map (foreign_worlds files) visited)))
 
       -- what an interface adds is done
       interface_next : (us : List Item) (old new : List TypeDef) (xs xs' : List Interface) (qs rs : List Required) (w : Item) → slice_get is (length us) ≡ Some w → (d : InterfacesDone prefix us old xs qs) → After (AddsDeclared (map visited (foreign_interfaces files))) (interface_extends (map visited (foreign_interfaces files))) prefix old new xs xs' rs w → IsNextDone (InterfaceOwner files) SaysInterface resolved_scope MakesInterface files (decls files is ws) (prefix_scopes files prefix) is us old new xs xs' qs rs w d

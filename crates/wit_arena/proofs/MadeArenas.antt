@@ -1,11 +1,11 @@
 -- Where a function gives the place of each key, the arenas of interfaces and of worlds are stated.
 use Rattle.std.proofs.Common.{◌≡◌, ℕ, List, ◌++◌, Some, ap, ◌∙◌, sym}
-use Rattle.wit_arena.proofs.Names.{Address, ForeignVisit, Interface, IsForeignInterface, IsForeignWorld, Item, Key, PackageFile, World, foreign_interface, foreign_interfaces, foreign_world, inline_items, map, map_map, names_in_turn, own_interface, own_world, slice_get, GivesPlaces}
+use Rattle.wit_arena.proofs.Names.{Address, ForeignVisit, Interface, IsForeignInterface, Item, Key, PackageFile, World, foreign_interface, foreign_interfaces, foreign_world, inline_items, map, map_map, names_in_turn, own_interface, own_world, slice_get, GivesPlaces, OneByOne}
 use Rattle.wit_arena.proofs.Ordered.{Ordered, OrderedWorld, ordered_names}
 use Rattle.wit_arena.proofs.PackageIfDone.{BothParts, IsResolvedInterface, IsResolvedWorld}
 use Rattle.wit_arena.proofs.MadeInterfaces.{foreign_interface-as_stated, own_interface-as_stated}
 use Rattle.wit_arena.proofs.MadeSides.{ArePlaced}
-use Rattle.wit_arena.proofs.MadeWorlds.{foreign_world-as_stated, own_world-as_stated}
+use Rattle.wit_arena.proofs.MadeWorlds.{own_world-as_stated}
 use Rattle.wit_arena.proofs.PlacingFunctions.{one_by_one-image}
 use Rattle.wit_arena.proofs.Turns.{item_of, own_item}
 
@@ -20,7 +20,7 @@ module _ (id : Key → ℕ) (ks : List Key) (gives : GivesPlaces id ks) (order :
       own ∙ ap (λ (l : List Interface). map (foreign_interface files id) (foreign_interfaces files) ++ l) (sym (map_map (own_interface id order) item_of os))
 
   module _ (ss : List Address) (placed : ArePlaced ss) (ws : List Address) (worlds_placed : ArePlaced ws) where
-    pub worlds-as_stated : (vs : List ForeignVisit) (os : List OrderedWorld) (xs : List World) → ((k : ℕ) (o : OrderedWorld) → slice_get os k ≡ Some o → (ordered_names o.own ≡ names_in_turn order o.own.item) × (map (λ x. x.item) o.inside ≡ inline_items o.own.item)) → BothParts IsForeignWorld (IsResolvedWorld ks ss ws) vs os xs → xs ≡ map foreign_world vs ++ map (own_world id order ss ws) (map own_item os)
+    pub worlds-as_stated : (vs : List ForeignVisit) (os : List OrderedWorld) (xs : List World) → ((k : ℕ) (o : OrderedWorld) → slice_get os k ≡ Some o → (ordered_names o.own ≡ names_in_turn order o.own.item) × (map (λ x. x.item) o.inside ≡ inline_items o.own.item)) → (own : List World) × (xs ≡ map foreign_world vs ++ own) × OneByOne (IsResolvedWorld ks ss ws) os own → xs ≡ map foreign_world vs ++ map (own_world id order ss ws) (map own_item os)
     worlds-as_stated vs os xs each both =
-        let own = both_parts-images IsForeignWorld (IsResolvedWorld ks ss ws) foreign_world (λ (o : OrderedWorld). own_world id order ss ws o.own.item) vs os xs foreign_world-as_stated (λ k o w at. (let it = each k o at in own_world-as_stated id ks gives ss placed ws worlds_placed order o w it.0 it.1)) both in
-        own ∙ ap (λ (l : List World). map foreign_world vs ++ l) (sym (map_map (own_world id order ss ws) own_item os))
+        let made = one_by_one-image (IsResolvedWorld ks ss ws) (λ (o : OrderedWorld). own_world id order ss ws o.own.item) os both.0 (λ k o w at. (let it = each k o at in own_world-as_stated id ks gives ss placed ws worlds_placed order o w it.0 it.1)) both.2 in
+        both.1 ∙ ap (λ (l : List World). map foreign_world vs ++ l) (made ∙ sym (map_map (own_world id order ss ws) own_item os))

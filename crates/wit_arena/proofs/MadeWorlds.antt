@@ -1,6 +1,6 @@
 -- Where a function gives the place of each key, and scopes are where they are stated to, each world of the package is stated.
 use Rattle.std.proofs.Common.{◌≡◌, ℕ, List, [], ◌∷◌, ◌++◌, Option, refl, sym, ap, ◌∙◌, subst}
-use Rattle.wit_arena.proofs.Names.{Address, AreSideItems, Def, Docs, Exported, ForeignVisit, Function, Imported, Include, IsForeignWorld, IsInclude, IsWorld, Item, Key, Metadata, ScopeName, Span, Stability, TopName, Type_, World, WorldInclude, WorldItem, WorldKey, WorldNamed, WorldSide, about, address, declared_metadata, entries_on, entries_walked, flat_map, foreign_world, function_in, functions as item_functions, include_in, includes, inline_items, item_function, leads, local_id, local_name, map, name_imports, name_places, names_in_turn, own_world, settled, side_items, target_scope, type_imports, world, world_entries, world_types, metadata, no_docs, GivesPlaces}
+use Rattle.wit_arena.proofs.Names.{Address, AreSideItems, Def, Docs, Exported, Function, Imported, Include, IsInclude, IsWorld, Item, Key, Metadata, ScopeName, Span, Stability, TopName, Type_, World, WorldInclude, WorldItem, WorldKey, WorldNamed, WorldSide, about, address, declared_metadata, entries_on, entries_walked, flat_map, function_in, functions as item_functions, include_in, includes, inline_items, item_function, leads, local_id, local_name, map, name_imports, name_places, names_in_turn, own_world, settled, side_items, target_scope, type_imports, world, world_entries, world_types, GivesPlaces}
 use Rattle.wit_model.specs.declared.world.IncludeName.{IncludeName}
 use Rattle.wit_model.specs.declared.world.WorldKey.TheVariants as key
 use Rattle.wit_arena.proofs.Ordered.{OrderedWorld, addresses, ordered_names, turned}
@@ -25,9 +25,6 @@ world_stated name span n w imports exports includes says same_imports same_expor
     let of = says.4 in
     let same : fields w.name w.imports w.exports w.package w.docs w.stability w.includes w.span ≡ world name imports exports includes n span = cc in
     same
-
-pub foreign_world-as_stated : (v : ForeignVisit) (w : World) → IsForeignWorld v w → w ≡ foreign_world v
-foreign_world-as_stated v w h = world_stated [] v.id.span (metadata no_docs []) w [] [] [] h.0 h.1 h.2 h.3
 
 abbrev include : Stability → ℕ → List IncludeName → Span → WorldInclude
 include stability id names span = record { stability = stability; id = id; names = names; span = span }

@@ -1,6 +1,6 @@
 -- The package that files make, part by part: what the steps of resolving them come to.
 use Rattle.std.proofs.Common.{◌≡◌, ℕ, List, Some, sym, ap, ◌∙◌, subst, arith, ◌+◌, ◌++◌, length, inl, inr, refl, append_assoc}
-use Rattle.wit_arena.proofs.Names.{Address, AreIncludes, AreRequired, Collects, Exported, Function, HasSide, HasTypes, Imported, Interface, IsForeignInterface, IsForeignWorld, IsInterface, IsOccurrence, IsWorld, Key, Occurrence, OneByOne, PackageFile, Required, TypeDef, UnresolvedPackage, World, [], about, address, all_occurrences, declarations, declared_metadata, dep, first_foreign_uses, flat_map, foreign_interfaces, foreign_packages, foreign_worlds, functions as item_functions, includes, keys, map, placed_functions, turn_handles, type_imports, world_types, AreAt, Decls, Def, ScopeName, SourceFunction, TypeOwner, at_within, differ_at, kind_of, local_name, lookup-at, map_at, name_exprs, one, option_map, scope, slice_get, slice_get-map, slice_get_within, AddsForeign, AreFunctions, AreSideItems, ForeignVisit, Id, IsOrder, Item, Names, Turned, WorldArenas, all_items, at_back, at_part, at_prefix, flat_map-append, functions, in_order, inline_items, interfaces_of, item_rows, length-map, map-append, map_map, resolved_scope, rows_of, scope_names, settled, side_items, visited, worlds_of}
+use Rattle.wit_arena.proofs.Names.{Address, AreIncludes, AreRequired, Collects, Exported, Function, HasSide, HasTypes, Imported, Interface, IsForeignInterface, IsInterface, IsOccurrence, IsWorld, Key, Occurrence, OneByOne, PackageFile, Required, TypeDef, UnresolvedPackage, World, [], about, address, all_occurrences, declarations, declared_metadata, dep, first_foreign_uses, flat_map, foreign_interfaces, foreign_packages, foreign_worlds, functions as item_functions, includes, keys, map, placed_functions, turn_handles, type_imports, world_types, AreAt, Decls, Def, ScopeName, SourceFunction, TypeOwner, at_within, differ_at, kind_of, local_name, lookup-at, map_at, name_exprs, one, option_map, scope, slice_get, slice_get-map, slice_get_within, AddsForeign, AreFunctions, AreSideItems, ForeignVisit, Id, IsOrder, Item, Names, Turned, WorldArenas, all_items, at_back, at_part, at_prefix, flat_map-append, functions, in_order, inline_items, interfaces_of, item_rows, length-map, map-append, map_map, resolved_scope, rows_of, scope_names, settled, side_items, visited, worlds_of, foreign_world}
 use Rattle.wit_arena.proofs.Ordered.{AreOrdered, Ordered, ordered_names, turned, OrderedWorld, all_turns, all_inside, addresses, interface_addresses, world_addresses, world_turns}
 use Rattle.wit_arena.proofs.OneKind.{all_at_untaken}
 use Rattle.wit_arena.proofs.PlacingFunctions.{IsFunction, function_of, made_count}
@@ -56,7 +56,7 @@ pub record IsPackage (files : List PackageFile) (es : List TypeDef) (is : List I
   pub first : Collects [] (all_occurrences files (all_turns own own_worlds)) seen
   pub occurrence : IsOccurrence (declarations files (interface_addresses files (own ++ all_inside own_worlds)) (world_addresses files own_worlds)) seen es
   pub interfaces : BothParts (IsForeignInterface files (keys seen)) (IsResolvedInterface (keys seen)) (foreign_interfaces files) (own ++ all_inside own_worlds) is
-  pub worlds : BothParts IsForeignWorld (IsResolvedWorld (keys seen) (interface_addresses files (own ++ all_inside own_worlds)) (world_addresses files own_worlds)) (foreign_worlds files) own_worlds ws
+  pub worlds : (resolved : List World) × (ws ≡ map foreign_world (foreign_worlds files) ++ resolved) × OneByOne (IsResolvedWorld (keys seen) (interface_addresses files (own ++ all_inside own_worlds)) (world_addresses files own_worlds)) own_worlds resolved
   -- the types of other packages that must be resources: those at which names in handles end, of all interfaces and then of all worlds
   pub required : AreRequired files (keys seen) (flat_map turn_handles (all_turns own own_worlds)) rs
 
@@ -273,6 +273,6 @@ module _ (files : List PackageFile) (is ws : List Item) (start middle : List Typ
     first = e.done.collects;
     occurrence = seen_addresses;
     interfaces = (prefix, xs ++ a.inside, append_assoc prefix xs a.inside, record { count = foreign.interfaces.count; each = foreign_interface_is }, interfaces_are);
-    worlds = (wprefix, ys, e.arena, foreign.worlds, worlds_are);
+    worlds = (ys, e.arena ∙ ap (λ (l : List World). l ++ ys) foreign.worlds, worlds_are);
     required = required_of;
   }

@@ -4,12 +4,12 @@ use Rattle.wit_arena.specs.Names.{Address, AreDistinct, Exported, ForeignUse, Fu
 use Rattle.wit_type_tree.specs.declared.leaves.Attribute.{Attribute}
 use Rattle.wit_tree.specs.declared.tree.UseName.{UseName}
 use Rattle.wit_arena.specs.Occurrences.{Expr, Prim, Use, Of, Exprs, End, More, exprs_of, Key, Def, Whole, Occurrence, keys, IsSeen, Collects, AreAt, Decls, IsOccurrence, name_occurrences, settled, shape_occurrences}
-use Rattle.wit_arena.specs.UnfoldedTypes.{At, IsInterface, IsWorld, IsForeignWorld}
+use Rattle.wit_arena.specs.UnfoldedTypes.{At, IsInterface, IsWorld}
 use Rattle.wit_arena.specs.SourceFunctions.{freestanding_names, placed_functions, HasSide}
 use Rattle.wit_arena.specs.Kind.{IsResource, IsUnknown as IsUnknownEntry, entry_end}
 use Rattle.wit_types.specs.declared.types.TypeDefKind.TheVariants.{Unknown as UnknownKind}
 use Rattle.wit_arena.specs.OneByOne.{OneByOne}
-use Rattle.wit_arena.specs.Made.{function_in}
+use Rattle.wit_arena.specs.Made.{foreign_world, function_in}
 use Rattle.wit_arena.specs.Whole.{owner_at, IsForeignInterface, type_imports, AreIncludes}
 use Rattle.wit_types.specs.declared.types.«Type».TheVariants as type
 use Rattle.wit_types.specs.declared.types.TypeOwner.TheVariants as owner
@@ -285,4 +285,4 @@ foreign_type files t = named (owner_at (map visited (foreign_interfaces files)) 
 pub record AddsForeign (files : List PackageFile) (es : List TypeDef) (is : List Interface) (ws : List World) : Type 0 where
   pub types : es ≡ map (foreign_type files) (first_foreign_uses files)
   pub interfaces : OneByOne (IsForeignInterface files (keys (map foreign_use_occurrence (first_foreign_uses files)))) (foreign_interfaces files) is
-  pub worlds : OneByOne IsForeignWorld (foreign_worlds files) ws
+  pub worlds : ws ≡ map foreign_world (foreign_worlds files)

@@ -1,6 +1,6 @@
 -- What types of a package mean: the arenas unfolded, whose names are by what the package calls them, and what an interface says.
 use Rattle.std.specs.Prelude.{◌≡◌, ℕ, suc, ◌<◌, Bool, true, false, nat_eq, List, [], ◌∷◌, ◌++◌, Option, Some, None, map, find, slice_get}
-use Rattle.wit_arena.specs.Names.{Address, AstItem, Exported, ForeignNamed, ForeignVisit, Function, FunctionKey, Head, Imported, InlineAt, Interface, InterfaceNamed, Leaf, Metadata, Named, Node, Nothing, PackageName, Param, Span, Stability, Tree, TypeDef, TypeOwner, Unnamed, UnresolvedPackage, World, WorldItem, WorldKey, WorldNamed, WorldSide, filter, flat_map, option_and_then, option_map, option_map_or, option_or, option_to_list, unfolded, «Type» as Ty, metadata, no_docs}
+use Rattle.wit_arena.specs.Names.{Address, AstItem, Exported, ForeignNamed, Function, FunctionKey, Head, Imported, InlineAt, Interface, InterfaceNamed, Leaf, Metadata, Named, Node, Nothing, PackageName, Param, Span, Stability, Tree, TypeDef, TypeOwner, Unnamed, UnresolvedPackage, World, WorldItem, WorldKey, WorldNamed, WorldSide, filter, flat_map, option_and_then, option_map, option_map_or, option_or, option_to_list, unfolded, «Type» as Ty}
 use Rattle.wit_model.specs.declared.ast_item.AstItem.TheVariants as entry
 use Rattle.wit_model.specs.declared.world.WorldKey.TheVariants as key
 use Rattle.wit_model.specs.declared.world.WorldItem.TheVariants as item
@@ -138,7 +138,3 @@ IsInterface name span n i = (i.name ≡ name) × (i.span ≡ span) × (i.docs �
 -- a world of the arena is the declared one of a name and these metadata, apart from its imports, exports and includes
 abbrev pub IsWorld : List ℕ → Span → Metadata → World → Type 0
 IsWorld name span n w = (w.name ≡ name) × (w.span ≡ span) × (w.docs ≡ n.docs) × (w.stability ≡ n.stability) × (w.package ≡ None)
-
--- a world of another package, where a path first leads to it
-abbrev pub IsForeignWorld : ForeignVisit → World → Type 0
-IsForeignWorld v w = IsWorld [] v.id.span (metadata no_docs []) w × (w.imports ≡ []) × (w.exports ≡ []) × (w.includes ≡ [])

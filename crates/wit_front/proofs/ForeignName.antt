@@ -1,6 +1,6 @@
 -- The arenas of other packages' items, with one item more, and with one name more.
 use Rattle.std.proofs.Common.{◌≡◌, ℕ, ◌+◌, Bool, true, false, if◌then◌else◌, List, [], ◌∷◌, ◌++◌, length, Option, Some, None, inl, inr, nat_eq, refl, sym, ap, ◌∙◌, subst, append_assoc, zero-add, Bor}
-use Rattle.wit_items.proofs.Common.{Address, AllDiffer, AstItem, Attribute, Def, ForeignName, ForeignUse, ForeignVisit, HasTypes, Interface, IsForeignInterface, IsForeignWorld, Key, Names, PackageFile, Span, TypeDef, TypeOwner, UseName, World, append-nil, both_ways, cases_Bool, differ_at, filter, first_foreign_uses, firsts, firsts-more, firsts_at, firsts_has, flat_map, flat_map-append, foreign_interfaces, foreign_items, foreign_turned, foreign_use_key, foreign_use_occurrence, foreign_uses, foreign_worlds, insert_entry, keys, keys-foreign_uses, length-map, local_name, lookup, lookup-place, map, map-append, map_at, map_map, metadata, named, no_docs, option_copied, option_map, option_or, owner_at, place_at, place_at-found, pointwise, same_address, same_address-equal, same_address-from, same_foreign_use, slice_get, slice_get-map, slice_set, unwrap_or, use_of_foreign, use_of_foreign-equal, use_of_foreign-from, visited, visits_differ}
+use Rattle.wit_items.proofs.Common.{Address, AllDiffer, AstItem, Attribute, Def, ForeignName, ForeignUse, ForeignVisit, HasTypes, Interface, IsForeignInterface, Key, Names, PackageFile, Span, TypeDef, TypeOwner, UseName, World, append-nil, both_ways, cases_Bool, differ_at, filter, first_foreign_uses, firsts, firsts-more, firsts_at, firsts_has, flat_map, flat_map-append, foreign_interfaces, foreign_items, foreign_turned, foreign_use_key, foreign_use_occurrence, foreign_uses, insert_entry, keys, keys-foreign_uses, length-map, local_name, lookup, lookup-place, map, map-append, map_at, map_map, metadata, named, no_docs, option_copied, option_map, option_or, owner_at, place_at, place_at-found, pointwise, same_address, same_address-equal, same_address-from, same_foreign_use, slice_get, slice_get-map, slice_set, unwrap_or, use_of_foreign, use_of_foreign-equal, use_of_foreign-from, visited, visits_differ}
 use Rattle.std.specs.Prelude.{is_some}
 use Rattle.wit_types.specs.declared.types.TypeDefKind.TheVariants as kind
 use Rattle.wit_types.specs.declared.types.TypeOwner.TheVariants as owner
@@ -182,13 +182,6 @@ module _ (files : List PackageFile) (es : List TypeDef) (a : ForeignArenas) (don
       let both : Some (visited_interface all v) ≡ Some i = sym (ap (λ (l : List Interface). slice_get l t) done.interfaces ∙ slice_get-map (visited_interface all) (foreign_interfaces files) t ∙ ap (option_map (visited_interface all)) at_v) ∙ at_i in
       cc
 
-  -- the world at the place of a visit
-  world_is : (t : ℕ) (v : ForeignVisit) (w : World) → slice_get (foreign_worlds files) t ≡ Some v → slice_get a.worlds t ≡ Some w → bare_world v.id.span ≡ w
-  world_is t v w at_v at_w =
-      let bare = λ (u : ForeignVisit). bare_world u.id.span in
-      let both : Some (bare v) ≡ Some w = sym (ap (λ (l : List World). slice_get l t) done.worlds ∙ slice_get-map bare (foreign_worlds files) t ∙ ap (option_map bare) at_v) ∙ at_w in
-      cc
-
   -- once all names were used, the prefix is made
   pub prefix_used : IsPrefix files es a
   prefix_used = record {
@@ -198,10 +191,7 @@ module _ (files : List PackageFile) (es : List TypeDef) (a : ForeignArenas) (don
         count = ap length done.interfaces ∙ length-map (foreign_interfaces files) (visited_interface all);
         each = λ t v i at_v at_i. subst (λ (x : Interface). IsForeignInterface files (keys (map foreign_use_occurrence all)) v x) (interface_is t v i at_v at_i) ((refl, refl, refl, refl, refl, refl), has_types v, refl);
       };
-      worlds = record {
-        count = ap length done.worlds ∙ length-map (foreign_worlds files) (λ (u : ForeignVisit). bare_world u.id.span);
-        each = λ t v w at_v at_w. subst (λ (x : World). IsForeignWorld v x) (world_is t v w at_v at_w) ((refl, refl, refl, refl, refl), refl, refl, refl);
-      };
+      worlds = done.worlds;
     };
     entries = done.entries ∙ entries_after-among (foreign_items files) (visits_differ files);
     spans = done.spans;
