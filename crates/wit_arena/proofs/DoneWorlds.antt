@@ -1,6 +1,6 @@
 -- Interfaces that were added are done.
 use Rattle.std.proofs.Common.{◌≡◌, ℕ, ◌+◌, true, false, List, [], ◌∷◌, ◌++◌, length, map, Option, Some, inl, inr, refl, sym, ap, ◌∙◌, subst, append_assoc, length-append, suc, ◌⊎◌, arith}
-use Rattle.wit_arena.proofs.Names.{Address, AddsDeclared, AddsForeign, AddsInterfaces, Decls, Defines, Imported, Interface, InterfaceNamed, IsInterface, Item, Names, Occurrence, PackageFile, Required, ResolvedScope, ScopeName, TypeDef, TypeOwner, World, about, address, all_items, all_occurrences, append-cancel, append-nil, at_back, at_part, at_prefix, declarations, declared_metadata, flat_map, foreign_interfaces, foreign_use_occurrence, foreign_uses, foreign_worlds, functions, functions_imported, in_turn, inline_items, interface_functions, is_foreign, length-map, map-append, option_map, owner_at, placed_functions, resolved_scope, resolved_scopes, scope, scope_names, slice_get, slice_get-map, unwrap_or, visited, AreIncludes, AreRequired, Collects, Exported, Function, FunctionKey, HasSide, Id, Include, IsInclude, IsWorld, TopName, Turned, WorldArenas, WorldInclude, WorldItem, WorldKey, WorldNamed, after_one, all_handles, at_either, at_split, flat_map-append, flat_map_at, flat_map_has, import_types, includes, keys, leads, local_names, map_at, name_types, side_items, target_scope, turn_handles, turn_occurrences, type_imports, world_functions, world_types, «Type» as Written, ForeignVisit, slice_get_within, foreign_world}
+use Rattle.wit_arena.proofs.Names.{Address, AddsDeclared, AddsForeign, AddsInterfaces, Decls, Defines, Imported, Interface, InterfaceNamed, IsInterface, Item, Names, Occurrence, PackageFile, Required, ResolvedScope, ScopeName, TypeDef, TypeOwner, World, about, address, all_items, all_occurrences, append-cancel, append-nil, at_back, at_part, at_prefix, declarations, declared_metadata, flat_map, foreign_interfaces, foreign_use_occurrence, foreign_uses, foreign_worlds, functions, functions_imported, in_turn, inline_items, interface_functions, is_foreign, length-map, map-append, option_map, owner_at, placed_functions, resolved_scope, resolved_scopes, scope, scope_names, slice_get, slice_get-map, unwrap_or, visited, AreIncludes, AreRequired, Collects, Exported, Function, FunctionKey, HasSide, Id, Include, IsInclude, IsWorld, TopName, Turned, WorldArenas, WorldInclude, WorldItem, WorldKey, WorldNamed, after_one, all_handles, at_either, at_split, flat_map-append, flat_map_at, flat_map_has, import_types, includes, keys, leads, local_names, map_at, name_types, side_items, target_scope, turn_handles, turn_occurrences, type_imports, world_functions, world_types, «Type» as Written, ForeignVisit, slice_get_within}
 use Rattle.wit_arena.proofs.FreeNames.{free_of, free_keyed}
 use Rattle.wit_arena.proofs.Settled.{stated_placed, world_types-all}
 use Rattle.wit_arena.proofs.Ordered.{Ordered, OrderedWorld, addresses, turned, side_turns, world_turns, all_turns, all_inside}
@@ -9,7 +9,7 @@ use Rattle.wit_arena.proofs.Indexing.{resolved_scopes-append}
 use Rattle.wit_arena.proofs.Resolving.{DoneScope, resolved_scope_of, IsDone}
 use Rattle.wit_arena.proofs.Interfaces.{AreItems, AreOfSort, AreAddresses, item_scopes, interface_address, declared_called, own_address, interface_owner_at, world_owner_at, scope_addresses}
 use Rattle.wit_arena.proofs.Visits.{AreUsableUses, visited_addresses, addresses_join, visited_foreign, address_own}
-use Rattle.wit_arena.proofs.Prefix.{interface_scopes, world_scopes, prefix_scopes, resolved_scopes-interface_scopes, prefix_at, PrefixInterface, PrefixWorld, prefix_done, interface_scope, interface_scope_at}
+use Rattle.wit_arena.proofs.Prefix.{interface_scopes, world_scopes, prefix_scopes, resolved_scopes-interface_scopes, prefix_at, PrefixInterface, PrefixWorld, prefix_done, interface_scope, interface_scope_at, interfaces_count, worlds_count}
 use Rattle.wit_arena.proofs.ScopesInTurn.{AreDone, IsNextDone, done_prefix, AreLaid}
 use Rattle.wit_arena.proofs.Inside.{AreInside, HasInside, inside_at, inside_count}
 use Rattle.wit_arena.proofs.Required.{in_scope}
@@ -109,7 +109,7 @@ module _ (files : List PackageFile) (is ws : List Item) where
       -- no scope in front is that of an item
       pub prefix_apart : (w : Item) (k : ℕ) (c : DoneScope) → slice_get (prefix_scopes files prefix) k ≡ Some c → c.address ≡ address w → ⊥
       prefix_apart w k c at same =
-          let foreign_is : is_foreign c.address ≡ true = elim (prefix_at files prefix foreign.interfaces.count k c at) [
+          let foreign_is : is_foreign c.address ≡ true = elim (prefix_at files prefix (interfaces_count foreign) k c at) [
             | PrefixInterface i v x v_at x_at is ↦ ap (λ (b : DoneScope). is_foreign b.address) is
             | PrefixWorld i v v_at is ↦ ap (λ (b : DoneScope). is_foreign b.address) is
           ] in
@@ -123,7 +123,7 @@ module _ (files : List PackageFile) (is ws : List Item) where
           let vs = foreign_interfaces files in
           let ahead = interface_scopes files 0 vs prefix in
           let between = world_scopes 0 (foreign_worlds files) in
-          let count = foreign.interfaces.count in
+          let count = interfaces_count foreign in
           let whole : map resolved_scope_of (prefix_scopes files prefix ++ cs) ≡ map resolved_scope_of (prefix_scopes files prefix) ++ map resolved_scope_of cs = map-append resolved_scope_of (prefix_scopes files prefix) cs in
           let fore : map resolved_scope_of (prefix_scopes files prefix) ≡ map resolved_scope_of ahead ++ map resolved_scope_of between = map-append resolved_scope_of ahead between in
           elim (at_part (resolved_scopes (map visited vs) prefix) (map resolved_scope xs) t c (ap (λ (l : List ResolvedScope). slice_get l t) (sym (resolved_scopes-append (map visited vs) prefix xs (count ∙ sym (length-map vs visited)))) ∙ at)) [
@@ -133,10 +133,10 @@ module _ (files : List PackageFile) (is ws : List Item) where
 
       -- whom the next one's place means
       pub next_interface : (xs : List Interface) → owner.Interface (length (prefix ++ xs)) ≡ InterfaceOwner files (length xs)
-      next_interface xs = ap owner.Interface (length-append prefix xs ∙ ap (λ n. n + length xs) (foreign.interfaces.count ∙ sym (length-map (foreign_interfaces files) visited)))
+      next_interface xs = ap owner.Interface (length-append prefix xs ∙ ap (λ n. n + length xs) (interfaces_count foreign ∙ sym (length-map (foreign_interfaces files) visited)))
 
       pub next_world : (xs : List World) → owner.World (length (wprefix ++ xs)) ≡ WorldOwner files (length xs)
-      next_world xs = ap owner.World (length-append wprefix xs ∙ ap (λ n. n + length xs) (ap length foreign.worlds ∙ length-map (foreign_worlds files) foreign_world ∙ sym (length-map (foreign_worlds files) visited)))
+      next_world xs = ap owner.World (length-append wprefix xs ∙ ap (λ n. n + length xs) (worlds_count foreign ∙ sym (length-map (foreign_worlds files) visited)))
 
       -- what an interface adds is done
       interface_next : (us : List Item) (old new : List TypeDef) (xs xs' : List Interface) (qs rs : List Required) (w : Item) → slice_get is (length us) ≡ Some w → (d : InterfacesDone prefix us old xs qs) → After (AddsDeclared (map visited (foreign_interfaces files))) (interface_extends (map visited (foreign_interfaces files))) prefix old new xs xs' rs w → IsNextDone (InterfaceOwner files) SaysInterface resolved_scope MakesInterface files (decls files is ws) (prefix_scopes files prefix) is us old new xs xs' qs rs w d

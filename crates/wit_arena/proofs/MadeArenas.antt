@@ -1,12 +1,12 @@
 -- Where a function gives the place of each key, the arenas of interfaces and of worlds are stated.
 use Rattle.std.proofs.Common.{◌≡◌, ℕ, List, ◌++◌, Some, ap, ◌∙◌, sym}
-use Rattle.wit_arena.proofs.Names.{Address, ForeignVisit, Interface, IsForeignInterface, Item, Key, PackageFile, World, foreign_interface, foreign_interfaces, foreign_world, inline_items, map, map_map, names_in_turn, own_interface, own_world, slice_get, GivesPlaces, OneByOne}
+use Rattle.wit_arena.proofs.Names.{Address, ForeignVisit, Interface, Item, Key, PackageFile, World, foreign_interface, foreign_interfaces, foreign_world, inline_items, map, map_map, names_in_turn, own_interface, own_world, slice_get, GivesPlaces, OneByOne}
 use Rattle.wit_arena.proofs.Ordered.{Ordered, OrderedWorld, ordered_names}
 use Rattle.wit_arena.proofs.PackageIfDone.{BothParts, IsResolvedInterface, IsResolvedWorld}
 use Rattle.wit_arena.proofs.MadeInterfaces.{foreign_interface-as_stated, own_interface-as_stated}
 use Rattle.wit_arena.proofs.MadeSides.{ArePlaced}
 use Rattle.wit_arena.proofs.MadeWorlds.{own_world-as_stated}
-use Rattle.wit_arena.proofs.PlacingFunctions.{one_by_one-image}
+use Rattle.wit_arena.proofs.PlacingFunctions.{one_by_one-image, IsForeignInterface}
 use Rattle.wit_arena.proofs.Turns.{item_of, own_item}
 
 module _ {X Y Z : Type 0} (First : X → Z → Type 0) (Then : Y → Z → Type 0) (f : X → Z) (g : Y → Z) where

@@ -1,9 +1,9 @@
 -- Where a function gives the place of each key, each interface of the package is stated.
 use Rattle.std.proofs.Common.{◌≡◌, ℕ, List, [], Option, Some, None, ap, ◌∙◌}
-use Rattle.wit_arena.proofs.Names.{Docs, ForeignVisit, Function, Interface, IsForeignInterface, IsInterface, Item, Key, Metadata, PackageFile, Span, Stability, about, address, by_name, declared_metadata, foreign_interface, function_in, functions as item_functions, interface, map_map, name_places, names_in_turn, own_interface, placed, placed_functions, metadata, no_docs, GivesPlaces}
+use Rattle.wit_arena.proofs.Names.{Docs, ForeignVisit, Function, Interface, IsInterface, Item, Key, Metadata, PackageFile, Span, Stability, about, address, by_name, declared_metadata, foreign_interface, function_in, functions as item_functions, interface, map_map, name_places, names_in_turn, own_interface, placed, placed_functions, metadata, no_docs, GivesPlaces}
 use Rattle.wit_arena.proofs.Ordered.{Ordered, ordered_names, turned}
 use Rattle.wit_arena.proofs.PackageIfDone.{IsResolvedInterface}
-use Rattle.wit_arena.proofs.PlacingFunctions.{types-places}
+use Rattle.wit_arena.proofs.PlacingFunctions.{types-places, IsForeignInterface}
 use Rattle.wit_arena.proofs.Turns.{foreign_turned}
 
 abbrev fields : Option (List ℕ) → List (List ℕ × ℕ) → List (List ℕ × Function) → Docs → Stability → Option ℕ → Span → Option ℕ → Interface

@@ -1,12 +1,12 @@
 -- The package that files make, part by part: what the steps of resolving them come to.
 use Rattle.std.proofs.Common.{◌≡◌, ℕ, List, Some, sym, ap, ◌∙◌, subst, arith, ◌+◌, ◌++◌, length, inl, inr, refl, append_assoc}
-use Rattle.wit_arena.proofs.Names.{Address, AreIncludes, AreRequired, Collects, Exported, Function, HasSide, HasTypes, Imported, Interface, IsForeignInterface, IsInterface, IsOccurrence, IsWorld, Key, Occurrence, OneByOne, PackageFile, Required, TypeDef, UnresolvedPackage, World, [], about, address, all_occurrences, declarations, declared_metadata, dep, first_foreign_uses, flat_map, foreign_interfaces, foreign_packages, foreign_worlds, functions as item_functions, includes, keys, map, placed_functions, turn_handles, type_imports, world_types, AreAt, Decls, Def, ScopeName, SourceFunction, TypeOwner, at_within, differ_at, kind_of, local_name, lookup-at, map_at, name_exprs, one, option_map, scope, slice_get, slice_get-map, slice_get_within, AddsForeign, AreFunctions, AreSideItems, ForeignVisit, Id, IsOrder, Item, Names, Turned, WorldArenas, all_items, at_back, at_part, at_prefix, flat_map-append, functions, in_order, inline_items, interfaces_of, item_rows, length-map, map-append, map_map, resolved_scope, rows_of, scope_names, settled, side_items, visited, worlds_of, foreign_world}
+use Rattle.wit_arena.proofs.Names.{Address, AreIncludes, AreRequired, Collects, Exported, Function, HasSide, Imported, Interface, IsInterface, IsOccurrence, IsWorld, Key, Occurrence, OneByOne, PackageFile, Required, TypeDef, UnresolvedPackage, World, [], about, address, all_occurrences, declarations, declared_metadata, dep, first_foreign_uses, flat_map, foreign_interfaces, foreign_packages, foreign_worlds, functions as item_functions, includes, keys, map, placed_functions, turn_handles, type_imports, world_types, AreAt, Decls, Def, ScopeName, SourceFunction, TypeOwner, at_within, differ_at, kind_of, local_name, lookup-at, map_at, name_exprs, one, option_map, scope, slice_get, slice_get-map, slice_get_within, AddsForeign, AreFunctions, AreSideItems, ForeignVisit, Id, IsOrder, Item, Names, Turned, WorldArenas, all_items, at_back, at_part, at_prefix, flat_map-append, functions, in_order, inline_items, interfaces_of, item_rows, length-map, map-append, map_map, resolved_scope, rows_of, scope_names, settled, side_items, visited, worlds_of, foreign_world}
 use Rattle.wit_arena.proofs.Ordered.{AreOrdered, Ordered, ordered_names, turned, OrderedWorld, all_turns, all_inside, addresses, interface_addresses, world_addresses, world_turns}
 use Rattle.wit_arena.proofs.OneKind.{all_at_untaken}
-use Rattle.wit_arena.proofs.PlacingFunctions.{IsFunction, function_of, made_count}
+use Rattle.wit_arena.proofs.PlacingFunctions.{IsFunction, function_of, made_count, HasTypes, IsForeignInterface}
 use Rattle.wit_arena.proofs.Shape.{entry_of_key}
 use Rattle.wit_arena.proofs.Resolving.{DoneScope, turn_of, IsPresent, members}
-use Rattle.wit_arena.proofs.Prefix.{interface_scope, prefix_scopes}
+use Rattle.wit_arena.proofs.Prefix.{interface_scope, prefix_scopes, interface_in_front, interfaces_count}
 use Rattle.wit_arena.proofs.ScopesInTurn.{done_required, required_in_turn, ordered_addresses, scope_at, scope_of_entry}
 use Rattle.wit_arena.proofs.DoneWorlds.{inside_of, interface_list, world_list, decls, InterfacesDone, world_resolved_scope, AreWorldsDone, own_order, scopes_of, all_within, types_of_resolved_scope, prefix_interface_at, world_scope_among, inside_scope_among, inside_entry}
 use Rattle.wit_arena.proofs.Inside.{IsInside, inside_at, inside_count}
@@ -204,7 +204,7 @@ module _ (files : List PackageFile) (is ws : List Item) (start middle : List Typ
       }
 
   foreign_interface_is : (t : ℕ) (v : ForeignVisit) (i : Interface) → slice_get (foreign_interfaces files) t ≡ Some v → slice_get prefix t ≡ Some i → IsForeignInterface files seen_keys v i
-  foreign_interface_is t v i at there = let h = foreign.interfaces.each t v i at there in (h.0, types_at t (interface_scope files t v i) (foreign_turned files v) i.types (prefix_interface_at files is ws middle new prefix xs wprefix irs wrs a d e t v i at there) refl refl, h.2)
+  foreign_interface_is t v i at there = let h = interface_in_front foreign t v i at there in (h.0, types_at t (interface_scope files t v i) (foreign_turned files v) i.types (prefix_interface_at files is ws middle new prefix xs wprefix irs wrs a d e t v i at there) refl refl, h.2)
 
   -- an entry is that of a declared interface, or of one that is written in a world
   interfaces_are : OneByOne (IsResolvedInterface seen_keys) (d.ordered ++ all_inside e.ordered) (xs ++ a.inside)
@@ -272,7 +272,7 @@ module _ (files : List PackageFile) (is ws : List Item) (start middle : List Typ
     ordered = orders places order in_order_interfaces in_order_worlds;
     first = e.done.collects;
     occurrence = seen_addresses;
-    interfaces = (prefix, xs ++ a.inside, append_assoc prefix xs a.inside, record { count = foreign.interfaces.count; each = foreign_interface_is }, interfaces_are);
+    interfaces = (prefix, xs ++ a.inside, append_assoc prefix xs a.inside, record { count = interfaces_count foreign; each = foreign_interface_is }, interfaces_are);
     worlds = (ys, e.arena ∙ ap (λ (l : List World). l ++ ys) foreign.worlds, worlds_are);
     required = required_of;
   }

@@ -60,7 +60,7 @@ pub gives_in : (ks : List Key) (far : ℕ) → AllDiffer ks → GivesPlaces (pla
 gives_in ks far differ = record { at = λ i k at. differ.differ (place_in ks far k) i k (place_found ks far i k at) at }
 
 -- a key whose place does not depend on what is not among them is among them
-place_seen : (ks : List Key) (k : Key) → place_in ks 0 k ≡ place_in ks 1 k → slice_get ks (place_in ks 0 k) ≡ Some k
+pub place_seen : (ks : List Key) (k : Key) → place_in ks 0 k ≡ place_in ks 1 k → slice_get ks (place_in ks 0 k) ≡ Some k
 place_seen [] k same = absurd (omega (arith, same))
 place_seen (x ∷ ks) k same = elim (cases_Bool (same_key k x)) [
   | inl hit ↦ first_place x ks 0 k hit

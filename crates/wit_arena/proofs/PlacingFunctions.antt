@@ -1,9 +1,9 @@
 -- Where a function gives the place of each key, what means written functions and for names is stated.
 use Rattle.std.proofs.Common.{◌≡◌, ℕ, suc, List, [], ◌∷◌, ◌++◌, length, Option, Some, None, refl, sym, ap, ◌∙◌, arith}
-use Rattle.wit_arena.proofs.Names.{Address, AllDiffer, AreFunctions, AreMetadata, Def, Docs, Function, FunctionKind, GivesPlaces, HasTypes, Id, IsAt, Key, OneByOne, Param, ScopeName, Shape, SourceFunction, SourceParam, Span, Stability, Turned, all_params, docs_of, expr_of, exprs_of, function_in, function_types, gathered, length-map, local_name, map, map-append, map_map, metadata, name_places, option_map, option_to_list, role_kind, signature, slice_get, slice_get-map, type_of, types_of}
+use Rattle.wit_arena.proofs.Names.{Address, AllDiffer, AreFunctions, AreMetadata, Def, Docs, Function, FunctionKind, GivesPlaces, Id, IsAt, Key, OneByOne, Param, ScopeName, Shape, SourceFunction, SourceParam, Span, Stability, Turned, all_params, docs_of, expr_of, exprs_of, function_in, function_types, gathered, length-map, local_name, map, map-append, map_map, metadata, name_places, option_map, option_to_list, role_kind, signature, slice_get, slice_get-map, type_of, types_of, ForeignVisit, Interface, IsInterface, PackageFile, map_at, no_docs, scope, visited}
 use Rattle.wit_types.specs.declared.types.«Type».{«Type» as Ty}
 use Rattle.wit_arena.proofs.OneKind.{Extended, same_some}
-use Rattle.wit_arena.proofs.Placing.{at_places, gives_fewer, gives_in, place_in}
+use Rattle.wit_arena.proofs.Placing.{at_places, gives_fewer, gives_in, place_in, place_seen}
 
 -- what is one by one beside a list, where what is beside each of its elements is stated, is its image
 pub one_by_one-image : {X Y : Type 0} (Holds : X → Y → Type 0) (f : X → Y) (xs : List X) (ys : List Y) → ((k : ℕ) (x : X) (y : Y) → slice_get xs k ≡ Some x → Holds x y → y ≡ f x) → OneByOne Holds xs ys → ys ≡ map f xs
@@ -110,6 +110,35 @@ module _ (ks : List Key) (s : Address) where
         count = ap length (types_over 0) ∙ length-map (signature fn) (type_in (place_in ks 0) s);
         each = λ k x t at there. at_places ks (expr_of s x) t (one_mapped (type_in (place_in ks 0) s) (signature fn) (function_types f) (types_over 0) k x t at there) (one_mapped (type_in (place_in ks 1) s) (signature fn) (function_types f) (types_over 1) k x t at there);
       }
+
+-- these are the names of a scope in turn, and they mean their places
+pub record HasTypes (ks : List Key) (t : Turned) (types : List (List ℕ × ℕ)) : Type 0 where
+  pub names : map (λ n. n.0) types ≡ map local_name t.names
+  pub places : (k : ℕ) (name : List ℕ) (id : ℕ) → slice_get types k ≡ Some (name, id) → slice_get ks id ≡ Some (Def t.address name)
+
+-- names that are so over the places of these keys, whatever others may be, mean their places
+pub types_present : (ks : List Key) → AllDiffer ks → (t : Turned) (types : List (List ℕ × ℕ)) → ((id : Key → ℕ) → GivesPlaces id ks → types ≡ name_places id t.address t.names) → HasTypes ks t types
+types_present ks differ t types is = record {
+  names = ap (map (λ (n : List ℕ × ℕ). n.0)) (over 0) ∙ map_map (λ (n : List ℕ × ℕ). n.0) (placed 0) t.names;
+  places = λ k name i at. (
+      let key = Def t.address name in
+      ap (slice_get ks) (sym (here k name i at 0)) ∙ place_seen ks key (here k name i at 0 ∙ sym (here k name i at 1)));
+}
+  where
+    over : (far : ℕ) → types ≡ name_places (place_in ks far) t.address t.names
+    over far = is (place_in ks far) (gives_in ks far differ)
+
+    placed : ℕ → ScopeName → List ℕ × ℕ
+    placed far x = (local_name x, place_in ks far (Def t.address (local_name x)))
+
+    here : (k : ℕ) (name : List ℕ) (i : ℕ) → slice_get types k ≡ Some (name, i) → (far : ℕ) → place_in ks far (Def t.address name) ≡ i
+    here k name i at far =
+        let x = map_at (placed far) t.names k (name, i) (ap (λ (l : List (List ℕ × ℕ)). slice_get l k) (sym (over far)) ∙ at) in
+        ap (λ (n : List ℕ). place_in ks far (Def t.address n)) (sym (ap (λ (n : List ℕ × ℕ). n.0) x.2)) ∙ ap (λ (n : List ℕ × ℕ). n.1) x.2
+
+-- an interface of another package, where a path first leads to it, with the names that are used from it
+abbrev pub IsForeignInterface : List PackageFile → List Key → ForeignVisit → Interface → Type 0
+IsForeignInterface files ks v i = IsInterface None v.id.span (metadata no_docs []) i × HasTypes ks (record { address = visited v; names = scope files (visited v); functions = [] }) i.types × (i.functions ≡ [])
 
 module _ (id : Key → ℕ) (ks : List Key) (gives : GivesPlaces id ks) where
   places_stated : (s : Address) (xs : List ScopeName) (types : List (List ℕ × ℕ)) → map (λ n. n.0) types ≡ map local_name xs → ((k : ℕ) (name : List ℕ) (i : ℕ) → slice_get types k ≡ Some (name, i) → slice_get ks i ≡ Some (Def s name)) → types ≡ name_places id s xs

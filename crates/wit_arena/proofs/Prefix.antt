@@ -1,10 +1,12 @@
 -- What other packages put before the arenas, as scopes that are done.
 use Rattle.std.proofs.Common.{◌≡◌, ℕ, zero, suc, ◌+◌, false, List, [], ◌∷◌, ◌++◌, length, take, Option, Some, None, inl, inr, refl, sym, ap, ◌∙◌, subst, arith}
-use Rattle.wit_arena.proofs.Names.{Address, AddsForeign, AllDiffer, AreFunctions, AreNames, AreRequired, Declared, Decls, Def, ForeignName, ForeignNamed, ForeignUse, ForeignVisit, Imported, Interface, IsEntry, IsForeignInterface, IsOccurrence, IsSome, Item, Key, Occurrence, PackageFile, PackageName, ScopeName, TheInterface, TypeDef, TypeOwner, World, about, all_handles, all_items, all_scopes, at_part, at_prefix, at_within, differ_join, differ_none, env_of, filter, first_foreign_uses, firsts_at, flat_map, foreign_interfaces, foreign_type, foreign_use_occurrence, foreign_uses, foreign_worlds, functions, interface_functions, item_at, keys, length-map, local_name, lookup-place, map, map-append, map_at, map_map, name_types, option_map, option_map_or, owner_at, package_of, resolved_scopes, same_address, same_foreign_use, scope, slice_get, slice_get-map, slice_get_within, some_of, turn_handles, used_names, visited, «Type» as Written}
+use Rattle.wit_arena.proofs.Names.{Address, AddsForeign, AllDiffer, AreFunctions, AreNames, AreRequired, Declared, Decls, Def, ForeignName, ForeignNamed, ForeignUse, ForeignVisit, Imported, Interface, IsEntry, IsOccurrence, IsSome, Item, Key, Occurrence, PackageFile, PackageName, ScopeName, TheInterface, TypeDef, TypeOwner, World, about, all_handles, all_items, all_scopes, at_part, at_prefix, at_within, differ_join, differ_none, env_of, filter, first_foreign_uses, firsts_at, flat_map, foreign_interfaces, foreign_type, foreign_use_occurrence, foreign_uses, foreign_worlds, functions, interface_functions, item_at, keys, length-map, local_name, lookup-place, map, map-append, map_at, map_map, name_types, option_map, option_map_or, owner_at, package_of, resolved_scopes, same_address, same_foreign_use, scope, slice_get, slice_get-map, slice_get_within, some_of, turn_handles, used_names, visited, «Type» as Written, GivesPlaces, IsInterface, foreign_interface, foreign_world, metadata, no_docs}
 use Rattle.wit_types.specs.declared.types.TypeOwner.TheVariants as owner
 use Rattle.wit_arena.proofs.OneKind.{same_some}
 use Rattle.wit_arena.proofs.UsePart.{lookup-listed}
 use Rattle.wit_arena.proofs.FreeNames.{free_keyed}
+use Rattle.wit_arena.proofs.Placing.{gives_in, place_in}
+use Rattle.wit_arena.proofs.PlacingFunctions.{IsForeignInterface, one_mapped, types_present}
 use Rattle.wit_arena.proofs.Required.{required_none}
 use Rattle.wit_arena.proofs.Resolving.{DoneScope, done_address, turn_of, resolved_scope_of, IsDoneScope, IsNameOf, IsDone}
 use Rattle.wit_arena.proofs.Interfaces.{interface_owner_at}
@@ -118,6 +120,31 @@ prefix_interface_done files ks i v x is = record {
   stated = rw is.2 (record { has = λ k fn f at. absurd (let f : ⊥ = cc in f); from = λ place key f at. absurd (let f : ⊥ = cc in f) });
 }
 
+-- what occurs of other packages, each once
+foreign_keys_differ : (files : List PackageFile) → AllDiffer (keys (map foreign_use_occurrence (first_foreign_uses files)))
+foreign_keys_differ files = subst AllDiffer (sym (keys-foreign_uses (first_foreign_uses files))) (foreign_uses_differ files)
+
+module _ {files : List PackageFile} {es : List TypeDef} {is : List Interface} {ws : List World} (adds : AddsForeign files es is ws) where
+  abbrev of_uses : List Key
+  of_uses = keys (map foreign_use_occurrence (first_foreign_uses files))
+
+  -- there are as many in front as other packages have
+  pub interfaces_count : length is ≡ length (foreign_interfaces files)
+  interfaces_count = ap length (adds.interfaces (place_in of_uses 0) (gives_in of_uses 0 (foreign_keys_differ files))) ∙ length-map (foreign_interfaces files) (foreign_interface files (place_in of_uses 0))
+
+  pub worlds_count : length ws ≡ length (foreign_worlds files)
+  worlds_count = ap length adds.worlds ∙ length-map (foreign_worlds files) foreign_world
+
+  -- each has the names that are used from it
+  pub interface_in_front : (t : ℕ) (v : ForeignVisit) (i : Interface) → slice_get (foreign_interfaces files) t ≡ Some v → slice_get is t ≡ Some i → IsForeignInterface files of_uses v i
+  interface_in_front t v i at there =
+      let made : (id : Key → ℕ) → GivesPlaces id of_uses → i ≡ foreign_interface files id v = λ id gives. one_mapped (foreign_interface files id) (foreign_interfaces files) is (adds.interfaces id gives) t v i at there in
+      let here = made (place_in of_uses 0) (gives_in of_uses 0 (foreign_keys_differ files)) in (
+        subst (IsInterface None v.id.span (metadata no_docs [])) (sym here) (refl, refl, refl, refl, refl, refl),
+        types_present of_uses (foreign_keys_differ files) (record { address = visited v; names = scope files (visited v); functions = [] }) i.types (λ id gives. ap (λ (j : Interface). j.types) (made id gives)),
+        ap (λ (j : Interface). j.functions) here,
+      )
+
 -- where uses lead to interfaces, nothing is taken from a world
 module _ (files : List PackageFile) (uses : AreUsableUses files (all_items files)) where
   -- what is first taken is taken from an interface
@@ -163,12 +190,12 @@ module _ (files : List PackageFile) (uses : AreUsableUses files (all_items files
   pub used_listed : (i : ℕ) (v : ForeignVisit) (x : Interface) → slice_get visits i ≡ Some v → slice_get prefix i ≡ Some x → (j : ℕ) (t : ForeignUse) → slice_get ts j ≡ Some t → t.from ≡ visited v → IsSome (env_of x.types t.id.name.now)
   used_listed i v x at there j t in_use from =
       let k = in_use_has files (visited v) j t in_use from in
-      lookup-listed x.types k.0 t.id.name.now (ap (λ l. slice_get l k.0) (adds.interfaces.each i v x at there).1.names ∙ slice_get-map local_name (used_names files (visited v)) k.0 ∙ ap (option_map local_name) k.1)
+      lookup-listed x.types k.0 t.id.name.now (ap (λ l. slice_get l k.0) (interface_in_front adds i v x at there).1.names ∙ slice_get-map local_name (used_names files (visited v)) k.0 ∙ ap (option_map local_name) k.1)
 
   -- the names of an interface in front mean their places
   interface_present : (i : ℕ) (v : ForeignVisit) (x : Interface) → slice_get visits i ≡ Some v → slice_get prefix i ≡ Some x → AreNames (keys seen) (visited v) (env_of x.types)
   interface_present i v x at there = record {
-    present = λ name id found. (let k = lookup-place x.types name id found in (adds.interfaces.each i v x at there).1.places k.0 name id k.1);
+    present = λ name id found. (let k = lookup-place x.types name id found in (interface_in_front adds i v x at there).1.places k.0 name id k.1);
     has = λ j name key. (
         let t = foreign_use_of j (Def (visited v) name) key in
         let from : t.0.from ≡ visited v = (let same = t.2 in cc) in
@@ -186,7 +213,7 @@ module _ (files : List PackageFile) (uses : AreUsableUses files (all_items files
   }
 
   prefix_differ : AllDiffer (map done_address (prefix_scopes files prefix))
-  prefix_differ = subst AllDiffer (sym (map-append done_address (interface_scopes files 0 visits prefix) (world_scopes 0 (foreign_worlds files)) ∙ ap (λ l. l ++ map done_address (world_scopes 0 (foreign_worlds files))) (map-interface_scopes files 0 visits prefix adds.interfaces.count) ∙ ap (λ l. map visited visits ++ l) (map-world_scopes 0 (foreign_worlds files)))) (differ_join (map visited visits) (map visited (foreign_worlds files)) (visited_addresses files).interfaces (visited_addresses files).worlds (visited_addresses files).apart)
+  prefix_differ = subst AllDiffer (sym (map-append done_address (interface_scopes files 0 visits prefix) (world_scopes 0 (foreign_worlds files)) ∙ ap (λ l. l ++ map done_address (world_scopes 0 (foreign_worlds files))) (map-interface_scopes files 0 visits prefix (interfaces_count adds)) ∙ ap (λ l. map visited visits ++ l) (map-world_scopes 0 (foreign_worlds files)))) (differ_join (map visited visits) (map visited (foreign_worlds files)) (visited_addresses files).interfaces (visited_addresses files).worlds (visited_addresses files).apart)
 
   module _ (decls : Decls) (interfaces_own : (i : ℕ) (v : ForeignVisit) → slice_get visits i ≡ Some v → decls (visited v) ≡ (scope files (visited v), (owner.Interface i))) (worlds_own : (i : ℕ) (w : ForeignVisit) → slice_get (foreign_worlds files) i ≡ Some w → decls (visited w) ≡ (scope files (visited w), (owner.World i))) where
     -- the entry of a name that is taken
@@ -205,7 +232,7 @@ module _ (files : List PackageFile) (uses : AreUsableUses files (all_items files
     used_occurrence = record {
       keyed = record {
         count = ap length adds.types ∙ length-map ts (foreign_type files) ∙ sym (length-map ts foreign_use_key) ∙ ap length (sym (keys-foreign_uses ts));
-        once = subst AllDiffer (sym (keys-foreign_uses ts)) (foreign_uses_differ files);
+        once = foreign_keys_differ files;
         each = λ j k e key entry. (
             let t = foreign_use_of j k key in
             let u = map_at (foreign_type files) ts j e (ap (λ l. slice_get l j) (sym adds.types) ∙ entry) in
@@ -223,7 +250,7 @@ module _ (files : List PackageFile) (uses : AreUsableUses files (all_items files
         let called : t.0.id.name.now ≡ name = (let same = t.2 in cc) in
         let v = first_from files uses j t.0 t.1 in
         let lt = slice_get_within visits v.0 v.1 v.2 in
-        let count = adds.interfaces.count in
+        let count = interfaces_count adds in
         let x = at_within prefix v.0 (omega arith) in
         let k = in_use_has files (visited v.1) j t.0 t.1 (sym v.3) in
         record {
@@ -239,8 +266,8 @@ module _ (files : List PackageFile) (uses : AreUsableUses files (all_items files
 
     -- what is so of each scope in front
     each_prefix : (t : ℕ) (c : DoneScope) → slice_get (prefix_scopes files prefix) t ≡ Some c → IsDoneScope files c × (decls c.address ≡ (scope files c.address, c.owner)) × AreNames (keys seen) c.address (env_of c.types) × AreFunctions (keys seen) c.address c.functions c.made × AreRequired files (keys seen) (turn_handles (turn_of c)) c.required
-    each_prefix t c at = elim (prefix_at files prefix adds.interfaces.count t c at) [
-      | PrefixInterface i v x v_at x_at is ↦ rw is (prefix_interface_done files (keys seen) i v x (adds.interfaces.each i v x v_at x_at), interfaces_own i v v_at, interface_present i v x v_at x_at, no_functions (keys seen) (visited v), nothing_required files (keys seen) (visited v) (filter (λ t. same_address t.from (visited v)) (first_foreign_uses files)))
+    each_prefix t c at = elim (prefix_at files prefix (interfaces_count adds) t c at) [
+      | PrefixInterface i v x v_at x_at is ↦ rw is (prefix_interface_done files (keys seen) i v x (interface_in_front adds i v x v_at x_at), interfaces_own i v v_at, interface_present i v x v_at x_at, no_functions (keys seen) (visited v), nothing_required files (keys seen) (visited v) (filter (λ t. same_address t.from (visited v)) (first_foreign_uses files)))
       | PrefixWorld i w w_at is ↦ rw is (prefix_world_done files uses i w w_at, worlds_own i w w_at, world_present i w w_at, no_functions (keys seen) (visited w), required_none files (keys seen))
     ]
 

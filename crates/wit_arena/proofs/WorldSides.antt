@@ -1,6 +1,6 @@
 -- The names of a world that comes next, and what is on its sides, after interfaces and worlds that are done.
 use Rattle.std.proofs.Common.{◌≡◌, ℕ, ◌+◌, true, false, List, [], ◌∷◌, ◌++◌, length, map, Some, inl, inr, sym, ap, ◌∙◌, subst, append_assoc, arith, length-append}
-use Rattle.wit_arena.proofs.Names.{Address, AddsForeign, AddsScope, AddsSides, Defines, Function, FunctionKey, Interface, Item, Names, Occurrence, PackageFile, Required, ResolvedScope, ScopeName, SideItem, Turned, TypeDef, TypeOwner, World, WorldArenas, WorldNamed, address, all_items, all_occurrences, append-nil, at_back, at_either, at_part, at_prefix, at_seam, differ_at, differ_by, flat_map, flat_map-append, foreign_interfaces, foreign_worlds, in_turn, inline_inside, inline_interface, inline_items, inline_items_differ, inside_one, interfaces_at, is_inside, length-map, map-append, map_at, option_map, resolved_scopes, scope, scope_names, slice_get, slice_get-map, slice_get_within, visited, worlds_at, foreign_world}
+use Rattle.wit_arena.proofs.Names.{Address, AddsForeign, AddsScope, AddsSides, Defines, Function, FunctionKey, Interface, Item, Names, Occurrence, PackageFile, Required, ResolvedScope, ScopeName, SideItem, Turned, TypeDef, TypeOwner, World, WorldArenas, WorldNamed, address, all_items, all_occurrences, append-nil, at_back, at_either, at_part, at_prefix, at_seam, differ_at, differ_by, flat_map, flat_map-append, foreign_interfaces, foreign_worlds, in_turn, inline_inside, inline_interface, inline_items, inline_items_differ, inside_one, interfaces_at, is_inside, length-map, map-append, map_at, option_map, resolved_scopes, scope, scope_names, slice_get, slice_get-map, slice_get_within, visited, worlds_at}
 use Rattle.wit_types.specs.declared.types.TypeOwner.TheVariants as owner
 use Rattle.wit_arena.proofs.Visits.{AreUsableUses}
 use Rattle.wit_arena.proofs.Ordered.{Ordered, all_turns, all_inside}
@@ -9,7 +9,7 @@ use Rattle.wit_arena.proofs.DoneWorlds.{InterfacesDone, WorldOwner, inside_of, i
 use Rattle.wit_arena.proofs.Sided.{AreSided, IsFreshInside, are_sided, side_required}
 use Rattle.wit_arena.proofs.DoneNames.{function_part_of, names_of_functions}
 use Rattle.wit_arena.proofs.FunctionPart.{DoneFunction, scope_functions, IsFunctionPart}
-use Rattle.wit_arena.proofs.Prefix.{prefix_scopes}
+use Rattle.wit_arena.proofs.Prefix.{prefix_scopes, interfaces_count, worlds_count}
 use Rattle.wit_arena.proofs.Indexing.{interfaces_at-append, worlds_at-append}
 use Rattle.wit_arena.proofs.Inside.{inside_at, inside_scopes-count, inside_count}
 use Rattle.wit_arena.proofs.Interfaces.{AreItems, AreOfSort, item_scopes, inline_scopes, scope_of, functions_of, items_declared, interface_address, world_address}
@@ -37,13 +37,13 @@ module _ (files : List PackageFile) (is ws : List Item) (interfaces : AreOfSort 
   -- as many interfaces come first as other packages have, and as many after as are declared
   long_prefix : length (prefix ++ xs) ≡ length ss + length is
   long_prefix =
-      let ahead : length prefix ≡ length ss = foreign.interfaces.count ∙ sym (length-map (foreign_interfaces files) visited) in
+      let ahead : length prefix ≡ length ss = interfaces_count foreign ∙ sym (length-map (foreign_interfaces files) visited) in
       let own : length xs ≡ length is = d.laid.says.count ∙ sym (length-map d.ordered item_of) ∙ ap length d.all in
       length-append prefix xs ∙ ap (λ n. n + length xs) ahead ∙ ap (λ n. length ss + n) own
 
   -- the addresses of all interfaces
   interface_names : interfaces_at ss (prefix ++ xs) ≡ ss ++ map address is
-  interface_names = interfaces_at-append ss prefix xs (foreign.interfaces.count ∙ sym (length-map (foreign_interfaces files) visited)) ∙ ap (λ (l : List Address). ss ++ l) (laid_addresses d.laid ∙ sym (ordered_addresses d.ordered is d.all))
+  interface_names = interfaces_at-append ss prefix xs (interfaces_count foreign ∙ sym (length-map (foreign_interfaces files) visited)) ∙ ap (λ (l : List Address). ss ++ l) (laid_addresses d.laid ∙ sym (ordered_addresses d.ordered is d.all))
 
   -- no scope of an interface is written in a world, and none is a world's
   interface_outside : (k : ℕ) (c : DoneScope) → slice_get d.scopes k ≡ Some c → (is_inside c.address ≡ false) × ((name : List ℕ) → c.address ≡ WorldNamed name → ⊥)
@@ -173,7 +173,7 @@ module _ (files : List PackageFile) (is ws : List Item) (interfaces : AreOfSort 
     pub world_added : (t : ℕ) (x : Address) → slice_get (worlds_at others a.worlds) t ≡ Some x → slice_get (world_list files ws) t ≡ Some x
     world_added t x at =
         let named = map (λ (v : World). WorldNamed v.name) e.own in
-        let whole : worlds_at others a.worlds ≡ others ++ named = ap (worlds_at others) e.arena ∙ worlds_at-append others wprefix e.own (ap length foreign.worlds ∙ length-map (foreign_worlds files) foreign_world ∙ sym (length-map (foreign_worlds files) visited)) in
+        let whole : worlds_at others a.worlds ≡ others ++ named = ap (worlds_at others) e.arena ∙ worlds_at-append others wprefix e.own (worlds_count foreign ∙ sym (length-map (foreign_worlds files) visited)) in
         prefix_longer others named (map address ws) (laid_place e.laid) t x (ap (λ (l : List Address). slice_get l t) (sym whole) ∙ at)
 
     -- so is that of an interface

@@ -8,9 +8,8 @@ use Rattle.wit_arena.specs.UnfoldedTypes.{At, IsInterface, IsWorld}
 use Rattle.wit_arena.specs.SourceFunctions.{freestanding_names, placed_functions, HasSide}
 use Rattle.wit_arena.specs.Kind.{IsResource, IsUnknown as IsUnknownEntry, entry_end}
 use Rattle.wit_types.specs.declared.types.TypeDefKind.TheVariants.{Unknown as UnknownKind}
-use Rattle.wit_arena.specs.OneByOne.{OneByOne}
-use Rattle.wit_arena.specs.Made.{foreign_world, function_in}
-use Rattle.wit_arena.specs.Whole.{owner_at, IsForeignInterface, type_imports, AreIncludes}
+use Rattle.wit_arena.specs.Made.{foreign_interface, foreign_world, function_in}
+use Rattle.wit_arena.specs.Whole.{owner_at, type_imports, AreIncludes}
 use Rattle.wit_types.specs.declared.types.«Type».TheVariants as type
 use Rattle.wit_types.specs.declared.types.TypeOwner.TheVariants as owner
 use Rattle.wit_syntax.specs.Shape as shape
@@ -284,5 +283,5 @@ foreign_type files t = named (owner_at (map visited (foreign_interfaces files)) 
 -- what other packages' items put before the arenas: the names that are taken from them, and their interfaces and worlds
 pub record AddsForeign (files : List PackageFile) (es : List TypeDef) (is : List Interface) (ws : List World) : Type 0 where
   pub types : es ≡ map (foreign_type files) (first_foreign_uses files)
-  pub interfaces : OneByOne (IsForeignInterface files (keys (map foreign_use_occurrence (first_foreign_uses files)))) (foreign_interfaces files) is
+  pub interfaces : (id : Key → ℕ) → GivesPlaces id (keys (map foreign_use_occurrence (first_foreign_uses files))) → is ≡ map (foreign_interface files id) (foreign_interfaces files)
   pub worlds : ws ≡ map foreign_world (foreign_worlds files)

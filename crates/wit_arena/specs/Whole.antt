@@ -1,6 +1,6 @@
 -- The theorem: what a resolved package is.
 use Rattle.std.specs.Prelude.{if◌then◌else◌, ◌≡◌, ◌==◌, ℕ, List, [], ◌∷◌, ◌++◌, length, map, Option, Some, None, slice_get, position}
-use Rattle.wit_arena.specs.Names.{Address, AllZip, AstItem, AtForeign, AtResource, EndsAt, ForeignUse, ForeignVisit, Id, Include, Interface, Item, PackageFile, PackageName, ScopeName, SourceFunction, Span, Stability, TopName, TypeOwner, WorldInclude, WorldItem, WorldKey, WorldNamed, address, all_handles, all_scopes, all_types, docs_of, filter, filter_map, flat_map, foreign_interfaces, foreign_items, foreign_uses, foreign_visits, foreign_worlds, functions as item_functions, includes, item_at, leads, local_id, local_name, no_docs, option_map, option_map_or, option_or, package_of, path_id, same_address, same_item, same_package, scope, stability_of, target_scope, unwrap_or, visited, metadata, position_or_len, signature, Unknown}
+use Rattle.wit_arena.specs.Names.{Address, AllZip, AstItem, AtForeign, AtResource, EndsAt, ForeignUse, ForeignVisit, Id, Include, Interface, Item, PackageFile, PackageName, ScopeName, SourceFunction, Span, Stability, TopName, TypeOwner, WorldInclude, WorldItem, WorldKey, WorldNamed, address, all_handles, all_scopes, all_types, docs_of, filter, filter_map, flat_map, foreign_interfaces, foreign_items, foreign_uses, foreign_visits, foreign_worlds, functions as item_functions, includes, item_at, leads, local_id, local_name, no_docs, option_map, option_map_or, option_or, package_of, path_id, same_address, same_item, same_package, scope, stability_of, target_scope, unwrap_or, visited, position_or_len, signature, Unknown}
 use Rattle.wit_tree.specs.declared.tree.PackageName.{PackageName as Header}
 use Rattle.wit_tree.specs.declared.tree.IncludeName.{IncludeName as Renaming}
 use Rattle.wit_model.specs.declared.ast_item.AstItem.TheVariants as entry
@@ -11,7 +11,6 @@ use Rattle.wit_types.specs.declared.types.TypeOwner.TheVariants as owner
 use Rattle.wit_types.specs.declared.docs.Docs.{Docs}
 use Rattle.wit_arena.specs.Occurrences.{Key, Def, Occurrence, name_occurrences, Decls, shape_occurrences}
 use Rattle.wit_arena.specs.OneByOne.{OneByOne}
-use Rattle.wit_arena.specs.UnfoldedTypes.{IsInterface}
 
 -- a scope, with its names as they are resolved, and its functions
 pub record Turned : Type 0 where
@@ -34,11 +33,6 @@ owner_at is ws s = unwrap_or (option_or (option_map owner.Interface (place_at is
 -- the names of each scope, and its owner, where the interfaces have these addresses and the worlds those
 abbrev pub declarations : List PackageFile → List Address → List Address → Decls
 declarations files is ws s = (scope files s, owner_at is ws s)
-
--- these are the names of a scope in turn, and they mean their places
-pub record HasTypes (ks : List Key) (t : Turned) (types : List (List ℕ × ℕ)) : Type 0 where
-  pub names : map (λ n. n.0) types ≡ map local_name t.names
-  pub places : (k : ℕ) (name : List ℕ) (id : ℕ) → slice_get types k ≡ Some (name, id) → slice_get ks id ≡ Some (Def t.address name)
 
 -- names of a scope as imports: each is the type that it means, at its local name
 abbrev pub type_imports : List ScopeName → List (List ℕ × ℕ) → List (WorldKey × WorldItem)
@@ -74,10 +68,6 @@ AreRequired files ks hs rs = (each : List (Option (ℕ × Span))) × AllZip (Han
 -- what occurs in files: first the names that are used from other packages, then what is in these scopes
 abbrev pub all_occurrences : List PackageFile → List Turned → List Occurrence
 all_occurrences files ts = map (λ (t : ForeignUse). record { key = Def t.from t.id.name.now; span = t.id.span; given = stability_of t.attributes }) (foreign_uses files) ++ flat_map turn_occurrences ts
-
--- an interface of another package, where a path first leads to it, with the names that are used from it
-abbrev pub IsForeignInterface : List PackageFile → List Key → ForeignVisit → Interface → Type 0
-IsForeignInterface files ks v i = IsInterface None v.id.span (metadata no_docs []) i × HasTypes ks (record { address = visited v; names = scope files (visited v); functions = [] }) i.types × (i.functions ≡ [])
 
 -- the entry of an item of another package, with its place among those: the arenas begin with these
 abbrev pub foreign_entry : List PackageFile → ForeignVisit → AstItem

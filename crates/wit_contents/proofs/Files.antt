@@ -2,7 +2,7 @@
 use Rattle.std.proofs.Common.{◌≡◌, List, sym, ap, ◌∙◌, ◌<◌, ℕ, All, length, map, get_or, subst, ◌≤◌, [], arith, refl, ◌++◌}
 use Rattle.wit_contents.proofs.Names.{AddsForeign, AddsInterfaces, AddsWorlds, AreItemsOf, AreUsableUses, Fault, ForeignVisit, Interface, InterfaceNamed, IsBrokenNames, IsItemPlaced, IsNameIndex, IsOrder, Item as BorrowedItem, Names, PackageFile, Required, TypeDef, World, WorldArenas, WorldNamed, all_items, append-nil, dep, first_foreign_uses, foreign_entry, foreign_interfaces, foreign_items, foreign_packages, foreign_view, foreign_worlds, in_order, index_prefix, interfaces_at, interfaces_at-append, interfaces_differ, interfaces_of, item_rows, item_view, items_within, length-map, option_map, others_of, package_of, prefix_of, prefix_worlds, slice_get-get_or, visited, visited_foreign, visits_differ, worlds_at, worlds_at-append, worlds_of}
 use Rattle.wit_tree.specs.declared.tree.PackageName.{PackageName as Header}
-use Rattle.wit_arena.proofs.Common.{foreign_world}
+use Rattle.wit_arena.proofs.Common.{interfaces_count, worlds_count}
 use Rattle.wit_arena.proofs.MadePackage.{made_of_package}
 use Rattle.wit_arena.proofs.Resolved.{files_package}
 use Rattle.wit_model.specs.declared.foreign.ForeignItems.{ForeignItems}
@@ -33,21 +33,21 @@ module _ (files : List PackageFile) (es : List TypeDef) (is : List Interface) (w
   pub prefix_index : (by_name : Names) → by_name ≡ [] → IsNameIndex InterfaceNamed (interfaces_at (prefix_of files) is) by_name
   prefix_index by_name none =
       let ss = prefix_of files in
-      let all : interfaces_at ss is ≡ ss = ap (interfaces_at ss) (sym (append-nil is)) ∙ interfaces_at-append ss is [] (adds.interfaces.count ∙ sym (length-map (foreign_interfaces files) visited)) ∙ append-nil ss in
+      let all : interfaces_at ss is ≡ ss = ap (interfaces_at ss) (sym (append-nil is)) ∙ interfaces_at-append ss is [] (interfaces_count adds ∙ sym (length-map (foreign_interfaces files) visited)) ∙ append-nil ss in
       rw none (subst (λ l. IsNameIndex InterfaceNamed l []) (sym all) (index_prefix InterfaceNamed (λ name. refl) ss (visited_foreign (foreign_interfaces files))))
 
   pub prefix_worlds_index : IsNameIndex WorldNamed (worlds_at (others_of files) ws) []
   prefix_worlds_index =
       let ss = others_of files in
-      let all : worlds_at ss ws ≡ ss = ap (worlds_at ss) (sym (append-nil ws)) ∙ worlds_at-append ss ws [] (ap length adds.worlds ∙ length-map (foreign_worlds files) foreign_world ∙ sym (length-map (foreign_worlds files) visited)) ∙ append-nil ss in
+      let all : worlds_at ss ws ≡ ss = ap (worlds_at ss) (sym (append-nil ws)) ∙ worlds_at-append ss ws [] (worlds_count adds ∙ sym (length-map (foreign_worlds files) visited)) ∙ append-nil ss in
       subst (λ l. IsNameIndex WorldNamed l []) (sym all) (index_prefix WorldNamed (λ name. refl) ss (visited_foreign (foreign_worlds files)))
 
   -- they are as many as other packages have
   pub interfaces_enough : length (prefix_of files) ≤ length is
-  interfaces_enough = omega (arith, adds.interfaces.count, length-map (foreign_interfaces files) visited)
+  interfaces_enough = omega (arith, interfaces_count adds, length-map (foreign_interfaces files) visited)
 
   pub worlds_enough : length (others_of files) ≤ length ws
-  worlds_enough = omega (arith, ap length adds.worlds, length-map (foreign_worlds files) foreign_world, length-map (foreign_worlds files) visited)
+  worlds_enough = omega (arith, worlds_count adds, length-map (foreign_worlds files) visited)
 
 -- the items of other packages before anything is taken from them
 bare : (files : List PackageFile) (vs : List BorrowedVisit) (types : List TypeDef) (a : ForeignArenas) → map foreign_view vs ≡ foreign_items files → types ≡ [] → AreAdded (map foreign_view vs) [] [] a → AreAdded (foreign_items files) [] types a

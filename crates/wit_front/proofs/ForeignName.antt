@@ -1,7 +1,8 @@
 -- The arenas of other packages' items, with one item more, and with one name more.
-use Rattle.std.proofs.Common.{◌≡◌, ℕ, ◌+◌, Bool, true, false, if◌then◌else◌, List, [], ◌∷◌, ◌++◌, length, Option, Some, None, inl, inr, nat_eq, refl, sym, ap, ◌∙◌, subst, append_assoc, zero-add, Bor}
-use Rattle.wit_items.proofs.Common.{Address, AllDiffer, AstItem, Attribute, Def, ForeignName, ForeignUse, ForeignVisit, HasTypes, Interface, IsForeignInterface, Key, Names, PackageFile, Span, TypeDef, TypeOwner, UseName, World, append-nil, both_ways, cases_Bool, differ_at, filter, first_foreign_uses, firsts, firsts-more, firsts_at, firsts_has, flat_map, flat_map-append, foreign_interfaces, foreign_items, foreign_turned, foreign_use_key, foreign_use_occurrence, foreign_uses, insert_entry, keys, keys-foreign_uses, length-map, local_name, lookup, lookup-place, map, map-append, map_at, map_map, metadata, named, no_docs, option_copied, option_map, option_or, owner_at, place_at, place_at-found, pointwise, same_address, same_address-equal, same_address-from, same_foreign_use, slice_get, slice_get-map, slice_set, unwrap_or, use_of_foreign, use_of_foreign-equal, use_of_foreign-from, visited, visits_differ}
+use Rattle.std.proofs.Common.{◌≡◌, ℕ, ◌+◌, Bool, true, false, if◌then◌else◌, List, [], ◌∷◌, ◌++◌, length, Option, Some, None, inl, inr, nat_eq, refl, sym, ap, ◌∙◌, append_assoc, zero-add, Bor}
+use Rattle.wit_items.proofs.Common.{Address, AllDiffer, AstItem, Attribute, Def, ForeignName, ForeignUse, ForeignVisit, HasTypes, Interface, Key, Names, PackageFile, Span, TypeDef, TypeOwner, UseName, World, append-nil, both_ways, cases_Bool, differ_at, filter, first_foreign_uses, firsts, firsts-more, firsts_at, firsts_has, flat_map, flat_map-append, foreign_interfaces, foreign_items, foreign_turned, foreign_use_key, foreign_use_occurrence, foreign_uses, insert_entry, keys, keys-foreign_uses, length-map, local_name, lookup, lookup-place, map, map-append, map_at, map_map, metadata, named, no_docs, option_copied, option_map, option_or, owner_at, place_at, place_at-found, pointwise, same_address, same_address-equal, same_address-from, same_foreign_use, slice_get, slice_get-map, slice_set, unwrap_or, use_of_foreign, use_of_foreign-equal, use_of_foreign-from, visited, visits_differ, GivesPlaces, foreign_interface}
 use Rattle.std.specs.Prelude.{is_some}
+use Rattle.wit_arena.proofs.PlacingFunctions.{types-places}
 use Rattle.wit_types.specs.declared.types.TypeDefKind.TheVariants as kind
 use Rattle.wit_types.specs.declared.types.TypeOwner.TheVariants as owner
 use Rattle.wit_model.specs.declared.ast_item.AstItem.TheVariants as entry
@@ -176,21 +177,16 @@ module _ (files : List PackageFile) (es : List TypeDef) (a : ForeignArenas) (don
         ap (slice_get (keys (map foreign_use_occurrence all))) (it.1 ∙ zero-add it.0) ∙ ap (λ (l : List Key). slice_get l it.0) (keys-foreign_uses all) ∙ slice_get-map foreign_use_key all it.0 ∙ ap (option_map foreign_use_key) u.at ∙ ap Some key);
   }
 
-  -- the interface at the place of a visit
-  interface_is : (t : ℕ) (v : ForeignVisit) (i : Interface) → slice_get (foreign_interfaces files) t ≡ Some v → slice_get a.interfaces t ≡ Some i → visited_interface all v ≡ i
-  interface_is t v i at_v at_i =
-      let both : Some (visited_interface all v) ≡ Some i = sym (ap (λ (l : List Interface). slice_get l t) done.interfaces ∙ slice_get-map (visited_interface all) (foreign_interfaces files) t ∙ ap (option_map (visited_interface all)) at_v) ∙ at_i in
-      cc
+  -- the interface of a visit
+  visited_is : (id : Key → ℕ) → GivesPlaces id (keys (map foreign_use_occurrence all)) → (v : ForeignVisit) → visited_interface all v ≡ foreign_interface files id v
+  visited_is id gives v = ap (interface_with v.id.span) (types-places id (keys (map foreign_use_occurrence all)) gives (foreign_turned files v) (used_from 0 (visited v) all) (has_types v))
 
   -- once all names were used, the prefix is made
   pub prefix_used : IsPrefix files es a
   prefix_used = record {
     adds = record {
       types = done.types;
-      interfaces = record {
-        count = ap length done.interfaces ∙ length-map (foreign_interfaces files) (visited_interface all);
-        each = λ t v i at_v at_i. subst (λ (x : Interface). IsForeignInterface files (keys (map foreign_use_occurrence all)) v x) (interface_is t v i at_v at_i) ((refl, refl, refl, refl, refl, refl), has_types v, refl);
-      };
+      interfaces = λ id gives. done.interfaces ∙ (λ i. map (λ v. visited_is id gives v i) (foreign_interfaces files));
       worlds = done.worlds;
     };
     entries = done.entries ∙ entries_after-among (foreign_items files) (visits_differ files);

@@ -1,6 +1,7 @@
 -- Where a function gives the place of each key, what it says of a key that occurs is there.
 use Rattle.std.proofs.Common.{◌≡◌, ℕ, List, [], ◌∷◌, ◌+◌, length, Option, Some, None, refl, sym, ap, ◌∙◌, subst, ◌≤◌, zero, suc, ◌++◌, take, ◌⊎◌, inl, inr, arith, append_assoc, append-nil, length-append, ◌<◌, Bool, true}
-use Rattle.wit_items.proofs.Common.{Address, AreAt, Constructor, Def, End, Expr, Exprs, GivesPlaces, HasTypes, Id, IsAt, IsSeen, Key, Method, More, Of, Param, Prim, Role, ScopeName, Shape, SourceFunction, SourceParam, Static, Turned, Use, Whole, all_params, at_back, at_prefix, expr_of, function_in, length-map, local_name, map, map_at, map_map, name_places, option_map, role_kind, same_some, signature, slice_get, slice_get-map, type_of, types_of, Collects, Contains, Has, Occurrence, Shapes, Span, Stability, Unknown, Word, about_name, all_function_occurrences, all_words, at_seam, exprs_of, flat_map, keys, keys-append, name_exprs, name_occurrences, parts_occurrences, shape_occurrences, shapes_occurrences, slice_get_within, take_seam, three_ways, unwrap_or, words, Attribute, Defined, ForeignName, IsEntered, IsItem, IsLegal, IsOrder, MissingInSignature, OfNothing, Ordered, PackageFile, Row, Scope, UseName, Used, address, all_scopes, append-nil, at_contains, at_within, bytes_eq, cases_Bool, contains_at, defined, differ_at, filter, find_at, find_passes, flat_map-append, flat_map_has, function_as_type, functions, in_order, in_turn_has, is_defined, kept_early, kept_next, kept_past, meaning, missing_at, name_equal, name_word, names_differ, names_within, needed_ids, ordered_names, own_names, place_of-Some, row_before, row_of, rows_of, scope, scope_among, scope_is, scope_names, take_all, target, turn_occurrences, turned, used, used_has, used_is, AreFunctions, at-type_of, function_types, kinds_of, Freestanding, OnSide}
+use Rattle.wit_items.proofs.Common.{Address, AreAt, Constructor, Def, End, Expr, Exprs, GivesPlaces, HasTypes, Id, IsAt, IsSeen, Key, Method, More, Of, Param, Prim, Role, ScopeName, Shape, SourceFunction, SourceParam, Static, Turned, Use, Whole, all_params, at_back, at_prefix, expr_of, function_in, length-map, local_name, map, map_at, map_map, name_places, option_map, role_kind, same_some, signature, slice_get, slice_get-map, type_of, types_of, Collects, Contains, Has, Occurrence, Shapes, Span, Stability, Unknown, Word, about_name, all_function_occurrences, all_words, at_seam, exprs_of, flat_map, keys, keys-append, name_exprs, name_occurrences, parts_occurrences, shape_occurrences, shapes_occurrences, slice_get_within, take_seam, three_ways, unwrap_or, words, Attribute, Defined, ForeignName, IsEntered, IsItem, IsLegal, IsOrder, MissingInSignature, OfNothing, Ordered, PackageFile, Row, Scope, UseName, Used, address, all_scopes, append-nil, at_contains, at_within, bytes_eq, cases_Bool, contains_at, defined, differ_at, filter, find_at, find_passes, flat_map-append, flat_map_has, function_as_type, functions, in_order, in_turn_has, is_defined, kept_early, kept_next, kept_past, meaning, missing_at, name_equal, name_word, names_differ, names_within, needed_ids, ordered_names, own_names, place_of-Some, row_before, row_of, rows_of, scope, scope_among, scope_is, scope_names, take_all, target, turn_occurrences, turned, used, used_has, used_is, AreFunctions, at-type_of, function_types, Freestanding, OnSide}
+use Rattle.wit_arena.proofs.Common.{kinds_of}
 use Rattle.wit_arena.proofs.PlacingFunctions.{function_same, functions_by, one_mapped, said, type_in, types_in}
 use Rattle.wit_types.specs.declared.types.«Type».{«Type» as Ty}
 use Rattle.wit_functions.specs.declared.function.FunctionKind.TheVariants as kind
