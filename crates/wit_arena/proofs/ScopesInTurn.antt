@@ -6,6 +6,7 @@ use Rattle.wit_arena.proofs.FreeNames.{AreStated, free_of}
 use Rattle.wit_arena.proofs.Resolving.{no_name_in_functions, DoneScope, turn_of, resolved_scope_of, IsTurn, IsDone}
 use Rattle.wit_arena.proofs.Required.{required_extended, required_none, required_append, one_by_one-append, one_by_one-more, one_by_one-none}
 use Rattle.wit_arena.proofs.Turns.{all_name_occurrences, item_of, occurrences}
+use Rattle.wit_arena.proofs.PlacingFunctions.{made_count}
 use Rattle.wit_arena.proofs.FunctionPart.{AreWhole, DoneFunction, IsFunctionPart, scope_functions}
 use Rattle.wit_arena.proofs.DoneNames.{done_of, function_part_of, functions_count, functions_of_parts, names_of_functions, required_there}
 use Rattle.wit_arena.proofs.Ordered.{Ordered, ordered_names, turned, addresses}
@@ -52,7 +53,7 @@ module _ (files : List PackageFile) (decls : Decls) (written : List Occurrence) 
   is_whole : AreWhole files all (gs ++ scope_functions c) (keys functions_step.seen)
   is_whole = record {
     whole = λ t b at. elim (at_either cs c t b at) [
-      | inl old ↦ record { functions = (d.each t b old).functions; stated = (d.each t b old).stated; count = (d.made t b old).count }
+      | inl old ↦ record { functions = (d.each t b old).functions; stated = (d.each t b old).stated; count = made_count (keys d.seen) b.address d.occurrence.keyed.once b.functions b.made (d.made t b old) }
       | inr new ↦ rw new.1 (record { functions = a.functions; stated = a.stated; count = functions_count files decls (written ++ named) all gs a.middle es' names_step (length cs) c (at_seam cs c) c.functions c.made a.adds })
     ];
     made = λ t k b g at there. elim (at_either cs c t b at) [

@@ -6,6 +6,7 @@ use Rattle.wit_arena.proofs.Ordered.{Ordered, OrderedWorld, addresses, turned, s
 use Rattle.wit_arena.proofs.DoneWorlds.{InterfacesDone, WorldOwner, inside_of, interface_list, world_list, decls, SaysWorld, MakesWorld, world_resolved_scope, DoneWorld, own_scope, scopes_of, all_within, own_order, AreWorldsDone, includes_wider, named_world, own_types, written_more, scopes_more, handles_more, one_of_three}
 use Rattle.wit_arena.proofs.Sided.{AreAsStated, AreSided, side_required, all_handles-append}
 use Rattle.wit_arena.proofs.DoneNames.{done_of, required_there}
+use Rattle.wit_arena.proofs.PlacingFunctions.{made_count}
 use Rattle.wit_arena.proofs.FunctionPart.{AreWhole, DoneFunction, scope_functions, IsFunctionPart, IsScopeWhole}
 use Rattle.wit_arena.proofs.FreeNames.{free_of, AreStated}
 use Rattle.wit_arena.proofs.Prefix.{prefix_scopes}
@@ -141,7 +142,7 @@ module _ (files : List PackageFile) (is ws : List Item) (interfaces : AreOfSort 
 
       all_of : AreWhole files all_scopes_now (made_before ++ sided.more) (keys function_part.seen)
       all_of = record {
-        whole = of_each (IsScopeWhole files) (λ k x at. record { functions = (e.done.each k x at).functions; stated = (e.done.each k x at).stated; count = (e.done.made k x at).count }) (record { functions = sym (functions_of files ws (item_scopes files ws ws_items) (length us) w next); stated = stated_all; count = sided.count }) sided.whole;
+        whole = of_each (IsScopeWhole files) (λ k x at. record { functions = (e.done.each k x at).functions; stated = (e.done.each k x at).stated; count = made_count (keys e.done.seen) x.address e.done.occurrence.keyed.once x.functions x.made (e.done.made k x at) }) (record { functions = sym (functions_of files ws (item_scopes files ws ws_items) (length us) w next); stated = stated_all; count = sided.count }) sided.whole;
         made = made_among;
         required = of_each (λ (x : DoneScope). AreRequired files (keys function_part.seen) (turn_handles (turn_of x)) x.required) (λ k x at. required_extended files extended_before (turn_handles (turn_of x)) x.required (e.done.required k x at)) own_required as_stated.each;
       }
