@@ -1,6 +1,6 @@
 -- What occurs in the names of a scope, one after another.
 use Rattle.std.proofs.Common.{◌≡◌, ℕ, ◌+◌, cond, List, [], ◌∷◌, ◌++◌, length, Option, Some, None, nat_eq, inl, inr, refl, sym, ap, ◌∙◌, subst, append_assoc, arith}
-use Rattle.wit_arena.proofs.Names.{Address, AreAt, AreDistinct, AreKnown, AreNames, AreNew, AreResolved, Attribute, Collects, Decls, Def, Defined, Defines, End, Env, Exprs, Extends, IsAdded, IsOccurrence, IsSeen, IsUsed, Key, Names, Occurrence, ResolvedScope, ScopeName, TypeDef, TypeDefKind, TypeOwner, UseName, Used, about_name, all_seen, append-nil, at_back, at_either, at_prefix, at_seam, body_of, differ_at, differ_by, env_of, exprs_of, flat_map-append, insert_entry, keys, kind_of, local_name, local_names, lookup-insert_entry, map, map-append, name_cases, name_exprs, name_itself, name_occurrences, named, names-insert_entry, pointwise, shapes_occurrences, slice_get, slice_get_within, unwrap_or}
+use Rattle.wit_arena.proofs.Names.{Address, AreAt, AreDistinct, AreKnown, AreNames, AreNew, AreResolved, Attribute, Collects, Decls, Def, Defined, Defines, End, Env, Exprs, Extends, IsAdded, IsOccurrence, IsSeen, Key, Names, Occurrence, ResolvedScope, ScopeName, TypeDef, TypeDefKind, TypeOwner, UseName, Used, about_name, all_seen, append-nil, at_back, at_either, at_prefix, at_seam, body_of, differ_at, differ_by, env_of, exprs_of, flat_map-append, insert_entry, keys, kind_of, local_name, local_names, lookup-insert_entry, map, map-append, name_cases, name_exprs, name_itself, name_occurrences, named, names-insert_entry, pointwise, shapes_occurrences, slice_get, slice_get_within, unwrap_or, metadata, no_docs, names_in}
 use Rattle.wit_type_tree.specs.declared.types.TypeDef.{TypeDef as Definition}
 use Rattle.wit_types.specs.declared.types.TypeDefKind.TheVariants.{Type_}
 use Rattle.wit_types.specs.declared.types.«Type».TheVariants as type
@@ -8,6 +8,21 @@ use Rattle.wit_arena.proofs.Occurrence.{keys-append, collects_append, collects_f
 use Rattle.wit_arena.proofs.Resolving.{keys-shapes}
 use Rattle.wit_arena.proofs.OneKind.{key_extended, same_some}
 use Rattle.wit_arena.proofs.Turns.{parts_occurrences, all_name_occurrences}
+
+-- the scope at an address was resolved
+pub record IsFound (cs : List ResolvedScope) (from : Address) (c : ResolvedScope) : Type 0 where
+  pub place : ℕ
+  pub at : slice_get cs place ≡ Some c
+  pub called : c.address ≡ from
+
+-- a used name was added, as another word for what it means in the interface that it comes from
+pub record IsUsed (old new : List TypeDef) (cs : List ResolvedScope) (o : TypeOwner) (names names' : Names) (from : Address) (attributes : List Attribute) (n : UseName) : Type 0 where
+  pub target : ResolvedScope
+  pub found : IsFound cs from target
+  pub id : ℕ
+  pub present : env_of target.types n.name.name.now ≡ Some id
+  pub free : env_of names (local_name (Used from attributes n)) ≡ None
+  pub added : IsAdded old new o names names' (local_name (Used from attributes n)) (metadata no_docs attributes) n.name.span (Type_ (type.Id id))
 
 -- a name that was not seen is free
 pub name_free : (ks : List Key) (s : Address) (env : Env) (name : List ℕ) → AreNames ks s env → (IsSeen ks (Def s name) → ⊥) → env name ≡ None
@@ -68,16 +83,17 @@ defines_one old mid new cs o s names names' d kind p form a = defines_from old m
 key_at_scope : {ks : List Key} {s t : Address} {env : Env} → AreNames ks s env → s ≡ t → (name : List ℕ) (i : ℕ) → env name ≡ Some i → slice_get ks i ≡ Some (Def t name)
 key_at_scope {ks} {s} {t} {env} names same name i h = names.present name i h ∙ ap (λ (x : Address). Some (Def x name)) same
 
--- a name that is used from a scope that was resolved
-pub defines_used : (old new : List TypeDef) (cs : List ResolvedScope) (o : TypeOwner) (s : Address) (names names' : Names) (from : Address) (attributes : List Attribute) (n : UseName) → IsUsed old new cs o names names' from attributes n → Defines old new cs o s names names' (Used from attributes n ∷ [])
-defines_used old new cs o s names names' from attributes n u =
-    let original = n.name.name.now in
-    defines_from old old new cs o s names names' (Used from attributes n) (Type_ (type.Id u.id)) End refl (λ decls ms m are_present known. record {
-      now = ms;
-      collects = refl;
-      occurrence = m;
-      holds = ((u.id, refl, key_at_scope (known.names u.found.place u.target u.found.at) u.found.called original u.id u.present), tt);
-    }) refl u.added
+-- a name that is used from a scope that was resolved is defined, after the others
+pub used_adds : {old new : List TypeDef} {cs : List ResolvedScope} {o : TypeOwner} {names names' : Names} {from : Address} {attributes : List Attribute} {n : UseName} → IsUsed old new cs o names names' from attributes n → ((s : Address) → Defines old new cs o s names names' (Used from attributes n ∷ [])) × (names_in names' ≡ names_in names ++ local_name (Used from attributes n) ∷ [])
+used_adds {old} {new} {cs} {o} {names} {names'} {from} {attributes} {n} u = (
+  λ s. defines_from old old new cs o s names names' (Used from attributes n) (Type_ (type.Id u.id)) End refl (λ decls ms m are_present known. record {
+    now = ms;
+    collects = refl;
+    occurrence = m;
+    holds = ((u.id, refl, key_at_scope (known.names u.found.place u.target u.found.at) u.found.called n.name.name.now u.id u.present), tt);
+  }) refl u.added,
+  ap names_in u.added.inserted ∙ names-insert_entry names (local_name (Used from attributes n)) (length old) u.free,
+)
 
 -- what occurs in the parts of a name of a scope are the unnamed expressions in them
 pub parts_keys : (s : Address) (x : ScopeName) → keys (parts_occurrences s x) ≡ all_seen (name_exprs s x)

@@ -1,6 +1,6 @@
--- Used names, one after another.
-use Rattle.std.proofs.Common.{◌≡◌, ℕ, zero, suc, List, [], ◌∷◌, ◌++◌, length, Some, IsSome, true, inl, inr, nat_eq, refl, sym, ap, ◌∙◌}
-use Rattle.wit_arena.proofs.Names.{Address, Attribute, HasNames, IsUsed, Names, ResolvedScope, ScopeName, TypeDef, TypeOwner, UseName, Used, env_of, local_name, local_names, lookup, map, map-append, name_cases, name_itself, names-insert_entry, option_map, pointwise, slice_get, slice_get-map}
+-- Names that a table lists.
+use Rattle.std.proofs.Common.{◌≡◌, ℕ, zero, suc, List, [], ◌∷◌, Some, IsSome, true, inl, inr, nat_eq, refl, sym, ap, ◌∙◌}
+use Rattle.wit_arena.proofs.Names.{HasNames, Names, ScopeName, env_of, local_name, local_names, lookup, map, name_cases, name_itself, option_map, pointwise, slice_get, slice_get-map}
 
 -- a name that is listed finds a value
 pub lookup-listed : (es : Names) (k : ℕ) (name : List ℕ) → slice_get (map (λ p. p.0) es) k ≡ Some name → IsSome (lookup (pointwise nat_eq name) es)
@@ -16,9 +16,3 @@ pub listed_has : (names : Names) (xs : List ScopeName) → map (λ p. p.0) names
 listed_has names xs listed = record {
   has = λ i x at. lookup-listed names i (local_name x) (ap (λ (l : List (List ℕ)). slice_get l i) listed ∙ slice_get-map local_name xs i ∙ ap (option_map local_name) at);
 }
-
--- a used name more
-pub listed_more : {old new : List TypeDef} {cs : List ResolvedScope} {o : TypeOwner} {names names' : Names} (xs : List ScopeName) (from : Address) (attributes : List Attribute) (n : UseName) → map (λ p. p.0) names ≡ local_names xs → IsUsed old new cs o names names' from attributes n → map (λ p. p.0) names' ≡ local_names (xs ++ Used from attributes n ∷ [])
-listed_more {old} {new} {cs} {o} {names} {names'} xs from attributes n listed u =
-    let x = Used from attributes n in
-    ap (map (λ (p : List ℕ × ℕ). p.0)) u.added.inserted ∙ names-insert_entry names (local_name x) (length old) u.free ∙ ap (λ ns. ns ++ local_name x ∷ []) listed ∙ sym (map-append local_name xs (x ∷ []))

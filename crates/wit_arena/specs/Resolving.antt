@@ -1,8 +1,6 @@
 -- What resolving does: to the arena of types, from whatever occurred before, and to those of interfaces and worlds.
 use Rattle.std.specs.Prelude.{◌≡◌, ℕ, List, [], ◌∷◌, ◌++◌, length, map, Option, Some, None, ◌⊎◌, slice_get, nat_eq, IsSome, ◌+◌}
-use Rattle.wit_arena.specs.Names.{Address, AreDistinct, Exported, ForeignUse, Function, Id, Imported, Interface, InterfaceNamed, IsOrder, Item, Metadata, PackageFile, ScopeName, Shape, Shapes, SideFunction, SideInline, SideItem, SideLink, SourceFunction, Span, Stability, TypeDef, TypeDefKind, TypeOwner, Type_, Unknown, Used, World, WorldNamed, about, address, all_handles, all_types, declared_metadata, first_foreign_uses, flat_map, foreign_interfaces, foreign_worlds, functions as item_functions, in_turn, includes, inline_items, insert_entry, local_name, local_names, lookup, metadata, name_types, no_docs, pointwise, rows_of, scope_names, side_items, unwrap_or, visited, written_types, «Type» as Ty, signature, stability_of}
-use Rattle.wit_type_tree.specs.declared.leaves.Attribute.{Attribute}
-use Rattle.wit_tree.specs.declared.tree.UseName.{UseName}
+use Rattle.wit_arena.specs.Names.{Address, AreDistinct, Exported, ForeignUse, Function, Id, Imported, Interface, InterfaceNamed, IsOrder, Item, Metadata, PackageFile, ScopeName, Shape, Shapes, SideFunction, SideInline, SideItem, SideLink, SourceFunction, Span, Stability, TypeDef, TypeDefKind, TypeOwner, Unknown, World, WorldNamed, about, address, all_handles, all_types, declared_metadata, first_foreign_uses, flat_map, foreign_interfaces, foreign_worlds, functions as item_functions, in_turn, includes, inline_items, insert_entry, local_name, local_names, lookup, metadata, name_types, no_docs, pointwise, rows_of, scope_names, side_items, unwrap_or, visited, written_types, «Type» as Ty, signature, stability_of}
 use Rattle.wit_arena.specs.Occurrences.{Expr, Prim, Use, Of, Exprs, End, More, exprs_of, Key, Def, Whole, Occurrence, keys, IsSeen, Collects, AreAt, Decls, IsOccurrence, name_occurrences, settled, shape_occurrences}
 use Rattle.wit_arena.specs.UnfoldedTypes.{At, IsInterface, IsWorld}
 use Rattle.wit_arena.specs.SourceFunctions.{freestanding_names, placed_functions, HasSide}
@@ -10,7 +8,6 @@ use Rattle.wit_arena.specs.Kind.{IsResource, IsUnknown as IsUnknownEntry, entry_
 use Rattle.wit_types.specs.declared.types.TypeDefKind.TheVariants.{Unknown as UnknownKind}
 use Rattle.wit_arena.specs.Made.{foreign_interface, foreign_world, function_in}
 use Rattle.wit_arena.specs.Whole.{owner_at, type_imports, AreIncludes}
-use Rattle.wit_types.specs.declared.types.«Type».TheVariants as type
 use Rattle.wit_types.specs.declared.types.TypeOwner.TheVariants as owner
 use Rattle.wit_syntax.specs.Shape as shape
 
@@ -136,21 +133,6 @@ pub record IsStored (names names' : Names) (name : List ℕ) : Type 0 where
 -- each of these is in a table of names
 pub record HasNames (env : Env) (xs : List ScopeName) : Type 0 where
   pub has : (i : ℕ) (x : ScopeName) → slice_get xs i ≡ Some x → IsSome (env (local_name x))
-
--- the scope at an address was resolved
-pub record IsFound (cs : List ResolvedScope) (from : Address) (c : ResolvedScope) : Type 0 where
-  pub place : ℕ
-  pub at : slice_get cs place ≡ Some c
-  pub called : c.address ≡ from
-
--- a used name was added, as another word for what it means in the interface that it comes from
-pub record IsUsed (old new : List TypeDef) (cs : List ResolvedScope) (o : TypeOwner) (names names' : Names) (from : Address) (attributes : List Attribute) (n : UseName) : Type 0 where
-  pub target : ResolvedScope
-  pub found : IsFound cs from target
-  pub id : ℕ
-  pub present : env_of target.types n.name.name.now ≡ Some id
-  pub free : env_of names (local_name (Used from attributes n)) ≡ None
-  pub added : IsAdded old new o names names' (local_name (Used from attributes n)) (metadata no_docs attributes) n.name.span (Type_ (type.Id id))
 
 -- places by name: among these addresses, a name has the place of the one that it is called by
 pub record IsNameIndex (called : List ℕ → Address) (all : List Address) (by_name : Names) : Type 0 where

@@ -1,9 +1,9 @@
 -- What the names of a scope add to the arena, one after another, in the order in which they are resolved.
-use Rattle.std.specs.Prelude.{◌≡◌, List, [], map, ℕ, ◌++◌}
-use Rattle.wit_arena.specs.Common.{Address, AddsScope, AreDistinct, Defines, Id, IsOrder, IsUsed, Names, Required, ResolvedScope, ScopeName, TypeDef, TypeOwner, all_handles, env_of, flat_map, in_turn, local_id, local_names, name_types, names_in, rows_of, used}
-use Rattle.wit_entries.specs.EntryFaults.{Requires}
+use Rattle.std.specs.Prelude.{◌≡◌, List, [], map, ℕ, ◌++◌, ◌∷◌}
+use Rattle.wit_arena.specs.Common.{Address, AddsScope, AreDistinct, Defines, Id, IsOrder, Names, Required, ResolvedScope, ScopeName, TypeDef, TypeOwner, all_handles, env_of, flat_map, in_turn, local_id, local_names, name_types, names_in, rows_of, used, local_name}
+use Rattle.wit_entries.specs.EntryFaults.{AddsIn, Requires}
 use Rattle.wit_entries.specs.declared.scope.Scope.{Scope}
-use Rattle.wit_scopes.specs.BorrowedNames.{source_view}
+use Rattle.wit_scopes.specs.BorrowedNames.{use_view}
 use Rattle.wit_scopes.specs.declared.scope_name.UsedName.{UsedName}
 use Rattle.wit_items.specs.ResolvedInterfaces.{resolved_scopes_of}
 use Rattle.wit_items.specs.declared.interfaces.Interfaces.{Interfaces}
@@ -23,9 +23,9 @@ DefinitionsRequire a b new ds = Requires (env_of b.names) new (all_handles (flat
 abbrev pub AddsRest : Scope → Scope → List TypeDef → List TypeDef → List ScopeName → List Id → Type 0
 AddsRest a b old new xs ids = (first : List TypeDef) (cs : List ResolvedScope) → ((s : Address) → Defines first old cs a.owner s [] a.names (used xs)) → a.required.items ≡ [] → AddsTurn first new cs a.owner xs b.names ids b.required.items
 
--- a used name was added to a scope
+-- a used name was added to a scope, after its names
 abbrev pub AddsUsed : Interfaces → Scope → Scope → List TypeDef → List TypeDef → UsedName → Type 0
-AddsUsed is a b old new u = IsUsed old new (resolved_scopes_of is) a.owner a.names b.names (source_view u.from) u.attributes.now u.name.now
+AddsUsed is a b old new u = AddsIn (resolved_scopes_of is) a b old new (use_view u ∷ []) × (names_in b.names ≡ names_in a.names ++ local_name (use_view u) ∷ [])
 
 -- these are the names of a scope as they are resolved
 pub record IsTurn (xs : List ScopeName) (ids : List Id) : Type 0 where

@@ -3,6 +3,7 @@ use Rattle.wit_items.proofs.Common.{Fault, Id, codes, defined_twice, env_of, err
 use Rattle.std.specs.Prelude.{is_some}
 use Rattle.wit_item_entries.specs.ReachedFaults.{interface_of, asked_fault, lost_name, used_fault, spelled_fault}
 use Rattle.wit_item_entries.proofs.ReachedFaults.{found_of, used_from}
+use Rattle.wit_arena.proofs.Common.{used_adds}
 use Rattle.wit_item_entries.proofs.uses.resolve_use.Goals as goal
 
 pub returns-in_err-id-clause-first : goal.returns-in_err-id-clause-first
@@ -50,11 +51,11 @@ returns-clause-used c =
     let is = c.args.interfaces.now in
     let u = c.args.used.now in
     let i = c.get-interface.result.now in
-    record {
+    used_adds (record {
       target = resolved_scope_at (source_view u.from) i;
       found = found_of is u.from i c.requires.placed (ap (option_and_then (slice_get is.arena)) c.in_ok-id.ensures.id ∙ c.get-interface.ensures);
       id = c.in-Some.original.now;
       present = search rules;
       free = search rules;
       added = search rules;
-    }
+    })

@@ -1,5 +1,5 @@
-use Rattle.std.proofs.Common.{◌≡◌, ◌+◌, ◌++◌, ◌∷◌, [], take, Some, refl, ap, sym, ◌∙◌, subst, arith}
-use Rattle.wit_items.proofs.Common.{Defines, TypeOwner, Used, after-next, defines_more, defines_used, err_from_is_err_and, first_after, length-map, listed_more, local_names, map, read_map, reports-after, reports_same, resolved_scopes_of, slice_get, slice_get_read, source_view, take-map, take_all, take_next, use_view}
+use Rattle.std.proofs.Common.{◌≡◌, ◌+◌, ◌++◌, ◌∷◌, [], take, Some, refl, ap, sym, ◌∙◌, subst, arith, List, ℕ}
+use Rattle.wit_items.proofs.Common.{Defines, TypeOwner, Used, after-next, defines_more, err_from_is_err_and, first_after, length-map, local_names, map, read_map, reports-after, reports_same, resolved_scopes_of, slice_get, slice_get_read, source_view, take-map, take_all, take_next, use_view, local_name, map-append}
 use Rattle.wit_entries.proofs.Requiring.{extended_then}
 use Rattle.wit_item_entries.specs.ReachedFaults.{local_fault}
 use Rattle.wit_item_entries.proofs.ReachedFaults.{local_next}
@@ -38,10 +38,10 @@ loop-name-preserved c =
     let new = c.resolve_use.new.scope.names in
     let e = c.in_ok-resolve_use.ensures in
     record {
-      defines = λ s. rw more (defines_more c.args.types.now c.loop-name.types c.resolve_use.new.types cs o s c.args.scope.now.names old new (take i us) (Used from attributes n ∷ []) (c.loop-name.invariant.defines s) (subst (λ (m : TypeOwner). Defines c.loop-name.types c.resolve_use.new.types cs m s old new (Used from attributes n ∷ [])) c.loop-name.invariant.owner (defines_used c.loop-name.types c.resolve_use.new.types cs c.loop-name.scope.owner s old new from attributes n e.used)));
+      defines = λ s. rw more (defines_more c.args.types.now c.loop-name.types c.resolve_use.new.types cs o s c.args.scope.now.names old new (take i us) (Used from attributes n ∷ []) (c.loop-name.invariant.defines s) (subst (λ (m : TypeOwner). Defines c.loop-name.types c.resolve_use.new.types cs m s old new (Used from attributes n ∷ [])) c.loop-name.invariant.owner (e.used.0 s)));
       owner = e.owner ∙ c.loop-name.invariant.owner;
       required = e.required ∙ c.loop-name.invariant.required;
-      listed = rw more (listed_more (take i us) from attributes n c.loop-name.invariant.listed e.used);
+      listed = rw more (e.used.1 ∙ ap (λ (l : List (List ℕ)). l ++ local_name (Used from attributes n) ∷ []) c.loop-name.invariant.listed ∙ sym (map-append local_name (take i us) (Used from attributes n ∷ [])));
       first = after-next (local_fault c.args.interfaces.now) c.args.uses.now i c.name-item.result c.loop-name-test.true c.name-item.is c.loop-name.invariant.first (local_next c.args.interfaces.now old (take i c.args.uses.now) c.name-item.result (c.loop-name.invariant.listed ∙ ap local_names (take-map use_view i c.args.uses.now)) ∙ e.first);
       extended = extended_then c.args.types.now c.loop-name.types c.resolve_use.new.types c.loop-name.invariant.extended e.extended;
     }
