@@ -57,17 +57,14 @@ module _ (id : Key → ℕ) (ks : List Key) (gives : GivesPlaces id ks) where
 
   -- wherever else that is the place of each key, the functions are the same
   module _ (id' : Key → ℕ) (gives' : GivesPlaces id' ks) (s : Address) where
-    role_kept : (role : Role) → RolePresent (IsSeen ks) s role → role_kind (λ (of : Id). id (Def s of.name.now)) role ≡ role_kind (λ (of : Id). id' (Def s of.name.now)) role
-    role_kept role h = by role h
-      where
-        same : (k : Key) → IsSeen ks k → id k ≡ id' k
-        same k h = gives.at h.0 k h.1 ∙ sym (gives'.at h.0 k h.1)
+    same_place : (k : Key) → IsSeen ks k → id k ≡ id' k
+    same_place k h = gives.at h.0 k h.1 ∙ sym (gives'.at h.0 k h.1)
 
-        by : (role : Role) → RolePresent (IsSeen ks) s role → role_kind (λ (of : Id). id (Def s of.name.now)) role ≡ role_kind (λ (of : Id). id' (Def s of.name.now)) role
-        by (Method of form) h = ap (kinds_of form).method (same (Def s of.name.now) h)
-        by (Static of form) h = ap (kinds_of form).static (same (Def s of.name.now) h)
-        by (Constructor of) h = ap kind.Constructor (same (Def s of.name.now) h)
-        by _ h = refl
+    role_kept : (role : Role) → RolePresent (IsSeen ks) s role → role_kind (λ (of : Id). id (Def s of.name.now)) role ≡ role_kind (λ (of : Id). id' (Def s of.name.now)) role
+    role_kept (Method of form) h = ap (kinds_of form).method (same_place (Def s of.name.now) h)
+    role_kept (Static of form) h = ap (kinds_of form).static (same_place (Def s of.name.now) h)
+    role_kept (Constructor of) h = ap kind.Constructor (same_place (Def s of.name.now) h)
+    role_kept _ h = refl
 
     shapes_kept : (xs : List Shape) → ((k : ℕ) (x : Shape) → slice_get xs k ≡ Some x → IsPresent (IsSeen ks) (expr_of s x)) → map (type_in id s) xs ≡ map (type_in id' s) xs
     shapes_kept [] h = refl
