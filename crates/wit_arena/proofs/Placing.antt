@@ -61,7 +61,7 @@ gives_in ks far differ = record { at = λ i k at. differ.differ (place_in ks far
 
 -- a key whose place does not depend on what is not among them is among them
 pub place_seen : (ks : List Key) (k : Key) → place_in ks 0 k ≡ place_in ks 1 k → slice_get ks (place_in ks 0 k) ≡ Some k
-place_seen [] k same = absurd (omega (arith, same))
+place_seen [] k same = absurd (let wrong : 0 ≡ 1 = same in omega (arith, wrong))
 place_seen (x ∷ ks) k same = elim (cases_Bool (same_key k x)) [
   | inl hit ↦ first_place x ks 0 k hit
   | inr miss ↦ ap (slice_get (x ∷ ks)) (next_place x ks 0 k miss) ∙ place_seen ks k (let both = sym (next_place x ks 0 k miss) ∙ same ∙ next_place x ks 1 k miss in omega (arith, both))

@@ -119,7 +119,7 @@ pub record HasTypes (ks : List Key) (t : Turned) (types : List (List ℕ × ℕ)
 -- names that are so over the places of these keys, whatever others may be, mean their places
 pub types_present : (ks : List Key) → AllDiffer ks → (t : Turned) (types : List (List ℕ × ℕ)) → ((id : Key → ℕ) → GivesPlaces id ks → types ≡ name_places id t.address t.names) → HasTypes ks t types
 types_present ks differ t types is = record {
-  names = ap (map (λ (n : List ℕ × ℕ). n.0)) (over 0) ∙ map_map (λ (n : List ℕ × ℕ). n.0) (placed 0) t.names;
+  names = ap (map (λ (n : List ℕ × ℕ). n.0)) (over 0) ∙ map_map (λ (n : List ℕ × ℕ). n.0) (λ (x : ScopeName). (local_name x, place_in ks 0 (Def t.address (local_name x)))) t.names;
   places = λ k name i at. (
       let key = Def t.address name in
       ap (slice_get ks) (sym (here k name i at 0)) ∙ place_seen ks key (here k name i at 0 ∙ sym (here k name i at 1)));
@@ -128,12 +128,9 @@ types_present ks differ t types is = record {
     over : (far : ℕ) → types ≡ name_places (place_in ks far) t.address t.names
     over far = is (place_in ks far) (gives_in ks far differ)
 
-    placed : ℕ → ScopeName → List ℕ × ℕ
-    placed far x = (local_name x, place_in ks far (Def t.address (local_name x)))
-
     here : (k : ℕ) (name : List ℕ) (i : ℕ) → slice_get types k ≡ Some (name, i) → (far : ℕ) → place_in ks far (Def t.address name) ≡ i
     here k name i at far =
-        let x = map_at (placed far) t.names k (name, i) (ap (λ (l : List (List ℕ × ℕ)). slice_get l k) (sym (over far)) ∙ at) in
+        let x = map_at (λ (x : ScopeName). (local_name x, place_in ks far (Def t.address (local_name x)))) t.names k (name, i) (ap (λ (l : List (List ℕ × ℕ)). slice_get l k) (sym (over far)) ∙ at) in
         ap (λ (n : List ℕ). place_in ks far (Def t.address n)) (sym (ap (λ (n : List ℕ × ℕ). n.0) x.2)) ∙ ap (λ (n : List ℕ × ℕ). n.1) x.2
 
 -- an interface of another package, where a path first leads to it, with the names that are used from it
