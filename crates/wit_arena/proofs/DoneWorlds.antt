@@ -1,6 +1,6 @@
 -- Interfaces that were added are done.
 use Rattle.std.proofs.Common.{◌≡◌, ℕ, ◌+◌, true, false, List, [], ◌∷◌, ◌++◌, length, map, Option, Some, inl, inr, refl, sym, ap, ◌∙◌, subst, append_assoc, length-append, suc, ◌⊎◌, arith}
-use Rattle.wit_arena.proofs.Names.{Address, AddsDeclared, AddsForeign, AddsInterfaces, Decls, Defines, Imported, Interface, InterfaceNamed, IsInterface, Item, Names, Occurrence, PackageFile, Required, ResolvedScope, ScopeName, TypeDef, TypeOwner, World, about, address, all_items, all_occurrences, append-cancel, append-nil, at_back, at_part, at_prefix, declarations, declared_metadata, flat_map, foreign_interfaces, foreign_use_occurrence, foreign_uses, foreign_worlds, functions, functions_imported, in_turn, inline_items, interface_functions, is_foreign, length-map, map-append, option_map, owner_at, placed_functions, resolved_scope, resolved_scopes, scope, scope_names, slice_get, slice_get-map, unwrap_or, visited, AreIncludes, AreRequired, Collects, Exported, Function, FunctionKey, HasSide, Id, Include, IsInclude, IsWorld, TopName, Turned, WorldArenas, WorldInclude, WorldItem, WorldKey, WorldNamed, after_one, all_handles, at_either, at_split, flat_map-append, flat_map_at, flat_map_has, import_types, includes, keys, leads, local_names, map_at, name_types, side_items, target_scope, turn_handles, turn_occurrences, type_imports, world_functions, world_types, «Type» as Written, ForeignVisit, slice_get_within}
+use Rattle.wit_arena.proofs.Names.{Address, AddsDeclared, AddsForeign, AddsInterfaces, Decls, Defines, Imported, Interface, InterfaceNamed, Item, Names, Occurrence, PackageFile, Required, ResolvedScope, ScopeName, TypeDef, TypeOwner, World, about, address, all_items, all_occurrences, append-cancel, append-nil, at_back, at_part, at_prefix, declarations, declared_metadata, flat_map, foreign_interfaces, foreign_use_occurrence, foreign_uses, foreign_worlds, functions, functions_imported, in_turn, inline_items, interface_functions, is_foreign, length-map, map-append, option_map, owner_at, placed_functions, resolved_scope, resolved_scopes, scope, scope_names, slice_get, slice_get-map, unwrap_or, visited, AreIncludes, AreRequired, Collects, Exported, Function, FunctionKey, HasSide, Id, Include, IsInclude, TopName, Turned, WorldArenas, WorldInclude, WorldItem, WorldKey, WorldNamed, after_one, all_handles, at_either, at_split, flat_map-append, flat_map_at, flat_map_has, import_types, includes, keys, leads, local_names, map_at, name_types, side_items, target_scope, turn_handles, turn_occurrences, type_imports, world_functions, world_types, «Type» as Written, ForeignVisit, slice_get_within, interface, world}
 use Rattle.wit_arena.proofs.FreeNames.{free_of, free_keyed}
 use Rattle.wit_arena.proofs.Settled.{stated_placed, world_types-all}
 use Rattle.wit_arena.proofs.Ordered.{Ordered, OrderedWorld, addresses, turned, side_turns, world_turns, all_turns, all_inside}
@@ -19,7 +19,7 @@ use Rattle.wit_syntax.specs.Source as source
 
 -- an interface of the arena is the item
 abbrev pub SaysInterface : Ordered → Interface → Type 0
-SaysInterface o i = IsInterface (about o.item.declared).called (about o.item.declared).id.span (declared_metadata o.item.declared) i
+SaysInterface o i = i ≡ interface (about o.item.declared).called i.types i.functions (declared_metadata o.item.declared) (about o.item.declared).id.span
 
 -- it has the functions of a scope
 pub record MakesInterface (o : Ordered) (c : DoneScope) (i : Interface) : Type 0 where
@@ -162,7 +162,7 @@ module _ (files : List PackageFile) (is ws : List Item) where
             is_resolved_scope = λ listed. (
                 let names = free_of (interface_functions added) in
                 ap (λ (s : Address). record { address = s; types = added.types; functions = names }) (interface_address files is is_items (length us) w there sort)
-                ∙ ap (called_resolved_scope added.types names) (sym (a.says.0 ∙ declared_called files is is_items (length us) w there))
+                ∙ ap (called_resolved_scope added.types names) (sym (ap (λ (x : Interface). x.name) a.says ∙ declared_called files is is_items (length us) w there))
                 ∙ ap (λ (l : List (List ℕ)). called_resolved_scope added.types l added.name) (free_keyed Imported added.functions));
             makes = λ listed. record { functions = a.are_present; stated = refl };
           }
@@ -177,7 +177,7 @@ module _ (files : List PackageFile) (is ws : List Item) where
 -- What is once worlds are done, each with the interfaces that are written in it.
 -- a world of the arena is the item, with its includes, where the worlds have these addresses
 pub record SaysWorld (worlds : List Address) (o : Ordered) (w : World) : Type 0 where
-  pub says : IsWorld (about o.item.declared).id.name.now (about o.item.declared).id.span (declared_metadata o.item.declared) w
+  pub says : w ≡ world (about o.item.declared).id.name.now w.imports w.exports w.includes (declared_metadata o.item.declared) (about o.item.declared).id.span
   pub includes : AreIncludes worlds o.item w.includes
 
 -- it has the types of a scope as its imports, and then, on its sides, what the item has there; the interfaces have these addresses

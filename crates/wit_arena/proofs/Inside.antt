@@ -1,6 +1,6 @@
 -- Interfaces that are written in worlds, as scopes that are done and as entries of the arena.
 use Rattle.std.proofs.Common.{◌≡◌, ◌<◌, ℕ, zero, suc, ◌+◌, List, [], ◌∷◌, ◌++◌, length, map, Some, refl, ap, subst, arith}
-use Rattle.wit_arena.proofs.Names.{Interface, IsInterface, IsOrder, about, declared_metadata, interface_functions, local_names, placed_functions, rows_of, scope_names, slice_get}
+use Rattle.wit_arena.proofs.Names.{Interface, IsOrder, about, declared_metadata, interface_functions, local_names, placed_functions, rows_of, scope_names, slice_get, interface}
 use Rattle.wit_types.specs.declared.types.TypeOwner.TheVariants as owner
 use Rattle.wit_arena.proofs.Ordered.{Ordered, turned}
 use Rattle.wit_arena.proofs.Resolving.{DoneScope, turn_of}
@@ -12,7 +12,7 @@ pub record IsInside (place : ℕ) (o : Ordered) (c : DoneScope) (i : Interface) 
   pub types : c.types ≡ i.types
   pub listed : map (λ p. p.0) c.types ≡ local_names c.names
   pub whose : c.owner ≡ owner.Interface place
-  pub says : IsInterface (about o.item.declared).called (about o.item.declared).id.span (declared_metadata o.item.declared) i
+  pub says : i ≡ interface (about o.item.declared).called i.types i.functions (declared_metadata o.item.declared) (about o.item.declared).id.span
   pub are_present : i.functions ≡ placed_functions c.made
   pub stated : c.stated ≡ interface_functions i
 

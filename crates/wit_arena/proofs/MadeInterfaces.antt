@@ -1,25 +1,14 @@
 -- Where a function gives the place of each key, each interface of the package is stated.
 use Rattle.std.proofs.Common.{◌≡◌, ℕ, List, [], Option, Some, None, ap, ◌∙◌}
-use Rattle.wit_arena.proofs.Names.{Docs, ForeignVisit, Function, Interface, IsInterface, Item, Key, Metadata, PackageFile, Span, Stability, about, address, by_name, declared_metadata, foreign_interface, function_in, functions as item_functions, interface, map_map, name_places, names_in_turn, own_interface, placed, placed_functions, metadata, no_docs, GivesPlaces}
+use Rattle.wit_arena.proofs.Names.{ForeignVisit, Function, Interface, Item, Key, Metadata, PackageFile, Span, about, address, by_name, declared_metadata, foreign_interface, function_in, functions as item_functions, interface, map_map, name_places, names_in_turn, own_interface, placed, placed_functions, metadata, no_docs, GivesPlaces}
 use Rattle.wit_arena.proofs.Ordered.{Ordered, ordered_names, turned}
 use Rattle.wit_arena.proofs.PackageIfDone.{IsResolvedInterface}
 use Rattle.wit_arena.proofs.PlacingFunctions.{types-places, IsForeignInterface}
 use Rattle.wit_arena.proofs.Turns.{foreign_turned}
 
-abbrev fields : Option (List ℕ) → List (List ℕ × ℕ) → List (List ℕ × Function) → Docs → Stability → Option ℕ → Span → Option ℕ → Interface
-fields name types functions docs stability of span source = record { name = name; types = types; functions = functions; docs = docs; stability = stability; «package» = of; span = span; clone_of = source }
-
 -- an interface is given by what it says, its types and its functions
-interface_stated : (name : Option (List ℕ)) (span : Span) (n : Metadata) (i : Interface) (types : List (List ℕ × ℕ)) (functions : List (List ℕ × Function)) → IsInterface name span n i → i.types ≡ types → i.functions ≡ functions → i ≡ interface name types functions n span
-interface_stated name span n i types functions says same_types same_functions =
-    let called = says.0 in
-    let present = says.1 in
-    let docs = says.2 in
-    let stability = says.3 in
-    let of = says.4 in
-    let source = says.5 in
-    let same : fields i.name i.types i.functions i.docs i.stability i.package i.span i.clone_of ≡ interface name types functions n span = cc in
-    same
+interface_stated : (name : Option (List ℕ)) (span : Span) (n : Metadata) (i : Interface) (types : List (List ℕ × ℕ)) (functions : List (List ℕ × Function)) → i ≡ interface name i.types i.functions n span → i.types ≡ types → i.functions ≡ functions → i ≡ interface name types functions n span
+interface_stated name span n i types functions says same_types same_functions = says ∙ ap (λ (l : List (List ℕ × ℕ)). interface name l i.functions n span) same_types ∙ ap (λ (l : List (List ℕ × Function)). interface name types l n span) same_functions
 
 module _ (id : Key → ℕ) (ks : List Key) (gives : GivesPlaces id ks) where
   pub foreign_interface-as_stated : (files : List PackageFile) (v : ForeignVisit) (i : Interface) → IsForeignInterface files ks v i → i ≡ foreign_interface files id v

@@ -1,6 +1,6 @@
 -- Where a function gives the place of each key, and scopes are where they are stated to, each world of the package is stated.
-use Rattle.std.proofs.Common.{◌≡◌, ℕ, List, [], ◌∷◌, ◌++◌, Option, refl, sym, ap, ◌∙◌, subst}
-use Rattle.wit_arena.proofs.Names.{Address, AreSideItems, Def, Docs, Exported, Function, Imported, Include, IsInclude, IsWorld, Item, Key, Metadata, ScopeName, Span, Stability, TopName, Type_, World, WorldInclude, WorldItem, WorldKey, WorldNamed, WorldSide, about, address, declared_metadata, entries_on, entries_walked, flat_map, function_in, functions as item_functions, include_in, includes, inline_items, item_function, leads, local_id, local_name, map, name_imports, name_places, names_in_turn, own_world, settled, side_items, target_scope, type_imports, world, world_entries, world_types, GivesPlaces}
+use Rattle.std.proofs.Common.{◌≡◌, ℕ, List, [], ◌∷◌, ◌++◌, refl, sym, ap, ◌∙◌, subst}
+use Rattle.wit_arena.proofs.Names.{Address, AreSideItems, Def, Exported, Function, Imported, Include, IsInclude, Item, Key, Metadata, ScopeName, Span, Stability, TopName, Type_, World, WorldInclude, WorldItem, WorldKey, WorldNamed, WorldSide, about, address, declared_metadata, entries_on, entries_walked, flat_map, function_in, functions as item_functions, include_in, includes, inline_items, item_function, leads, local_id, local_name, map, name_imports, name_places, names_in_turn, own_world, settled, side_items, target_scope, type_imports, world, world_entries, world_types, GivesPlaces}
 use Rattle.wit_model.specs.declared.world.IncludeName.{IncludeName}
 use Rattle.wit_model.specs.declared.world.WorldKey.TheVariants as key
 use Rattle.wit_arena.proofs.Ordered.{OrderedWorld, addresses, ordered_names, turned}
@@ -12,19 +12,10 @@ use Rattle.wit_arena.proofs.PlacingFunctions.{types-places, one_by_one-image}
 abbrev Entries : Type 0
 Entries = List (WorldKey × WorldItem)
 
-abbrev fields : List ℕ → Entries → Entries → Option ℕ → Docs → Stability → List WorldInclude → Span → World
-fields name imports exports of docs stability includes span = record { name = name; imports = imports; exports = exports; «package» = of; docs = docs; stability = stability; includes = includes; span = span }
-
 -- a world is given by what it says, its imports, its exports and its includes
-world_stated : (name : List ℕ) (span : Span) (n : Metadata) (w : World) (imports exports : Entries) (includes : List WorldInclude) → IsWorld name span n w → w.imports ≡ imports → w.exports ≡ exports → w.includes ≡ includes → w ≡ world name imports exports includes n span
+world_stated : (name : List ℕ) (span : Span) (n : Metadata) (w : World) (imports exports : Entries) (includes : List WorldInclude) → w ≡ world name w.imports w.exports w.includes n span → w.imports ≡ imports → w.exports ≡ exports → w.includes ≡ includes → w ≡ world name imports exports includes n span
 world_stated name span n w imports exports includes says same_imports same_exports same_includes =
-    let called = says.0 in
-    let present = says.1 in
-    let docs = says.2 in
-    let stability = says.3 in
-    let of = says.4 in
-    let same : fields w.name w.imports w.exports w.package w.docs w.stability w.includes w.span ≡ world name imports exports includes n span = cc in
-    same
+    says ∙ ap (λ (l : Entries). world name l w.exports w.includes n span) same_imports ∙ ap (λ (l : Entries). world name imports l w.includes n span) same_exports ∙ ap (λ (l : List WorldInclude). world name imports exports l n span) same_includes
 
 abbrev include : Stability → ℕ → List IncludeName → Span → WorldInclude
 include stability id names span = record { stability = stability; id = id; names = names; span = span }

@@ -1,6 +1,6 @@
 -- The package that files make, part by part: what the steps of resolving them come to.
 use Rattle.std.proofs.Common.{◌≡◌, ℕ, List, Some, sym, ap, ◌∙◌, subst, arith, ◌+◌, ◌++◌, length, inl, inr, refl, append_assoc}
-use Rattle.wit_arena.proofs.Names.{Address, AreIncludes, AreRequired, Collects, Exported, Function, HasSide, Imported, Interface, IsInterface, IsOccurrence, IsWorld, Key, Occurrence, OneByOne, PackageFile, Required, TypeDef, UnresolvedPackage, World, [], about, address, all_occurrences, declarations, declared_metadata, dep, first_foreign_uses, flat_map, foreign_interfaces, foreign_packages, foreign_worlds, functions as item_functions, includes, keys, map, placed_functions, turn_handles, type_imports, world_types, AreAt, Decls, Def, ScopeName, SourceFunction, TypeOwner, at_within, differ_at, kind_of, local_name, lookup-at, map_at, name_exprs, one, option_map, scope, slice_get, slice_get-map, slice_get_within, AddsForeign, AreFunctions, AreSideItems, ForeignVisit, Id, IsOrder, Item, Names, Turned, WorldArenas, all_items, at_back, at_part, at_prefix, flat_map-append, functions, in_order, inline_items, interfaces_of, item_rows, length-map, map-append, map_map, resolved_scope, rows_of, scope_names, settled, side_items, visited, worlds_of, foreign_world}
+use Rattle.wit_arena.proofs.Names.{Address, AreIncludes, AreRequired, Collects, Exported, Function, HasSide, Imported, Interface, IsOccurrence, Key, Occurrence, OneByOne, PackageFile, Required, TypeDef, UnresolvedPackage, World, [], about, address, all_occurrences, declarations, declared_metadata, dep, first_foreign_uses, flat_map, foreign_interfaces, foreign_packages, foreign_worlds, functions as item_functions, includes, keys, map, placed_functions, turn_handles, type_imports, world_types, AreAt, Decls, Def, ScopeName, SourceFunction, TypeOwner, at_within, differ_at, kind_of, local_name, lookup-at, map_at, name_exprs, one, option_map, scope, slice_get, slice_get-map, slice_get_within, AddsForeign, AreFunctions, AreSideItems, ForeignVisit, Id, IsOrder, Item, Names, Turned, WorldArenas, all_items, at_back, at_part, at_prefix, flat_map-append, functions, in_order, inline_items, interfaces_of, item_rows, length-map, map-append, map_map, resolved_scope, rows_of, scope_names, settled, side_items, visited, worlds_of, foreign_world, interface, world}
 use Rattle.wit_arena.proofs.Ordered.{AreOrdered, Ordered, ordered_names, turned, OrderedWorld, all_turns, all_inside, addresses, interface_addresses, world_addresses, world_turns}
 use Rattle.wit_arena.proofs.OneKind.{all_at_untaken}
 use Rattle.wit_arena.proofs.PlacingFunctions.{IsFunction, function_of, made_count, HasTypes, IsForeignInterface}
@@ -19,7 +19,7 @@ BothParts {X} {Y} {Z} First Then xs ys zs = (prefix : List Z) × (rest : List Z)
 
 -- an interface of files, with its names in turn, and its functions
 pub record IsResolvedInterface (ks : List Key) (o : Ordered) (i : Interface) : Type 0 where
-  pub says : IsInterface (about o.item.declared).called (about o.item.declared).id.span (declared_metadata o.item.declared) i
+  pub says : i ≡ interface (about o.item.declared).called i.types i.functions (declared_metadata o.item.declared) (about o.item.declared).id.span
   pub types : HasTypes ks (turned o) i.types
   pub functions : (fs : List Function) × AreFunctions ks (address o.item) (item_functions o.item) fs × (i.functions ≡ placed_functions fs)
 
@@ -34,7 +34,7 @@ pub record HasSides (ks : List Key) (interfaces inside : List Address) (o : Orde
 -- A world of files, with its names in turn as its imports, and then the functions and interfaces that it imports, with those that it exports,
 -- and with its includes, where the interfaces and the worlds have these addresses.
 pub record IsResolvedWorld (ks : List Key) (interfaces worlds : List Address) (o : OrderedWorld) (w : World) : Type 0 where
-  pub says : IsWorld (about o.own.item.declared).id.name.now (about o.own.item.declared).id.span (declared_metadata o.own.item.declared) w
+  pub says : w ≡ world (about o.own.item.declared).id.name.now w.imports w.exports w.includes (declared_metadata o.own.item.declared) (about o.own.item.declared).id.span
   pub types : HasTypes ks (turned o.own) (world_types w)
   pub sides : HasSides ks interfaces (addresses o.inside) o.own w
   pub includes : AreIncludes worlds o.own.item w.includes

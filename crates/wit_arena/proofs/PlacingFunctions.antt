@@ -1,6 +1,6 @@
 -- Where a function gives the place of each key, what means written functions and for names is stated.
 use Rattle.std.proofs.Common.{◌≡◌, ℕ, suc, List, [], ◌∷◌, ◌++◌, length, Option, Some, None, refl, sym, ap, ◌∙◌, arith}
-use Rattle.wit_arena.proofs.Names.{Address, AllDiffer, AreFunctions, AreMetadata, Def, Docs, Function, FunctionKind, GivesPlaces, Id, IsAt, Key, OneByOne, Param, ScopeName, Shape, SourceFunction, SourceParam, Span, Stability, Turned, all_params, docs_of, expr_of, exprs_of, function_in, function_types, gathered, length-map, local_name, map, map-append, map_map, metadata, name_places, option_map, option_to_list, role_kind, signature, slice_get, slice_get-map, type_of, types_of, ForeignVisit, Interface, IsInterface, PackageFile, map_at, no_docs, scope, visited}
+use Rattle.wit_arena.proofs.Names.{Address, AllDiffer, AreFunctions, AreMetadata, Def, Docs, Function, FunctionKind, GivesPlaces, Id, IsAt, Key, OneByOne, Param, ScopeName, Shape, SourceFunction, SourceParam, Span, Stability, Turned, all_params, docs_of, expr_of, exprs_of, function_in, function_types, gathered, length-map, local_name, map, map-append, map_map, metadata, name_places, option_map, option_to_list, role_kind, signature, slice_get, slice_get-map, type_of, types_of, ForeignVisit, Interface, PackageFile, map_at, no_docs, scope, visited, interface}
 use Rattle.wit_types.specs.declared.types.«Type».{«Type» as Ty}
 use Rattle.wit_arena.proofs.OneKind.{Extended, same_some}
 use Rattle.wit_arena.proofs.Placing.{at_places, gives_fewer, gives_in, place_in, place_seen}
@@ -135,7 +135,7 @@ types_present ks differ t types is = record {
 
 -- an interface of another package, where a path first leads to it, with the names that are used from it
 abbrev pub IsForeignInterface : List PackageFile → List Key → ForeignVisit → Interface → Type 0
-IsForeignInterface files ks v i = IsInterface None v.id.span (metadata no_docs []) i × HasTypes ks (record { address = visited v; names = scope files (visited v); functions = [] }) i.types × (i.functions ≡ [])
+IsForeignInterface files ks v i = (i ≡ interface None i.types i.functions (metadata no_docs []) v.id.span) × HasTypes ks (record { address = visited v; names = scope files (visited v); functions = [] }) i.types × (i.functions ≡ [])
 
 module _ (id : Key → ℕ) (ks : List Key) (gives : GivesPlaces id ks) where
   places_stated : (s : Address) (xs : List ScopeName) (types : List (List ℕ × ℕ)) → map (λ n. n.0) types ≡ map local_name xs → ((k : ℕ) (name : List ℕ) (i : ℕ) → slice_get types k ≡ Some (name, i) → slice_get ks i ≡ Some (Def s name)) → types ≡ name_places id s xs

@@ -1,6 +1,6 @@
 -- What other packages put before the arenas, as scopes that are done.
 use Rattle.std.proofs.Common.{◌≡◌, ℕ, zero, suc, ◌+◌, false, List, [], ◌∷◌, ◌++◌, length, take, Option, Some, None, inl, inr, refl, sym, ap, ◌∙◌, subst, arith}
-use Rattle.wit_arena.proofs.Names.{Address, AddsForeign, AllDiffer, AreFunctions, AreNames, AreRequired, Declared, Decls, Def, ForeignName, ForeignNamed, ForeignUse, ForeignVisit, Imported, Interface, IsEntry, IsOccurrence, IsSome, Item, Key, Occurrence, PackageFile, PackageName, ScopeName, TheInterface, TypeDef, TypeOwner, World, about, all_handles, all_items, all_scopes, at_part, at_prefix, at_within, differ_join, differ_none, env_of, filter, first_foreign_uses, firsts_at, flat_map, foreign_interfaces, foreign_type, foreign_use_occurrence, foreign_uses, foreign_worlds, functions, interface_functions, item_at, keys, length-map, local_name, lookup-place, map, map-append, map_at, map_map, name_types, option_map, option_map_or, owner_at, package_of, resolved_scopes, same_address, same_foreign_use, scope, slice_get, slice_get-map, slice_get_within, some_of, turn_handles, used_names, visited, «Type» as Written, GivesPlaces, IsInterface, foreign_interface, foreign_world, metadata, no_docs}
+use Rattle.wit_arena.proofs.Names.{Address, AddsForeign, AllDiffer, AreFunctions, AreNames, AreRequired, Declared, Decls, Def, ForeignName, ForeignNamed, ForeignUse, ForeignVisit, Imported, Interface, IsEntry, IsOccurrence, IsSome, Item, Key, Occurrence, PackageFile, PackageName, ScopeName, TheInterface, TypeDef, TypeOwner, World, about, all_handles, all_items, all_scopes, at_part, at_prefix, at_within, differ_join, differ_none, env_of, filter, first_foreign_uses, firsts_at, flat_map, foreign_interfaces, foreign_type, foreign_use_occurrence, foreign_uses, foreign_worlds, functions, interface_functions, item_at, keys, length-map, local_name, lookup-place, map, map-append, map_at, map_map, name_types, option_map, option_map_or, owner_at, package_of, resolved_scopes, same_address, same_foreign_use, scope, slice_get, slice_get-map, slice_get_within, some_of, turn_handles, used_names, visited, «Type» as Written, GivesPlaces, foreign_interface, foreign_world, metadata, no_docs, interface}
 use Rattle.wit_types.specs.declared.types.TypeOwner.TheVariants as owner
 use Rattle.wit_arena.proofs.OneKind.{same_some}
 use Rattle.wit_arena.proofs.UsePart.{lookup-listed}
@@ -140,7 +140,7 @@ module _ {files : List PackageFile} {es : List TypeDef} {is : List Interface} {w
   interface_in_front t v i at there =
       let made : (id : Key → ℕ) → GivesPlaces id of_uses → i ≡ foreign_interface files id v = λ id gives. one_mapped (foreign_interface files id) (foreign_interfaces files) is (adds.interfaces id gives) t v i at there in
       let here = made (place_in of_uses 0) (gives_in of_uses 0 (foreign_keys_differ files)) in (
-        subst (IsInterface None v.id.span (metadata no_docs [])) (sym here) (refl, refl, refl, refl, refl, refl),
+        subst (λ (j : Interface). j ≡ interface None j.types j.functions (metadata no_docs []) v.id.span) (sym here) refl,
         types_present of_uses (foreign_keys_differ files) (record { address = visited v; names = scope files (visited v); functions = [] }) i.types (λ id gives. ap (λ (j : Interface). j.types) (made id gives)),
         ap (λ (j : Interface). j.functions) here,
       )

@@ -181,7 +181,7 @@ module _ (files : List PackageFile) (is ws : List Item) (interfaces : AreOfSort 
           let none = settled_none import_types (includes w) adds.imports.0 (side_types all_addresses w.top Imported (side_items w) adds.functions inside_addresses adds.imports.0 adds.imports.1) in
           let types = own_types turns_names adds.types (settled (includes w) adds.imports.0) adds.added listed (adds.imports.2 ∙ settled_types (includes w) turns_names adds.types adds.imports.0) none in
           ap (λ (x : Address). record { address = x; types = adds.types; functions = free_of both }) (world_address w (worlds.each (length us) w next))
-          ∙ ap (named_world adds.types both) (sym adds.says.0)
+          ∙ ap (named_world adds.types both) (sym (ap (λ (x : World). x.name) adds.says))
           ∙ ap (λ (x : Names). named_world x both adds.added.name) (sym types)
 
       makes : MakesWorld (interface_list files is (inside_of ws)) world.own closed adds.added

@@ -2,11 +2,11 @@
 use Rattle.std.specs.Prelude.{◌≡◌, ℕ, List, [], ◌∷◌, ◌++◌, length, map, Option, Some, None, ◌⊎◌, slice_get, nat_eq, IsSome, ◌+◌}
 use Rattle.wit_arena.specs.Names.{Address, AreDistinct, Exported, ForeignUse, Function, Id, Imported, Interface, InterfaceNamed, IsOrder, Item, Metadata, PackageFile, ScopeName, Shape, Shapes, SideFunction, SideInline, SideItem, SideLink, SourceFunction, Span, Stability, TypeDef, TypeDefKind, TypeOwner, Unknown, World, WorldNamed, about, address, all_handles, all_types, declared_metadata, first_foreign_uses, flat_map, foreign_interfaces, foreign_worlds, functions as item_functions, in_turn, includes, inline_items, insert_entry, local_name, local_names, lookup, metadata, name_types, no_docs, pointwise, rows_of, scope_names, side_items, unwrap_or, visited, written_types, «Type» as Ty, signature, stability_of}
 use Rattle.wit_arena.specs.Occurrences.{Expr, Prim, Use, Of, Exprs, End, More, exprs_of, Key, Def, Whole, Occurrence, keys, IsSeen, Collects, AreAt, Decls, IsOccurrence, name_occurrences, settled, shape_occurrences}
-use Rattle.wit_arena.specs.UnfoldedTypes.{At, IsInterface, IsWorld}
+use Rattle.wit_arena.specs.UnfoldedTypes.{At}
 use Rattle.wit_arena.specs.SourceFunctions.{freestanding_names, placed_functions, HasSide}
 use Rattle.wit_arena.specs.Kind.{IsResource, IsUnknown as IsUnknownEntry, entry_end}
 use Rattle.wit_types.specs.declared.types.TypeDefKind.TheVariants.{Unknown as UnknownKind}
-use Rattle.wit_arena.specs.Made.{foreign_interface, foreign_world, function_in}
+use Rattle.wit_arena.specs.Made.{foreign_interface, foreign_world, function_in, interface, world}
 use Rattle.wit_arena.specs.Whole.{owner_at, type_imports, AreIncludes}
 use Rattle.wit_types.specs.declared.types.TypeOwner.TheVariants as owner
 use Rattle.wit_syntax.specs.Shape as shape
@@ -184,7 +184,7 @@ pub record AddsAfter (old new : List TypeDef) (item : Item) (order : List ℕ) (
 
 -- what an interface adds to the arena of types, where it is at this place, and these are the scopes that it may use
 pub record AddsInterface (cs : List ResolvedScope) (place : ℕ) (old new : List TypeDef) (added : Interface) (rs : List Required) (item : Item) : Type 0 where
-  pub says : IsInterface (about item.declared).called (about item.declared).id.span (declared_metadata item.declared) added
+  pub says : added ≡ interface (about item.declared).called added.types added.functions (declared_metadata item.declared) (about item.declared).id.span
   pub middle : List TypeDef
   pub adds : AddsScope old middle cs (owner.Interface place) (scope_names item) added.types
   pub functions : List Function
@@ -227,7 +227,7 @@ pub record AddsWorld (foreign others : List Address) (is : List Interface) (old 
   pub added : World
   pub last : b.worlds ≡ a.worlds ++ added ∷ []
   pub more : b.addresses ≡ a.addresses ++ map address (inline_items item)
-  pub says : IsWorld (about item.declared).id.name.now (about item.declared).id.span (declared_metadata item.declared) added
+  pub says : added ≡ world (about item.declared).id.name.now added.imports added.exports added.includes (declared_metadata item.declared) (about item.declared).id.span
   pub types : Names
   pub middle : List TypeDef
   pub adds : AddsScope old middle (resolved_scopes foreign is) (owner.World (length a.worlds)) (scope_names item) types

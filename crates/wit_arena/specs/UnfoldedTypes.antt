@@ -1,6 +1,6 @@
 -- What types of a package mean: the arenas unfolded, whose names are by what the package calls them, and what an interface says.
 use Rattle.std.specs.Prelude.{◌≡◌, ℕ, suc, ◌<◌, Bool, true, false, nat_eq, List, [], ◌∷◌, ◌++◌, Option, Some, None, map, find, slice_get}
-use Rattle.wit_arena.specs.Names.{Address, AstItem, Exported, ForeignNamed, Function, FunctionKey, Head, Imported, InlineAt, Interface, InterfaceNamed, Leaf, Metadata, Named, Node, Nothing, PackageName, Param, Span, Stability, Tree, TypeDef, TypeOwner, Unnamed, UnresolvedPackage, World, WorldItem, WorldKey, WorldNamed, WorldSide, filter, flat_map, option_and_then, option_map, option_map_or, option_or, option_to_list, unfolded, «Type» as Ty}
+use Rattle.wit_arena.specs.Names.{Address, AstItem, Exported, ForeignNamed, Function, FunctionKey, Head, Imported, InlineAt, Interface, InterfaceNamed, Leaf, Named, Node, Nothing, PackageName, Param, Stability, Tree, TypeDef, TypeOwner, Unnamed, UnresolvedPackage, World, WorldItem, WorldKey, WorldNamed, WorldSide, filter, flat_map, option_and_then, option_map, option_map_or, option_or, option_to_list, unfolded, «Type» as Ty}
 use Rattle.wit_model.specs.declared.ast_item.AstItem.TheVariants as entry
 use Rattle.wit_model.specs.declared.world.WorldKey.TheVariants as key
 use Rattle.wit_model.specs.declared.world.WorldItem.TheVariants as item
@@ -130,11 +130,3 @@ pub record At (es : List TypeDef) (i : ℕ) (e : TypeDef) : Type 0 where
 abbrev pub IsBelow : ℕ → Ty → Type 0
 IsBelow n (type.Id i) = i < n
 IsBelow n _ = Unit {0}
-
--- an interface of the arena has this name, is there, and has these metadata, apart from its types and functions
-abbrev pub IsInterface : Option (List ℕ) → Span → Metadata → Interface → Type 0
-IsInterface name span n i = (i.name ≡ name) × (i.span ≡ span) × (i.docs ≡ n.docs) × (i.stability ≡ n.stability) × (i.package ≡ None) × (i.clone_of ≡ None)
-
--- a world of the arena is the declared one of a name and these metadata, apart from its imports, exports and includes
-abbrev pub IsWorld : List ℕ → Span → Metadata → World → Type 0
-IsWorld name span n w = (w.name ≡ name) × (w.span ≡ span) × (w.docs ≡ n.docs) × (w.stability ≡ n.stability) × (w.package ≡ None)

@@ -227,7 +227,7 @@ module _ (files : List PackageFile) (places : List ℕ) (order : IsOrder (item_r
       let o = map_at own_item e.ordered j.0 v (ap (λ (l : List Item). slice_get l j.0) e.all ∙ j.1) in
       let own_at : slice_get (map own_order e.ordered) j.0 ≡ Some o.0.own = slice_get-map own_order e.ordered j.0 ∙ ap (option_map own_order) o.1 in
       let x = entry_of_item e.laid j.0 o.0.own own_at in
-      let called : x.0.name ≡ name = (e.laid.says.each j.0 o.0.own x.0 own_at x.1).says.0 ∙ ap item_name o.2 ∙ sym same in
+      let called : x.0.name ≡ name = ap (λ (y : World). y.name) (e.laid.says.each j.0 o.0.own x.0 own_at x.1).says ∙ ap item_name o.2 ∙ sym same in
       let named = map (λ (y : World). WorldNamed y.name) e.own in
       let whole : worlds_at others a.worlds ≡ others ++ named = ap (worlds_at others) e.arena ∙ worlds_at-append others wprefix e.own (worlds_count foreign ∙ sym (length-map (foreign_worlds files) visited)) in
       let place = length others + j.0 in

@@ -1,10 +1,10 @@
 -- The first fault of a world: of its attributes, of its names, of its includes, or of what is on its sides.
 use Rattle.std.proofs.Common.{◌≡◌, ℕ, ◌+◌, Bool, false, true, List, [], ◌∷◌, ◌++◌, drop, length, map, take, Option, Some, None, refl, sym, ap, ◌∙◌, subst, All, ◌<◌, get_or, ◌==◌, arith}
-use Rattle.wit_contents.proofs.Names.{AddsTurn, AreKeyed, Declared, EndsInTurn, Exported, Fault, Finds, FindsNames, FindsSides, Id, Imported, Include, IsItemOf, IsNext, IsOutcome, IsRightOfWorld, IsSeen, IsWalk, Item as BorrowedItem, ItemWalk, Outcome, PackageFile, ParseError, Reports, ResolvedScope, Result, ScopeName, SourceFunction, TheInline, TheInterface, TheWorld, TopName, TypeDef, TypeOwner, Worlds, about, all_declared, all_items, append-nil, at_contains, declared_view, eqb-suc-zero, filter, filter-append, filter_map-append, finds_same, first_after, first_in, functions, if◌then◌else◌, in-append, in-more, in_order, in_turn, includes, includes_fault, is_inside, item_in, item_stability, item_view, kept_next, local_id, names_at_top, names_fault, name_view, option_map, option_or, order_of, reports_back, reports_prefix, reports_same, resolved_scopes_of, rows_of, scope_names, setters_fault, side_items, side_setters_fault, sides_fault, slice_get, slice_get-get_or, slice_get-map, take-append-drop, turn_fault, world_head, Address, AddsMembers, AddsSides, AddsWorld, AllDiffer, AreIncludes, AreSideItems, Borrowed, Entry, HavePlaces, Interface, Interfaces, IsStart, IsTurn, IsWorld, MemberTest, Name, Names, Required, SideItem, World, WorldSide, address, and_parts, arenas, at_back, at_prefix, declared_metadata, eqb-true, flat_map, function_of, in_turn_distinct, inline_items, interfaces_at, is_ascii_uppercase, item_function, list_all, list_any, names_on, nil_from_length, no_clashes, none_both, part_functions, part_items, prefix_of, puts_nothing, settled, stage, type_imports, world_part, worlds_at, functions_parts}
+use Rattle.wit_contents.proofs.Names.{AddsTurn, AreKeyed, Declared, EndsInTurn, Exported, Fault, Finds, FindsNames, FindsSides, Id, Imported, Include, IsItemOf, IsNext, IsOutcome, IsRightOfWorld, IsSeen, IsWalk, Item as BorrowedItem, ItemWalk, Outcome, PackageFile, ParseError, Reports, ResolvedScope, Result, ScopeName, SourceFunction, TheInline, TheInterface, TheWorld, TopName, TypeDef, TypeOwner, Worlds, about, all_declared, all_items, append-nil, at_contains, declared_view, eqb-suc-zero, filter, filter-append, filter_map-append, finds_same, first_after, first_in, functions, if◌then◌else◌, in-append, in-more, in_order, in_turn, includes, includes_fault, is_inside, item_in, item_stability, item_view, kept_next, local_id, names_at_top, names_fault, name_view, option_map, option_or, order_of, reports_back, reports_prefix, reports_same, resolved_scopes_of, rows_of, scope_names, setters_fault, side_items, side_setters_fault, sides_fault, slice_get, slice_get-get_or, slice_get-map, take-append-drop, turn_fault, world_head, Address, AddsMembers, AddsSides, AddsWorld, AllDiffer, AreIncludes, AreSideItems, Borrowed, Entry, HavePlaces, Interface, Interfaces, IsStart, IsTurn, MemberTest, Name, Names, Required, SideItem, World, WorldSide, address, and_parts, arenas, at_back, at_prefix, declared_metadata, eqb-true, flat_map, function_of, in_turn_distinct, inline_items, interfaces_at, is_ascii_uppercase, item_function, list_all, list_any, names_on, nil_from_length, no_clashes, none_both, part_functions, part_items, prefix_of, puts_nothing, settled, stage, type_imports, world_part, worlds_at, functions_parts}
+use Rattle.wit_arena.proofs.Common.{Item, world}
 use Rattle.wit_contents.specs.declared.walk.Growing.{Growing}
 use Rattle.wit_contents.specs.declared.walk.Walked.{Walked}
 use Rattle.wit_contents.specs.declared.walk.WorldScope.{WorldScope}
-use Rattle.wit_arena.proofs.Common.{Item}
 use Rattle.wit_walk.proofs.Common.{World as Written, WorldItem}
 use Rattle.wit_externs.specs.Clash.{sides_setters, again}
 use Rattle.wit_item_entries.proofs.ReachedFaults.{done, failed, turn_texts}
@@ -182,7 +182,7 @@ module _ (w : ItemWalk) (others : List Address) (ws : List World) (old : List Ty
   abbrev interfaces : List Interface
   interfaces = w.interfaces.arena
 
-  pub content_adds : (added : World) (ss : List Address) → length ss ≡ length middle.inside → IsWorld (about item.declared).id.name.now (about item.declared).id.span (declared_metadata item.declared) added → added.imports ≡ settled (includes item) m.members.sides.imports → added.exports ≡ settled (includes item) m.members.sides.exports → AreIncludes (worlds_at others ws) item added.includes → AddsWorld foreign others interfaces old new.types (arenas ws middle.inside ss) (arenas (ws ++ added ∷ []) new.inside (ss ++ map address (inline_items item))) (required ++ m.required.items) item
+  pub content_adds : (added : World) (ss : List Address) → length ss ≡ length middle.inside → added ≡ world (about item.declared).id.name.now added.imports added.exports added.includes (declared_metadata item.declared) (about item.declared).id.span → added.imports ≡ settled (includes item) m.members.sides.imports → added.exports ≡ settled (includes item) m.members.sides.exports → AreIncludes (worlds_at others ws) item added.includes → AddsWorld foreign others interfaces old new.types (arenas ws middle.inside ss) (arenas (ws ++ added ∷ []) new.inside (ss ++ map address (inline_items item))) (required ++ m.required.items) item
   content_adds added ss known says imports exports included =
       let order = n.adds.order in
       let us = map address (inline_items item) in
@@ -263,7 +263,7 @@ module _ (item : Item) (empty : side_items item ≡ []) where
     abbrev names : List Entry
     names = type_imports (in_turn (scope_names item) n.adds.order) types
 
-    pub alone_adds : (added : World) (ss : List Address) → IsWorld (about item.declared).id.name.now (about item.declared).id.span (declared_metadata item.declared) added → added.imports ≡ names → added.exports ≡ [] → AreIncludes (worlds_at others ws) item added.includes → AddsWorld (prefix_of is.files) others is.arena old middle (arenas ws inside ss) (arenas (ws ++ added ∷ []) inside (ss ++ map address (inline_items item))) required item
+    pub alone_adds : (added : World) (ss : List Address) → added ≡ world (about item.declared).id.name.now added.imports added.exports added.includes (declared_metadata item.declared) (about item.declared).id.span → added.imports ≡ names → added.exports ≡ [] → AreIncludes (worlds_at others ws) item added.includes → AddsWorld (prefix_of is.files) others is.arena old middle (arenas ws inside ss) (arenas (ws ++ added ∷ []) inside (ss ++ map address (inline_items item))) required item
     alone_adds added ss says imported exported included =
         let us = inline_items item in
         let total = interfaces_at (prefix_of is.files) is.arena ++ (ss ++ map address us) in

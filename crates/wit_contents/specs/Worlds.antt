@@ -1,6 +1,7 @@
 -- What a world adds to the arenas, the walk of what it imports and exports, and its first fault.
 use Rattle.std.specs.Prelude.{◌≡◌, ℕ, List, ◌∷◌, [], ◌++◌, length, map, true, Option, Result, Some, slice_get, take}
-use Rattle.wit_contents.specs.Names.{Address, AddsScope, AddsWorld, AddsWorlds, Appends, BorrowedItem, EndsInTurn, Fault, Id, Interface, Interfaces, IsItemOf, IsNameIndex, IsWorld, Item, Metadata, ParseError, Required, ResolvedNames, TypeDef, World, WorldArenas, WorldNamed, about, address, declared_metadata, defined_fault, in_order, in_turn, includes, inline_items, is_world, item_stability, item_view, local_id, name_of_id, names_fault, option_or, others_of, prefix_of, prefix_worlds, resolved_scopes_of, rows_of, scope_names, side_items, worlds_at, worlds_of}
+use Rattle.wit_contents.specs.Names.{Address, AddsScope, AddsWorld, AddsWorlds, Appends, BorrowedItem, EndsInTurn, Fault, Id, Interface, Interfaces, IsItemOf, IsNameIndex, Item, Metadata, ParseError, Required, ResolvedNames, TypeDef, World, WorldArenas, WorldNamed, about, address, declared_metadata, defined_fault, in_order, in_turn, includes, inline_items, is_world, item_stability, item_view, local_id, name_of_id, names_fault, option_or, others_of, prefix_of, prefix_worlds, resolved_scopes_of, rows_of, scope_names, side_items, worlds_at, worlds_of}
+use Rattle.wit_arena.specs.Made.{world}
 use Rattle.wit_types.specs.declared.types.TypeOwner.TheVariants as owner
 use Rattle.wit_links.specs.declared.worlds.Worlds.{Worlds}
 use Rattle.wit_item_entries.specs.AddedNames.{AddsTurn}
@@ -38,7 +39,7 @@ AddsNamesOf ws i old new n = AddsTurn old new (resolved_scopes_of ws.interfaces.
 
 -- a world has this name, this is stated of it, and it has this content
 pub record HasContent (id : Id) (stated : Metadata) (c : WorldContent) (w : World) : Type 0 where
-  pub says : IsWorld id.name.now id.span stated w
+  pub says : w ≡ world id.name.now w.imports w.exports w.includes stated id.span
   pub imports : w.imports ≡ c.sides.imports
   pub exports : w.exports ≡ c.sides.exports
   pub includes : w.includes ≡ c.includes

@@ -11,7 +11,7 @@ use Rattle.wit_parser.proofs.Images.{first_at, second_at}
 
 module _ (files : List PackageFile) (p : UnresolvedPackage) (legal : IsLegal files) (m : Makes files p) where
   pub foreign_interface-is : (v : ForeignVisit) → IsForeignInterface files (keys m.seen) v (foreign_interface files m.id v)
-  foreign_interface-is v = ((refl, refl, refl, refl, refl, refl), name_places-are m.id (keys m.seen) (made_places files p legal m) (foreign_turned files v) (foreign_seen files p legal m v), refl)
+  foreign_interface-is v = (refl, name_places-are m.id (keys m.seen) (made_places files p legal m) (foreign_turned files v) (foreign_seen files p legal m v), refl)
 
   pub own_interface-is : (k : ℕ) (i : Item) → slice_get (own_interfaces m.items) k ≡ Some i → IsResolvedInterface (keys m.seen) (ord files p legal m i) (own_interface m.id m.order i)
   own_interface-is k i at =
@@ -19,7 +19,7 @@ module _ (files : List PackageFile) (p : UnresolvedPackage) (legal : IsLegal fil
       let it = interface_seen files p legal m k i at in
       let fns = functions i in
       record {
-        says = (refl, refl, refl, refl, refl, refl);
+        says = refl;
         types = name_places-are m.id (keys m.seen) places (turned (ord files p legal m i)) it.names;
         functions = (map (function_in m.id (address i)) fns, functions_in-are m.id (keys m.seen) places (address i) fns it.functions, ap (placed Some) (sym (map_map by_name (function_in m.id (address i)) fns)));
       }

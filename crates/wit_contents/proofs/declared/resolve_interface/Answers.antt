@@ -19,7 +19,7 @@ interface_of-requires c = record {
 pub add_interface-requires : goal.add_interface-requires
 add_interface-requires c = record {
   index = c.requires.index;
-  named = c.in_ok-interface.ensures.adds.appends.holds.says.0
+  named = ap (λ (x : Interface). x.name) c.in_ok-interface.ensures.adds.appends.holds.says
       ∙ ap (λ (i : Item). (about i.declared).called) c.scope-scope.ensures.item
       ∙ item_called c.args.interfaces.now.files c.args.item.now c.requires.item
       ∙ ap (λ (id : Id). Some id.name.now) (sym c.declared_name-id.ensures);
