@@ -1,10 +1,17 @@
 -- Where a function gives the place of each key, each interface of the package is stated.
 use Rattle.std.proofs.Common.{◌≡◌, ℕ, List, [], Option, Some, None, ap, ◌∙◌}
-use Rattle.wit_arena.proofs.Names.{ForeignVisit, Function, Interface, Item, Key, Metadata, PackageFile, Span, about, address, by_name, declared_metadata, foreign_interface, function_in, functions as item_functions, interface, map_map, name_places, names_in_turn, own_interface, placed, placed_functions, metadata, no_docs, GivesPlaces}
+use Rattle.wit_arena.proofs.Names.{ForeignVisit, Function, Interface, Item, Key, Metadata, PackageFile, Span, about, address, by_name, declared_metadata, foreign_interface, function_in, functions as item_functions, interface, map_map, name_places, names_in_turn, own_interface, placed, placed_functions, metadata, no_docs, GivesPlaces, Docs, Stability}
 use Rattle.wit_arena.proofs.Ordered.{Ordered, ordered_names, turned}
 use Rattle.wit_arena.proofs.PackageIfDone.{IsResolvedInterface}
 use Rattle.wit_arena.proofs.PlacingFunctions.{types-places, IsForeignInterface}
 use Rattle.wit_arena.proofs.Turns.{foreign_turned}
+
+abbrev fields : Option (List ℕ) → List (List ℕ × ℕ) → List (List ℕ × Function) → Docs → Stability → Option ℕ → Span → Option ℕ → Interface
+fields name types functions docs stability of span source = record { name = name; types = types; functions = functions; docs = docs; stability = stability; «package» = of; span = span; clone_of = source }
+
+-- an interface says this, field by field
+pub interface_from : (name : Option (List ℕ)) (span : Span) (n : Metadata) (i : Interface) → i.name ≡ name → i.span ≡ span → i.docs ≡ n.docs → i.stability ≡ n.stability → i.package ≡ None → i.clone_of ≡ None → i ≡ interface name i.types i.functions n span
+interface_from name span n i called present docs stability of source = (let same : fields i.name i.types i.functions i.docs i.stability i.package i.span i.clone_of ≡ interface name i.types i.functions n span = cc in same)
 
 -- an interface is given by what it says, its types and its functions
 interface_stated : (name : Option (List ℕ)) (span : Span) (n : Metadata) (i : Interface) (types : List (List ℕ × ℕ)) (functions : List (List ℕ × Function)) → i ≡ interface name i.types i.functions n span → i.types ≡ types → i.functions ≡ functions → i ≡ interface name types functions n span

@@ -1,6 +1,6 @@
 -- Where a function gives the place of each key, and scopes are where they are stated to, each world of the package is stated.
-use Rattle.std.proofs.Common.{◌≡◌, ℕ, List, [], ◌∷◌, ◌++◌, refl, sym, ap, ◌∙◌, subst}
-use Rattle.wit_arena.proofs.Names.{Address, AreSideItems, Def, Exported, Function, Imported, Include, IsInclude, Item, Key, Metadata, ScopeName, Span, Stability, TopName, Type_, World, WorldInclude, WorldItem, WorldKey, WorldNamed, WorldSide, about, address, declared_metadata, entries_on, entries_walked, flat_map, function_in, functions as item_functions, include_in, includes, inline_items, item_function, leads, local_id, local_name, map, name_imports, name_places, names_in_turn, own_world, settled, side_items, target_scope, type_imports, world, world_entries, world_types, GivesPlaces}
+use Rattle.std.proofs.Common.{◌≡◌, ℕ, List, [], ◌∷◌, ◌++◌, refl, sym, ap, ◌∙◌, subst, Option, None}
+use Rattle.wit_arena.proofs.Names.{Address, AreSideItems, Def, Exported, Function, Imported, Include, IsInclude, Item, Key, Metadata, ScopeName, Span, Stability, TopName, Type_, World, WorldInclude, WorldItem, WorldKey, WorldNamed, WorldSide, about, address, declared_metadata, entries_on, entries_walked, flat_map, function_in, functions as item_functions, include_in, includes, inline_items, item_function, leads, local_id, local_name, map, name_imports, name_places, names_in_turn, own_world, settled, side_items, target_scope, type_imports, world, world_entries, world_types, GivesPlaces, Docs}
 use Rattle.wit_model.specs.declared.world.IncludeName.{IncludeName}
 use Rattle.wit_model.specs.declared.world.WorldKey.TheVariants as key
 use Rattle.wit_arena.proofs.Ordered.{OrderedWorld, addresses, ordered_names, turned}
@@ -11,6 +11,13 @@ use Rattle.wit_arena.proofs.PlacingFunctions.{types-places, one_by_one-image}
 
 abbrev Entries : Type 0
 Entries = List (WorldKey × WorldItem)
+
+abbrev fields : List ℕ → Entries → Entries → Option ℕ → Docs → Stability → List WorldInclude → Span → World
+fields name imports exports of docs stability includes span = record { name = name; imports = imports; exports = exports; «package» = of; docs = docs; stability = stability; includes = includes; span = span }
+
+-- a world says this, field by field
+pub world_from : (name : List ℕ) (span : Span) (n : Metadata) (w : World) → w.name ≡ name → w.span ≡ span → w.docs ≡ n.docs → w.stability ≡ n.stability → w.package ≡ None → w ≡ world name w.imports w.exports w.includes n span
+world_from name span n w called present docs stability of = (let same : fields w.name w.imports w.exports w.package w.docs w.stability w.includes w.span ≡ world name w.imports w.exports w.includes n span = cc in same)
 
 -- a world is given by what it says, its imports, its exports and its includes
 world_stated : (name : List ℕ) (span : Span) (n : Metadata) (w : World) (imports exports : Entries) (includes : List WorldInclude) → w ≡ world name w.imports w.exports w.includes n span → w.imports ≡ imports → w.exports ≡ exports → w.includes ≡ includes → w ≡ world name imports exports includes n span
