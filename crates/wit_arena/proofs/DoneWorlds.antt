@@ -1,6 +1,6 @@
 -- Interfaces that were added are done.
 use Rattle.std.proofs.Common.{◌≡◌, ℕ, ◌+◌, true, false, List, [], ◌∷◌, ◌++◌, length, map, Option, Some, inl, inr, refl, sym, ap, ◌∙◌, subst, append_assoc, length-append, suc, ◌⊎◌, arith}
-use Rattle.wit_arena.proofs.Names.{Address, AddsDeclared, AddsForeign, AddsInterfaces, Decls, Defines, Imported, Interface, InterfaceNamed, Item, Names, Occurrence, PackageFile, Required, ResolvedScope, ScopeName, TypeDef, TypeOwner, World, about, address, all_items, all_occurrences, append-cancel, append-nil, at_back, at_part, at_prefix, declarations, declared_metadata, flat_map, foreign_interfaces, foreign_use_occurrence, foreign_uses, foreign_worlds, functions, functions_imported, in_turn, inline_items, interface_functions, is_foreign, length-map, map-append, option_map, owner_at, placed_functions, resolved_scope, resolved_scopes, scope, scope_names, slice_get, slice_get-map, unwrap_or, visited, AreIncludes, AreRequired, Collects, Exported, Function, FunctionKey, HasSide, Id, Include, IsInclude, TopName, Turned, WorldArenas, WorldInclude, WorldItem, WorldKey, WorldNamed, after_one, all_handles, at_either, at_split, flat_map-append, flat_map_at, flat_map_has, import_types, includes, keys, leads, local_names, map_at, name_types, side_items, target_scope, turn_handles, turn_occurrences, type_imports, world_functions, world_types, «Type» as Written, ForeignVisit, slice_get_within, interface, world}
+use Rattle.wit_arena.proofs.Names.{Address, AddsDeclared, AddsForeign, AddsInterfaces, Decls, Defines, Imported, Interface, InterfaceNamed, Item, Names, Occurrence, PackageFile, Required, ResolvedScope, ScopeName, TypeDef, TypeOwner, World, about, address, all_items, all_occurrences, append-cancel, append-nil, at_back, at_part, at_prefix, declarations, declared_metadata, flat_map, foreign_interfaces, foreign_use_occurrence, foreign_uses, foreign_worlds, functions, functions_imported, in_turn, inline_items, interface_functions, is_foreign, length-map, map-append, option_map, owner_at, placed_functions, resolved_scope, resolved_scopes, scope, scope_names, slice_get, slice_get-map, unwrap_or, visited, AreIncludes, AreRequired, Collects, Exported, Function, FunctionKey, HasSide, Id, Turned, WorldArenas, WorldInclude, WorldItem, WorldKey, WorldNamed, after_one, all_handles, at_either, at_split, flat_map-append, flat_map_at, flat_map_has, import_types, includes, keys, local_names, map_at, name_types, side_items, turn_handles, turn_occurrences, type_imports, world_functions, world_types, «Type» as Written, ForeignVisit, slice_get_within, interface, world}
 use Rattle.wit_arena.proofs.FreeNames.{free_of, free_keyed}
 use Rattle.wit_arena.proofs.Settled.{stated_placed, world_types-all}
 use Rattle.wit_arena.proofs.Ordered.{Ordered, OrderedWorld, addresses, turned, side_turns, world_turns, all_turns, all_inside}
@@ -224,15 +224,9 @@ pub record AreWorldsDone (files : List PackageFile) (is ws : List Item) (wprefix
   pub done : IsDone files (decls files is ws) (all_occurrences files (all_turns base ordered)) (first ++ flat_map scopes_of scopes) es
   pub required : (seen : List Occurrence) → Collects [] (all_occurrences files (all_turns base ordered)) seen → AreRequired files (keys seen) (flat_map turn_handles (flat_map world_turns ordered)) rs
 
--- an include that leads to one of some worlds leads to it among more of them
-pub include_wider : (some all : List Address) (top : List TopName) (written : Include) (i : WorldInclude) → ((t : ℕ) (a : Address) → slice_get some t ≡ Some a → slice_get all t ≡ Some a) → IsInclude some top written i → IsInclude all top written i
-include_wider some all top written i wider h = (h.0, wider i.id (target_scope WorldNamed (leads top written.from)) h.1, h.2, h.3)
-
+-- the includes of an item lead to the same worlds among more of them
 pub includes_wider : (some all : List Address) (item : Item) (is : List WorldInclude) → ((t : ℕ) (a : Address) → slice_get some t ≡ Some a → slice_get all t ≡ Some a) → AreIncludes some item is → AreIncludes all item is
-includes_wider some all item is wider h = record {
-  count = h.count;
-  each = λ k written i at there. include_wider some all item.top written i wider (h.each k written i at there);
-}
+includes_wider some all item is wider h ws gives = h ws (record { at = λ t a at. gives.at t a (wider t a at) })
 
 abbrev pub named_world : Names → List (FunctionKey × Function) → List ℕ → ResolvedScope
 named_world types stated name = record { address = WorldNamed name; types = types; functions = free_of stated }

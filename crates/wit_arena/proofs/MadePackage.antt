@@ -47,10 +47,10 @@ module _ (files : List PackageFile) (p : UnresolvedPackage) (legal : IsLegal fil
   ws_are = world_scopes_are files legal interfaces worlds h.ordered
 
   ss_placed : ArePlaced (interface_scopes files items)
-  ss_placed i s at = scope_place-found (interface_scopes files items) s i (interface_scopes-differ files legal items (items_in_order files legal interfaces worlds h.ordered)) at
+  ss_placed = record { at = λ i s at. scope_place-found (interface_scopes files items) s i (interface_scopes-differ files legal items (items_in_order files legal interfaces worlds h.ordered)) at }
 
   ws_placed : ArePlaced (world_scopes files items)
-  ws_placed i s at = scope_place-found (world_scopes files items) s i (world_scopes-differ files legal items (items_in_order files legal interfaces worlds h.ordered)) at
+  ws_placed = record { at = λ i s at. scope_place-found (world_scopes files items) s i (world_scopes-differ files legal items (items_in_order files legal interfaces worlds h.ordered)) at }
 
   turns_are : all_turns interfaces worlds ≡ item_turns order items
   turns_are = all_turns_stated files legal interfaces worlds h.ordered

@@ -1,13 +1,12 @@
 -- Where a function gives the place of each key, and scopes are where they are stated to, each world of the package is stated.
 use Rattle.std.proofs.Common.{◌≡◌, ℕ, List, [], ◌∷◌, ◌++◌, refl, sym, ap, ◌∙◌, subst, Option, None}
-use Rattle.wit_arena.proofs.Names.{Address, AreSideItems, Def, Exported, Function, Imported, Include, IsInclude, Item, Key, Metadata, ScopeName, Span, Stability, TopName, Type_, World, WorldInclude, WorldItem, WorldKey, WorldNamed, WorldSide, about, address, declared_metadata, entries_on, entries_walked, flat_map, function_in, functions as item_functions, include_in, includes, inline_items, item_function, leads, local_id, local_name, map, name_imports, name_places, names_in_turn, own_world, settled, side_items, target_scope, type_imports, world, world_entries, world_types, GivesPlaces, Docs}
-use Rattle.wit_model.specs.declared.world.IncludeName.{IncludeName}
+use Rattle.wit_arena.proofs.Names.{Address, AreSideItems, Def, Exported, Function, Imported, Item, Key, Metadata, ScopeName, Span, Stability, Type_, World, WorldInclude, WorldItem, WorldKey, WorldSide, about, address, declared_metadata, entries_on, entries_walked, flat_map, function_in, functions as item_functions, includes, inline_items, item_function, local_id, local_name, map, name_imports, name_places, names_in_turn, own_world, settled, side_items, type_imports, world, world_entries, world_types, GivesPlaces, Docs}
 use Rattle.wit_model.specs.declared.world.WorldKey.TheVariants as key
 use Rattle.wit_arena.proofs.Ordered.{OrderedWorld, addresses, ordered_names, turned}
 use Rattle.wit_arena.proofs.PackageIfDone.{IsResolvedWorld}
 use Rattle.wit_arena.proofs.ScopesInTurn.{ordered_addresses}
 use Rattle.wit_arena.proofs.MadeSides.{ArePlaced, side_items-as_stated}
-use Rattle.wit_arena.proofs.PlacingFunctions.{types-places, one_by_one-image}
+use Rattle.wit_arena.proofs.PlacingFunctions.{types-places}
 
 abbrev Entries : Type 0
 Entries = List (WorldKey × WorldItem)
@@ -23,19 +22,6 @@ world_from name span n w called present docs stability of = (let same : fields w
 world_stated : (name : List ℕ) (span : Span) (n : Metadata) (w : World) (imports exports : Entries) (includes : List WorldInclude) → w ≡ world name w.imports w.exports w.includes n span → w.imports ≡ imports → w.exports ≡ exports → w.includes ≡ includes → w ≡ world name imports exports includes n span
 world_stated name span n w imports exports includes says same_imports same_exports same_includes =
     says ∙ ap (λ (l : Entries). world name l w.exports w.includes n span) same_imports ∙ ap (λ (l : Entries). world name imports l w.includes n span) same_exports ∙ ap (λ (l : List WorldInclude). world name imports exports l n span) same_includes
-
-abbrev include : Stability → ℕ → List IncludeName → Span → WorldInclude
-include stability id names span = record { stability = stability; id = id; names = names; span = span }
-
-module _ (ws : List Address) (placed : ArePlaced ws) where
-  include_stated : (top : List TopName) (x : Include) (i : WorldInclude) → IsInclude ws top x i → i ≡ include_in ws top x
-  include_stated top x i h =
-      let stability = h.0 in
-      let place = sym (placed i.id (target_scope WorldNamed (leads top x.from)) h.1) in
-      let names = h.2 in
-      let span = h.3 in
-      let same : include i.stability i.id i.names i.span ≡ include_in ws top x = cc in
-      same
 
 -- names as imports, where their places are stated
 type_imports-as_stated : (id : Key → ℕ) (s : Address) (xs : List ScopeName) → type_imports xs (name_places id s xs) ≡ name_imports id s xs
@@ -65,6 +51,5 @@ module _ (id : Key → ℕ) (ks : List Key) (gives : GivesPlaces id ks) (ss : Li
         let exported = side_stated Exported i (addresses o.inside) h.sides.functions h.sides.exports.0 written made h.sides.exports.1 in
         let imports = h.sides.imports.2 ∙ ap (λ (l : Entries). settled (includes i) (l ++ h.sides.imports.0)) named ∙ ap (λ (l : Entries). settled (includes i) (name_imports id s (names_in_turn order i) ++ l)) imported in
         let exports = h.sides.exports.2 ∙ ap (settled (includes i)) exported in
-        let included = one_by_one-image (IsInclude ws i.top) (include_in ws i.top) (includes i) w.includes (λ k x y at. include_stated ws worlds_placed i.top x y) h.includes in
         let made_world = own_world id order ss ws i in
-        world_stated (about i.declared).id.name.now (about i.declared).id.span (declared_metadata i.declared) w made_world.imports made_world.exports made_world.includes h.says imports exports included
+        world_stated (about i.declared).id.name.now (about i.declared).id.span (declared_metadata i.declared) w made_world.imports made_world.exports made_world.includes h.says imports exports (h.includes ws worlds_placed)

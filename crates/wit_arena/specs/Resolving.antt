@@ -1,13 +1,13 @@
 -- What resolving does: to the arena of types, from whatever occurred before, and to those of interfaces and worlds.
 use Rattle.std.specs.Prelude.{◌≡◌, ℕ, List, [], ◌∷◌, ◌++◌, length, map, Option, Some, None, ◌⊎◌, slice_get, nat_eq, IsSome, ◌+◌}
-use Rattle.wit_arena.specs.Names.{Address, AreDistinct, Exported, ForeignUse, Function, Id, Imported, Interface, InterfaceNamed, IsOrder, Item, Metadata, PackageFile, ScopeName, Shape, Shapes, SideFunction, SideInline, SideItem, SideLink, SourceFunction, Span, Stability, TypeDef, TypeDefKind, TypeOwner, Unknown, World, WorldNamed, about, address, all_handles, all_types, declared_metadata, first_foreign_uses, flat_map, foreign_interfaces, foreign_worlds, functions as item_functions, in_turn, includes, inline_items, insert_entry, local_name, local_names, lookup, metadata, name_types, no_docs, pointwise, rows_of, scope_names, side_items, unwrap_or, visited, written_types, «Type» as Ty, signature, stability_of}
+use Rattle.wit_arena.specs.Names.{Address, AreDistinct, Exported, ForeignUse, Function, Id, Imported, Interface, InterfaceNamed, IsOrder, Item, Metadata, PackageFile, ScopeName, Shape, Shapes, SideFunction, SideInline, SideItem, SideLink, SourceFunction, Span, Stability, TypeDef, TypeDefKind, TypeOwner, Unknown, World, WorldNamed, about, address, all_handles, all_types, declared_metadata, first_foreign_uses, flat_map, foreign_interfaces, foreign_worlds, functions as item_functions, in_turn, includes, inline_items, insert_entry, local_name, local_names, lookup, metadata, name_types, no_docs, pointwise, rows_of, scope_names, side_items, unwrap_or, visited, written_types, «Type» as Ty, signature, stability_of, WorldInclude}
 use Rattle.wit_arena.specs.Occurrences.{Expr, Prim, Use, Of, Exprs, End, More, exprs_of, Key, Def, Whole, Occurrence, keys, IsSeen, Collects, AreAt, Decls, IsOccurrence, name_occurrences, settled, shape_occurrences}
 use Rattle.wit_arena.specs.UnfoldedTypes.{At}
 use Rattle.wit_arena.specs.SourceFunctions.{freestanding_names, placed_functions, HasSide}
 use Rattle.wit_arena.specs.Kind.{IsResource, IsUnknown as IsUnknownEntry, entry_end}
 use Rattle.wit_types.specs.declared.types.TypeDefKind.TheVariants.{Unknown as UnknownKind}
-use Rattle.wit_arena.specs.Made.{foreign_interface, foreign_world, function_in, interface, world}
-use Rattle.wit_arena.specs.Whole.{owner_at, type_imports, AreIncludes}
+use Rattle.wit_arena.specs.Made.{foreign_interface, foreign_world, function_in, include_in, interface, scope_place, world}
+use Rattle.wit_arena.specs.Whole.{owner_at, type_imports}
 use Rattle.wit_types.specs.declared.types.TypeOwner.TheVariants as owner
 use Rattle.wit_syntax.specs.Shape as shape
 
@@ -139,9 +139,9 @@ pub record IsNameIndex (called : List ℕ → Address) (all : List Address) (by_
   pub present : (name : List ℕ) (t : ℕ) → env_of by_name name ≡ Some t → slice_get all t ≡ Some (called name)
   pub has : (t : ℕ) (name : List ℕ) → slice_get all t ≡ Some (called name) → IsSome (env_of by_name name)
 
--- this gives the place of each of these keys
-pub record GivesPlaces (id : Key → ℕ) (ks : List Key) : Type 0 where
-  pub at : (i : ℕ) (k : Key) → slice_get ks i ≡ Some k → id k ≡ i
+-- this gives the place of each of these
+pub record GivesPlaces {X : Type 0} (place : X → ℕ) (xs : List X) : Type 0 where
+  pub at : (i : ℕ) (x : X) → slice_get xs i ≡ Some x → place x ≡ i
 
 -- over the places of these keys, these are the functions of a scope, in source order
 abbrev pub AreFunctions : List Key → Address → List SourceFunction → List Function → Type 0
@@ -202,6 +202,10 @@ abbrev pub worlds_at : List Address → List World → List Address
 worlds_at [] ws = map (λ w. WorldNamed w.name) ws
 worlds_at (s ∷ ss) [] = []
 worlds_at (s ∷ ss) (w ∷ ws) = s ∷ worlds_at ss ws
+
+-- these are the includes of an item, wherever the worlds have these places
+abbrev pub AreIncludes : List Address → Item → List WorldInclude → Type 0
+AreIncludes worlds item is = (ws : List Address) → GivesPlaces (scope_place ws) worlds → is ≡ map (include_in ws item.top) (includes item)
 
 -- the addresses of interfaces: at first of those of other packages
 abbrev pub interfaces_at : List Address → List Interface → List Address

@@ -1,6 +1,6 @@
 -- The theorem: what a resolved package is.
 use Rattle.std.specs.Prelude.{if◌then◌else◌, ◌≡◌, ◌==◌, ℕ, List, [], ◌∷◌, ◌++◌, length, map, Option, Some, None, slice_get, position}
-use Rattle.wit_arena.specs.Names.{Address, AllZip, AstItem, AtForeign, AtResource, EndsAt, ForeignUse, ForeignVisit, Id, Include, Interface, Item, PackageFile, PackageName, ScopeName, SourceFunction, Span, Stability, TopName, TypeOwner, WorldInclude, WorldItem, WorldKey, WorldNamed, address, all_handles, all_scopes, all_types, docs_of, filter, filter_map, flat_map, foreign_interfaces, foreign_items, foreign_uses, foreign_visits, foreign_worlds, functions as item_functions, includes, item_at, leads, local_id, local_name, no_docs, option_map, option_map_or, option_or, package_of, path_id, same_address, same_item, same_package, scope, stability_of, target_scope, unwrap_or, visited, position_or_len, signature, Unknown}
+use Rattle.wit_arena.specs.Names.{Address, AllZip, AstItem, AtForeign, AtResource, EndsAt, ForeignUse, ForeignVisit, Id, Interface, PackageFile, PackageName, ScopeName, SourceFunction, Span, Stability, TypeOwner, WorldItem, WorldKey, address, all_handles, all_scopes, all_types, docs_of, filter, filter_map, flat_map, foreign_interfaces, foreign_items, foreign_uses, foreign_visits, foreign_worlds, functions as item_functions, item_at, local_id, local_name, no_docs, option_map, option_map_or, option_or, package_of, same_address, same_item, same_package, scope, stability_of, unwrap_or, visited, position_or_len, signature, Unknown}
 use Rattle.wit_tree.specs.declared.tree.PackageName.{PackageName as Header}
 use Rattle.wit_tree.specs.declared.tree.IncludeName.{IncludeName as Renaming}
 use Rattle.wit_model.specs.declared.ast_item.AstItem.TheVariants as entry
@@ -10,7 +10,6 @@ use Rattle.wit_model.specs.declared.world.WorldItem.TheVariants.{Type_}
 use Rattle.wit_types.specs.declared.types.TypeOwner.TheVariants as owner
 use Rattle.wit_types.specs.declared.docs.Docs.{Docs}
 use Rattle.wit_arena.specs.Occurrences.{Key, Def, Occurrence, name_occurrences, Decls, shape_occurrences}
-use Rattle.wit_arena.specs.OneByOne.{OneByOne}
 
 -- a scope, with its names as they are resolved, and its functions
 pub record Turned : Type 0 where
@@ -42,14 +41,6 @@ type_imports _ _ = []
 -- what an include renames
 abbrev pub renamed : Renaming → IncludeName
 renamed n = record { name = n.name.name.now; as_ = n.as_.name.now }
-
--- an include, where the worlds have these addresses
-abbrev pub IsInclude : List Address → List TopName → Include → WorldInclude → Type 0
-IsInclude worlds top x i = (i.stability ≡ stability_of x.attributes.items) × (slice_get worlds i.id ≡ Some (target_scope WorldNamed (leads top x.from))) × (i.names ≡ map renamed x.names.items) × (i.span ≡ (path_id x.from).span)
-
--- these are the includes of an item, where the worlds have these addresses
-abbrev pub AreIncludes : List Address → Item → List WorldInclude → Type 0
-AreIncludes worlds item is = OneByOne (IsInclude worlds item.top) (includes item) is
 
 -- the names in the handles of a scope, each with the scope, in the order in which they are resolved
 abbrev pub turn_handles : Turned → List (Address × Id)

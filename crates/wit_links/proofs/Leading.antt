@@ -1,13 +1,12 @@
 -- Where the paths lead by which a world imports and exports interfaces: to places in the arena.
-use Rattle.std.proofs.Common.{◌≡◌, ◌≤◌, ℕ, zero, suc, List, [], ◌∷◌, length, Some, refl, ap, ◌∙◌, arith, ◌+◌, ◌++◌, take, map, sym, Option}
-use Rattle.wit_items.proofs.Common.{Address, AreFound, ForeignNamed, InlineAt, Interface, InterfaceNamed, IsPlaced, Names, PackageFile, ResolvedScope, Source as BorrowedSource, WorldNamed, found_resolved_scope, interface_name, interfaces_at, interfaces_differ, length-map, option_map, package_of, place_at-found, position-Some, prefix_of, resolved_scopes, same_address, same_address-equal, slice_get, slice_get-get_or, slice_get-map, source_place, source_target, target_scope, AreIncludes, Include, IsInclude, TheWorld, TopName, WorldInclude, append-nil, flat_map, flat_map-append, map-append, part_includes, take_next, world_part, Fault, first_in, in-parts, item_in, top_at}
+use Rattle.std.proofs.Common.{List, Option, Some, [], ap, ap₂, arith, length, map, refl, suc, sym, take, zero, ℕ, ◌++◌, ◌+◌, ◌∙◌, ◌∷◌, ◌≡◌, ◌≤◌}
+use Rattle.wit_items.proofs.Common.{Address, AreFound, AreIncludes, Fault, ForeignNamed, GivesPlaces, Include, InlineAt, Interface, InterfaceNamed, IsPlaced, Names, PackageFile, ResolvedScope, Source as BorrowedSource, Span, Stability, TheWorld, TopName, WorldInclude, WorldNamed, append-nil, first_in, flat_map, flat_map-append, found_resolved_scope, in-parts, include_in, interface_name, interfaces_at, interfaces_differ, item_in, leads, length-map, map-append, option_map, package_of, part_includes, path_id, place_at-found, position-Some, prefix_of, renamed, resolved_scopes, same_address, same_address-equal, scope_place, slice_get, slice_get-get_or, slice_get-map, source_place, source_target, stability_of, take_next, target_scope, top_at, world_part}
 use Rattle.wit_links.specs.Links.{interface_place, included_fault, includes_fault}
 use Rattle.wit_syntax.proofs.Common.{World as Written, WorldItem}
 use Rattle.wit_links.specs.declared.worlds.Worlds.{Worlds}
 use Rattle.wit_scopes.specs.declared.scope_name.Source.TheVariants as borrowed_source
 use Rattle.wit_tree.specs.declared.tree.WorldItem.TheVariants as world_item
-use Rattle.wit_arena.specs.OneByOne.{OneByOne}
-use Rattle.wit_arena.proofs.Required.{one_by_one-append, one_by_one-more, one_by_one-none}
+use Rattle.wit_model.specs.declared.world.IncludeName.{IncludeName}
 
 -- the place of an interface that is borrowed is that of its address
 pub source_placed : (files : List PackageFile) (by_name : Names) (source : BorrowedSource) → IsPlaced (prefix_of files) source → interface_place (prefix_of files) by_name (target_scope InterfaceNamed (source_target source)) ≡ source_place by_name source
@@ -44,9 +43,9 @@ called_at prefix is by_name (ForeignNamed p name) id enough found at =
 abbrev pub included : List WorldItem → List Include
 included items = flat_map part_includes (map world_part items)
 
--- these are the includes that are written, where the worlds have these addresses
+-- these are the includes that are written, wherever the worlds have these places
 abbrev pub AreIncluded : List Address → List TopName → List Include → List WorldInclude → Type 0
-AreIncluded worlds top written is = OneByOne (IsInclude worlds top) written is
+AreIncluded worlds top written is = (ws : List Address) → GivesPlaces (scope_place ws) worlds → is ≡ map (include_in ws top) written
 
 included-append : (items : List WorldItem) (x : WorldItem) → included (items ++ x ∷ []) ≡ included items ++ flat_map part_includes (world_part x ∷ [])
 included-append items x = ap (flat_map part_includes) (map-append world_part items (x ∷ [])) ∙ flat_map-append part_includes (map world_part items) (world_part x ∷ [])
@@ -66,12 +65,16 @@ no_include (world_item.Extern x) other = refl
 no_include (world_item.Use u) other = refl
 no_include (world_item.Include i) other = absurd (other i refl)
 
-pub included_none : (worlds : List Address) (top : List TopName) → AreIncluded worlds top [] []
-included_none worlds top = one_by_one-none (IsInclude worlds top)
+abbrev include : Stability → ℕ → List IncludeName → Span → WorldInclude
+include stability id names span = record { stability = stability; id = id; names = names; span = span }
+
+-- an include is given by what it says, field by field
+pub include_from : (ws : List Address) (top : List TopName) (n : Include) (i : WorldInclude) → i.stability ≡ stability_of n.attributes.items → scope_place ws (target_scope WorldNamed (leads top n.from)) ≡ i.id → i.names ≡ map renamed n.names.items → i.span ≡ (path_id n.from).span → i ≡ include_in ws top n
+include_from ws top n i stability place names span = (let same : include i.stability i.id i.names i.span ≡ include_in ws top n = cc in same)
 
 -- one include more
-pub included_more : (worlds : List Address) (top : List TopName) (ws : List Include) (is : List WorldInclude) (w : Include) (i : WorldInclude) → AreIncluded worlds top ws is → IsInclude worlds top w i → AreIncluded worlds top (ws ++ w ∷ []) (is ++ i ∷ [])
-included_more worlds top ws is w i are one = one_by_one-append (IsInclude worlds top) ws (w ∷ []) is (i ∷ []) are (one_by_one-more (IsInclude worlds top) w i [] [] one (one_by_one-none (IsInclude worlds top)))
+pub included_more : (worlds : List Address) (top : List TopName) (ns : List Include) (is : List WorldInclude) (n : Include) (i : WorldInclude) → AreIncluded worlds top ns is → ((ws : List Address) → GivesPlaces (scope_place ws) worlds → i ≡ include_in ws top n) → AreIncluded worlds top (ns ++ n ∷ []) (is ++ i ∷ [])
+included_more worlds top ns is n i are one ws gives = ap₂ (λ (l : List WorldInclude) (x : WorldInclude). l ++ x ∷ []) (are ws gives) (one ws gives) ∙ sym (map-append (include_in ws top) ns (n ∷ []))
 
 -- the includes of a world are those of its item
 pub includes_are : (worlds : List Address) (top : List TopName) (w : Written) (is : List WorldInclude) → AreIncluded worlds top (included w.items.items) is → AreIncludes worlds (record { top = top; declared = TheWorld w }) is

@@ -3,7 +3,9 @@ ghost use Rattle.std.specs.Prelude.{◌≡◌, ◌<◌, ◌++◌, IfOk, codes, l
 ghost use Rattle.std.specs.Option.{option_copied};
 ghost use Rattle.wit_syntax.specs.Source.{leads, TheWorld, IncludePart};
 ghost use Rattle.wit_first.specs.First.{Finds};
-ghost use Rattle.wit_arena.specs.Whole.{renamed, IsInclude, AreIncludes};
+ghost use Rattle.wit_arena.specs.Whole.{renamed};
+ghost use Rattle.wit_arena.specs.Made.{include_in, scope_place};
+ghost use Rattle.wit_arena.specs.Resolving.{AreIncludes, GivesPlaces};
 ghost use Rattle.wit_files.specs.FileNames.{top_at};
 ghost use Rattle.wit_items.specs.ItemPaths.{HasItem, HasPart, world_at, world_entry, item_in};
 ghost use Rattle.wit_links.specs.Links.{addresses_of, included_fault, includes_fault};
@@ -81,7 +83,7 @@ fn resolve_include<'f, 'a>(
     include: &'f tree::Include<'a>,
 ) -> ParseResult<WorldInclude>
     requires part { HasPart worlds.now.interfaces.now.files place (IncludePart include.now) }
-    ensures is { IfOk result (IsInclude (addresses_of worlds.now) (top_at worlds.now.interfaces.now.files place) include.now) }
+    ensures is { IfOk result (λ i. (ws : _) → GivesPlaces (scope_place ws) (addresses_of worlds.now) → i ≡ include_in ws (top_at worlds.now.interfaces.now.files place) include.now) }
     ensures first { Finds (included_fault worlds.now (top_at worlds.now.interfaces.now.files place) include.now) result }
 {
     check_stability(alloc, &include.attributes)?;

@@ -1,6 +1,6 @@
 -- A world with all that can be in one, computed by the definitions: a `use`, an interface that is written there, paths on both sides, a function, and an include.
 use Rattle.std.proofs.Common.{◌≡◌, ℕ, List, [], ◌∷◌, map, Some, None, refl, lit<}
-use Rattle.wit_arena.proofs.Common.{Address, AreSideItems, Collects, Def, Defined, Exported, Extern, ExternKind, Func, Function, Global, Id, Imported, Include, InlineAt, InterfaceItem, InterfaceNamed, IsInclude, IsOccurrence, IsOrder, Item, Occurrence, Ordered, OrderedWorld, PackageFile, Param, Plain, Shape, Span, TheInline, TheInterface, TheWorld, TypeDef, TypeOwner, Unknown, UnresolvedPackage, UseName, Used, Word, World, WorldInclude, WorldItem, WorldKey, WorldNamed, WorldSide, all_items, all_occurrences, all_turns, codes, declarations, flat_map, function_item, function_types, functions, in_order, inline_entry, inline_items, interface_addresses, interfaces_of, item_rows, names_of, no_docs, owner_of, package_tree, rows_of, scope_names, side_items, signature, source_tree, take, top_names, world_addresses, worlds_of}
+use Rattle.wit_arena.proofs.Common.{Address, AreSideItems, Collects, Def, Defined, Exported, Extern, ExternKind, Func, Function, Global, Id, Imported, Include, InlineAt, InterfaceItem, InterfaceNamed, IsOccurrence, IsOrder, Item, Occurrence, Ordered, OrderedWorld, PackageFile, Param, Plain, Shape, Span, TheInline, TheInterface, TheWorld, TypeDef, TypeOwner, Unknown, UnresolvedPackage, UseName, Used, Word, World, WorldInclude, WorldItem, WorldKey, WorldNamed, WorldSide, all_items, all_occurrences, all_turns, codes, declarations, flat_map, function_item, function_types, functions, in_order, include_in, inline_entry, inline_items, interface_addresses, interfaces_of, item_rows, names_of, no_docs, owner_of, package_tree, rows_of, scope_names, side_items, signature, source_tree, take, top_names, world_addresses, worlds_of}
 use Rattle.wit_syntax.proofs.Common.{Interface as WrittenInterface, Use, World as WrittenWorld, WorldItem as WorldPart}
 use denote.RawPtr.{Ptr}
 use Rattle.wit_tree.specs.declared.tree.ExternKind.TheVariants as extern
@@ -220,8 +220,8 @@ module _ (ptr : Ptr) (alloc : Global) where
   abbrev included : WorldInclude
   included = record { stability = Unknown; id = 0; names = record { name = codes "x"; as_ = codes "y" } ∷ []; span = at 168 169 }
 
-  w_includes_v : IsInclude world_places w_item.top include_v included
-  w_includes_v = (refl, refl, refl, refl)
+  w_includes_v : include_in world_places w_item.top include_v ≡ included
+  w_includes_v = refl
 
   abbrev world : List ℕ → List (WorldKey × WorldItem) → List (WorldKey × WorldItem) → List WorldInclude → Span → World
   world name imports exports includes span = record { name = name; imports = imports; exports = exports; «package» = None; docs = no_docs; stability = Unknown; includes = includes; span = span }

@@ -1,6 +1,6 @@
 -- A world with a use, a definition and an include, computed by the definitions.
 use Rattle.std.proofs.Common.{◌≡◌, ℕ, List, [], ◌∷◌, map, Some, None, refl, lit<}
-use Rattle.wit_arena.proofs.Common.{Address, AliasForm, Def, Defined, Global, Head, Include, Interface, InterfaceNamed, IsInclude, Item, Leaf, Named, Occurrence, Ordered, PackageFile, Plain, Span, TheInterface, TheWorld, TypeDef, TypeOwner, Unknown, UnresolvedPackage, UseName, Used, Word, World, WorldInclude, WorldItem, WorldKey, WorldNamed, addresses, all_items, codes, in_order, interfaces_of, item_rows, names_of, no_docs, occurrences, ordered_names, package_tree, scope_names, source_tree, top_names, turned, type_imports, worlds_of}
+use Rattle.wit_arena.proofs.Common.{Address, AliasForm, Def, Defined, Global, Head, Include, Interface, InterfaceNamed, Item, Leaf, Named, Occurrence, Ordered, PackageFile, Plain, Span, TheInterface, TheWorld, TypeDef, TypeOwner, Unknown, UnresolvedPackage, UseName, Used, Word, World, WorldInclude, WorldItem, WorldKey, WorldNamed, addresses, all_items, codes, in_order, include_in, interfaces_of, item_rows, names_of, no_docs, occurrences, ordered_names, package_tree, scope_names, source_tree, top_names, turned, type_imports, worlds_of}
 use Rattle.wit_syntax.proofs.Common.{Interface as WrittenInterface, World as WrittenWorld}
 use denote.RawPtr.{Ptr}
 use Rattle.wit_type_tree.specs.declared.types.Primitive.TheVariants as primitive
@@ -117,5 +117,5 @@ module _ (ptr : Ptr) (alloc : Global) where
   tree_in_package = refl
 
   -- v includes the world at w's place
-  v_includes_w : IsInclude (addresses (ordered_w ∷ record { item = v_item; order = [] } ∷ [])) v_item.top include_w included
-  v_includes_w = (refl, refl, refl, refl)
+  v_includes_w : include_in (addresses (ordered_w ∷ record { item = v_item; order = [] } ∷ [])) v_item.top include_w ≡ included
+  v_includes_w = refl

@@ -1,5 +1,6 @@
 use Rattle.std.proofs.Common.{◌≡◌, map, None, Some, inl, inr, refl, sym, ap, ◌∙◌, ◌++◌}
-use Rattle.wit_items.proofs.Common.{Id, Target, codes, err_from_is_err_and, interface_there, leads, none_both, renamed, reports_back, reports_prefix, stability_fault, top_at, world_at, world_found, worlds_found}
+use Rattle.wit_items.proofs.Common.{Id, codes, err_from_is_err_and, interface_there, leads, none_both, renamed, reports_back, reports_prefix, stability_fault, top_at, world_at, world_found, worlds_found}
+use Rattle.wit_links.proofs.Leading.{include_from}
 use Rattle.wit_links.proofs.includes.resolve_include.Goals as goal
 
 pub returns-in-None-clause-first : goal.returns-in-None-clause-first
@@ -15,17 +16,15 @@ returns-in-None-clause-first c =
     ]
 
 pub returns-clause-is : goal.returns-clause-is
-returns-clause-is c =
-    let i = c.args.include.now in
-    let ws = c.args.worlds.now.arena in
+returns-clause-is c ws gives =
+    let n = c.args.include.now in
+    let files = c.args.worlds.now.interfaces.now.files in
     let by_name = c.args.worlds.now.by_name in
-    let to : Target = leads (top_at c.args.worlds.now.interfaces.now.files c.args.place) i.from in
-    let found = sym c.included_world.ensures ∙ c.in-Some.is in (
-      rw c.deref-3.ensures.value at c.in_ok-stability.ensures,
-      world_found c.args.worlds.now.interfaces.now.files by_name ws to c.in-Some.id (worlds_found c.args.worlds.now.interfaces.now.files ws by_name c.args.worlds.now.found) c.args.worlds.now.prefix found,
-      c.in_ok-names.ensures ∙ ap (map renamed) c.deref-2.ensures.value,
-      ap (λ (id : Id). id.span) c.path_id-path.ensures,
-    )
+    let top = top_at files c.args.place in
+    let arena = c.args.worlds.now.arena in
+    let found = sym c.included_world.ensures ∙ c.in-Some.is in
+    let there = world_found files by_name arena (leads top n.from) c.in-Some.id (worlds_found files arena by_name c.args.worlds.now.found) c.args.worlds.now.prefix found in
+    include_from ws top n _ (rw c.deref-3.ensures.value at c.in_ok-stability.ensures) (gives.at c.in-Some.id _ there) (c.in_ok-names.ensures ∙ ap (map renamed) c.deref-2.ensures.value) (ap (λ (id : Id). id.span) c.path_id-path.ensures)
 
 pub returns-in_err-check_stability-clause-first : goal.returns-in_err-check_stability-clause-first
 returns-in_err-check_stability-clause-first c =

@@ -4,7 +4,7 @@ use Rattle.wit_syntax.proofs.Common.{WorldItem}
 use Rattle.wit_tree.specs.declared.tree.WorldItem.TheVariants as world_item
 use Rattle.wit_links.specs.Links.{included_fault}
 use Rattle.wit_links.specs.declared.worlds.Worlds.{Worlds}
-use Rattle.wit_links.proofs.Leading.{part_fault, parts_fault, included, AreIncluded, included_none, included_next, no_include, included_past, included_more, includes_are}
+use Rattle.wit_links.proofs.Leading.{part_fault, parts_fault, included, AreIncluded, included_next, no_include, included_past, included_more, includes_are}
 use Rattle.wit_links.proofs.includes.resolve_includes.Goals.{in-Include+in_ok-include+in_ok-push, in_default}
 use Rattle.wit_links.proofs.includes.resolve_includes.Goals as goal
 
@@ -14,7 +14,7 @@ part_at items xs k x y all lt is same = ap (λ (l : List WorldItem). slice_get l
 
 pub loop-part-init : goal.loop-part-init
 loop-part-init c = record {
-  are = rw c.in_ok-includes.ensures.items (included_none (worlds_at (others_of c.args.worlds.now.interfaces.now.files) c.args.worlds.now.arena) (top_at c.args.worlds.now.interfaces.now.files c.args.place));
+  are = λ ws gives. c.in_ok-includes.ensures.items;
   first = refl;
 }
 
