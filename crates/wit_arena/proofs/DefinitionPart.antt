@@ -1,11 +1,13 @@
 -- What occurs in the names of a scope, one after another.
-use Rattle.std.proofs.Common.{◌≡◌, ℕ, ◌+◌, cond, List, [], ◌∷◌, ◌++◌, length, Option, Some, None, nat_eq, inl, inr, refl, sym, ap, ◌∙◌, subst, append_assoc, arith}
-use Rattle.wit_arena.proofs.Names.{Address, AreAt, AreDistinct, AreKnown, AreNames, AreNew, AreResolved, Attribute, Collects, Decls, Def, Defined, Defines, End, Env, Exprs, Extends, IsAdded, IsOccurrence, IsSeen, Key, Names, Occurrence, ResolvedScope, ScopeName, TypeDef, TypeDefKind, TypeOwner, UseName, Used, about_name, all_seen, append-nil, at_back, at_either, at_prefix, at_seam, body_of, differ_at, differ_by, env_of, exprs_of, flat_map-append, insert_entry, keys, kind_of, local_name, local_names, lookup-insert_entry, map, map-append, name_cases, name_exprs, name_itself, name_occurrences, named, names-insert_entry, pointwise, shapes_occurrences, slice_get, slice_get_within, unwrap_or, metadata, no_docs, names_in}
+use Rattle.std.proofs.Common.{◌≡◌, ℕ, ◌+◌, cond, List, [], ◌∷◌, ◌++◌, length, Option, Some, None, nat_eq, inl, inr, refl, sym, ap, ◌∙◌, subst, append_assoc, arith, Contains}
+use Rattle.wit_arena.proofs.Names.{Address, AreDistinct, AreKnown, AreNames, AreNew, AreResolved, Attribute, Collects, Decls, Def, Defined, Defines, Env, Extends, IsAdded, IsOccurrence, IsSeen, Key, Names, Occurrence, ResolvedScope, ScopeName, TypeDef, TypeDefKind, TypeOwner, UseName, Used, about_name, all_seen, append-nil, at_back, at_either, at_prefix, at_seam, body_of, differ_at, differ_by, env_of, contains_at, flat_map-append, length-map, types_of, Form, insert_entry, keys, kind_of, local_name, local_names, lookup-insert_entry, map, map-append, name_cases, name_exprs, name_itself, name_occurrences, named, names-insert_entry, pointwise, slice_get, slice_get_within, unwrap_or, metadata, no_docs, names_in}
 use Rattle.wit_type_tree.specs.declared.types.TypeDef.{TypeDef as Definition}
 use Rattle.wit_types.specs.declared.types.TypeDefKind.TheVariants.{Type_}
+use Rattle.wit_types.specs.declared.types.«Type».{«Type» as Ty}
 use Rattle.wit_types.specs.declared.types.«Type».TheVariants as type
 use Rattle.wit_arena.proofs.Occurrence.{keys-append, collects_append, collects_from, collects_extended, names_kept, no_defs, occurrence_more, Has, has_either, has_from}
 use Rattle.wit_arena.proofs.Resolving.{keys-shapes}
+use Rattle.wit_arena.proofs.Placing.{AreOver}
 use Rattle.wit_arena.proofs.OneKind.{key_extended, same_some}
 use Rattle.wit_arena.proofs.Turns.{parts_occurrences, all_name_occurrences}
 
@@ -50,34 +52,41 @@ names_added ks s names name place is fresh at_end = record {
   ];
 }
 
+-- what occurs in the parts of a name of a scope are the unnamed expressions in them
+pub parts_keys : (s : Address) (x : ScopeName) → keys (parts_occurrences s x) ≡ all_seen (name_exprs s x)
+parts_keys s x = keys-shapes (unwrap_or (about_name x).from s) (about_name x).metadata.stability (about_name x).body.parts
+
+pub kind_stated : (k : Form × List Ty) (form : Form) (parts : List Ty) → k.0 ≡ form → k.1 ≡ parts → k ≡ (form, parts)
+kind_stated k form parts same_form same_parts = λ i. (same_form i, same_parts i)
+
 -- a name over parts that were resolved
-defines_from : (old mid new : List TypeDef) (cs : List ResolvedScope) (o : TypeOwner) (s : Address) (names names' : Names) (x : ScopeName) (kind : TypeDefKind) (es : Exprs) → keys (parts_occurrences s x) ≡ all_seen es → ((decls : Decls) (ms : List Occurrence) → IsOccurrence decls ms old → AreNames (keys ms) s (env_of names) → AreKnown (keys ms) s cs → Extends decls ms (parts_occurrences s x) mid (λ ks. AreAt ks (name_exprs s x) (kind_of kind).1)) → (kind_of kind).0 ≡ (about_name x).body.form → IsAdded mid new o names names' (local_name x) (about_name x).metadata (about_name x).span kind → Defines old new cs o s names names' (x ∷ [])
-defines_from old mid new cs o s names names' x kind es keys_of p form a = record {
+defines_from : (old mid new : List TypeDef) (cs : List ResolvedScope) (o : TypeOwner) (s : Address) (names names' : Names) (x : ScopeName) (kind : TypeDefKind) → ((decls : Decls) (ms : List Occurrence) → IsOccurrence decls ms old → AreNames (keys ms) s (env_of names) → AreKnown (keys ms) s cs → Extends decls ms (parts_occurrences s x) mid (λ ks. AreOver ks (name_exprs s x) (kind_of kind).1)) → (kind_of kind).0 ≡ (about_name x).body.form → IsAdded mid new o names names' (local_name x) (about_name x).metadata (about_name x).span kind → Defines old new cs o s names names' (x ∷ [])
+defines_from old mid new cs o s names names' x kind p form a = record {
   from = λ decls ms among distinct anew known m are_present. (
       let name = local_name x in
       let more = parts_occurrences s x in
       let it : Occurrence = record { key = Def s name; span = (about_name x).span; given = (about_name x).metadata.stability } in
       let own = among 0 x refl in
       let y = p decls ms m are_present known in
-      let kept = names_kept ms y.now more s (env_of names) es keys_of y.collects are_present in
+      let kept = names_kept ms y.now more s (env_of names) (name_exprs s x) (parts_keys s x) y.collects are_present in
       let fresh : IsSeen (keys y.now) (Def s name) → ⊥ = λ was. elim (collects_from more ms y.now y.collects was.0 (Def s name) was.1) [
         | inl before ↦ anew.new 0 x refl before
-        | inr inner ↦ no_defs es s name (subst (λ ks. Has ks (Def s name)) keys_of inner)
+        | inr inner ↦ no_defs (name_exprs s x) s name (subst (λ ks. Has ks (Def s name)) (parts_keys s x) inner)
       ] in
-      let keyed = y.occurrence.keyed in
-      let count : length mid ≡ length (keys y.now) = keyed.count in
+      let count : length mid ≡ length (keys y.now) = y.occurrence.count ∙ sym (length-map y.now (λ (m : Occurrence). m.key)) in
+      let owned = contains_at (decls s).0 own.0 x own.1 in
       let free = name_free (keys y.now) s (env_of names) name kept fresh in
       record {
         now = y.now ++ it ∷ [];
         collects = subst (λ l. Collects ms l (y.now ++ it ∷ [])) (sym (append-nil (more ++ it ∷ []))) (collects_append more (it ∷ []) ms y.now (y.now ++ it ∷ []) y.collects (inr (fresh, refl)));
-        occurrence = subst (IsOccurrence decls (y.now ++ it ∷ [])) (sym a.last) (occurrence_more it (named o name kind (about_name x).metadata (about_name x).span) y.occurrence fresh (own.0, x, own.1, refl, refl, refl, sym own.2, form, y.holds, record { docs = refl; stability = refl; external_id = refl }) refl tt);
+        occurrence = subst (IsOccurrence decls (y.now ++ it ∷ [])) (sym a.last) (occurrence_more it (named o name kind (about_name x).metadata (about_name x).span) y.occurrence fresh (λ t n same. (let at : s ≡ t = cc in let called : name ≡ n = cc in (x, subst (λ (z : Address). Contains (decls z).0 x) at owned, called, refl))) (λ id gives. (x, kind, owned, refl, kind_stated (kind_of kind) (about_name x).body.form (types_of id (name_exprs s x)) form (y.holds id gives), ap (λ (w : TypeOwner). named w name kind (about_name x).metadata (about_name x).span) (sym own.2))));
         holds = (rw (a.inserted, keys-append y.now (it ∷ [])) (names_added (keys y.now) s names name (length mid) kept fresh count), ap (map (λ p. p.0)) a.inserted ∙ names-insert_entry names name (length mid) free);
       });
 }
 
 -- a definition over parts that were resolved
-pub defines_one : (old mid new : List TypeDef) (cs : List ResolvedScope) (o : TypeOwner) (s : Address) (names names' : Names) (d : Definition) (kind : TypeDefKind) → AreResolved old mid s (env_of names) (shapes_occurrences s (about_name (Defined d)).metadata.stability (body_of d.body).parts) (exprs_of s (body_of d.body).parts) (kind_of kind).1 → (kind_of kind).0 ≡ (body_of d.body).form → IsAdded mid new o names names' d.name.name.now (about_name (Defined d)).metadata d.name.span kind → Defines old new cs o s names names' (Defined d ∷ [])
-defines_one old mid new cs o s names names' d kind p form a = defines_from old mid new cs o s names names' (Defined d) kind (exprs_of s (body_of d.body).parts) p.same (λ decls ms m are_present known. p.from decls ms m are_present) form a
+pub defines_one : (old mid new : List TypeDef) (cs : List ResolvedScope) (o : TypeOwner) (s : Address) (names names' : Names) (d : Definition) (kind : TypeDefKind) → AreResolved old mid s (env_of names) (about_name (Defined d)).metadata.stability (body_of d.body).parts (kind_of kind).1 → (kind_of kind).0 ≡ (body_of d.body).form → IsAdded mid new o names names' d.name.name.now (about_name (Defined d)).metadata d.name.span kind → Defines old new cs o s names names' (Defined d ∷ [])
+defines_one old mid new cs o s names names' d kind p form a = defines_from old mid new cs o s names names' (Defined d) kind (λ decls ms m are_present known. p.from decls ms m are_present) form a
 
 -- the names of a scope mean their places, however it is called
 key_at_scope : {ks : List Key} {s t : Address} {env : Env} → AreNames ks s env → s ≡ t → (name : List ℕ) (i : ℕ) → env name ≡ Some i → slice_get ks i ≡ Some (Def t name)
@@ -86,18 +95,14 @@ key_at_scope {ks} {s} {t} {env} names same name i h = names.present name i h ∙
 -- a name that is used from a scope that was resolved is defined, after the others
 pub used_adds : {old new : List TypeDef} {cs : List ResolvedScope} {o : TypeOwner} {names names' : Names} {from : Address} {attributes : List Attribute} {n : UseName} → IsUsed old new cs o names names' from attributes n → ((s : Address) → Defines old new cs o s names names' (Used from attributes n ∷ [])) × (names_in names' ≡ names_in names ++ local_name (Used from attributes n) ∷ [])
 used_adds {old} {new} {cs} {o} {names} {names'} {from} {attributes} {n} u = (
-  λ s. defines_from old old new cs o s names names' (Used from attributes n) (Type_ (type.Id u.id)) End refl (λ decls ms m are_present known. record {
+  λ s. defines_from old old new cs o s names names' (Used from attributes n) (Type_ (type.Id u.id)) (λ decls ms m are_present known. record {
     now = ms;
     collects = refl;
     occurrence = m;
-    holds = ((u.id, refl, key_at_scope (known.names u.found.place u.target u.found.at) u.found.called n.name.name.now u.id u.present), tt);
+    holds = λ id gives. ap (λ (i : ℕ). type.Id i ∷ []) (sym (gives.at u.id (Def from n.name.name.now) (key_at_scope (known.names u.found.place u.target u.found.at) u.found.called n.name.name.now u.id u.present)));
   }) refl u.added,
   ap names_in u.added.inserted ∙ names-insert_entry names (local_name (Used from attributes n)) (length old) u.free,
 )
-
--- what occurs in the parts of a name of a scope are the unnamed expressions in them
-pub parts_keys : (s : Address) (x : ScopeName) → keys (parts_occurrences s x) ≡ all_seen (name_exprs s x)
-parts_keys s x = keys-shapes (unwrap_or (about_name x).from s) (about_name x).metadata.stability (about_name x).body.parts
 
 pub name_keys : (s : Address) (x : ScopeName) → keys (name_occurrences s x) ≡ keys (parts_occurrences s x) ++ Def s (local_name x) ∷ []
 name_keys s x = keys-append (parts_occurrences s x) (record { key = Def s (local_name x); span = (about_name x).span; given = (about_name x).metadata.stability } ∷ [])

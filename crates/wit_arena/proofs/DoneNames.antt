@@ -171,7 +171,7 @@ module _ (files : List PackageFile) (decls : Decls) (written : List Occurrence) 
   added = adds.from decls d.seen d.occurrence (d.are_present t c at_c)
 
   pub functions_count : length fs ≡ length fns
-  functions_count = made_count (keys added.now) c.address added.occurrence.keyed.once fns fs added.holds
+  functions_count = made_count (keys added.now) c.address added.occurrence.once fns fs added.holds
 
   all_made : (k : ℕ) (g : DoneFunction) → slice_get (gs ++ more) k ≡ Some g → IsFunction (keys added.now) g.address g.fn g.made
   all_made k g at = elim (at_part gs more k g at) [
@@ -200,7 +200,7 @@ module _ (files : List PackageFile) (decls : Decls) (written : List Occurrence) 
 
 -- what handles require, where it is in the arena by now
 pub required_there : (files : List PackageFile) (decls : Decls) (written : List Occurrence) (cs : List DoneScope) (gs : List DoneFunction) (es : List TypeDef) (d : IsFunctionPart files decls written cs gs es) (t : ℕ) (c : DoneScope) → slice_get cs t ≡ Some c → (ids : List Id) (rs : List Required) → AreEnded (env_of c.types) es ids rs → AreRequired files (keys d.seen) (map (in_scope c.address) ids) rs
-required_there files decls written cs gs es d t c at ids rs ended = ended_required files decls (keys d.seen) es d.occurrence.keyed (λ j x name there. function_part_declared files decls written cs gs es x name d (d.before j x name there)) c.address (env_of c.types) (d.are_present t c at) ids rs ended
+required_there files decls written cs gs es d t c at ids rs ended = ended_required files decls d.seen es d.occurrence (λ j x name there. function_part_declared files decls written cs gs es x name d (d.before j x name there)) c.address (env_of c.types) (d.are_present t c at) ids rs ended
 
 -- and once more occurred since
 pub required_since : (files : List PackageFile) (decls : Decls) (written more : List Occurrence) (cs : List DoneScope) (gs : List DoneFunction) (es : List TypeDef) (d : IsFunctionPart files decls written cs gs es) (t : ℕ) (c : DoneScope) → slice_get cs t ≡ Some c → (ids : List Id) (rs : List Required) → AreEnded (env_of c.types) es ids rs → (seen : List Occurrence) → Collects [] (written ++ more) seen → AreRequired files (keys seen) (map (in_scope c.address) ids) rs

@@ -1,6 +1,6 @@
 -- Where names end: entries of the arena end where the trees of their names do.
 use Rattle.std.proofs.Common.{◌≡◌, ℕ, zero, suc, ◌<◌, List, [], ◌∷◌, ◌++◌, length, Option, Some, None, ◌⊎◌, inl, inr, refl, sym, ap, ◌∙◌, subst, arith}
-use Rattle.wit_arena.proofs.Names.{Address, AliasForm, AreAt, AreDistinct, AtForeign, AtResource, Decls, Def, Defined, Elsewhere, EndsAt, EntryEnd, ForeignName, Form, Id, IsKeyed, IsOther, IsResource, IsUnknown, Key, Neither, None', PackageFile, Plain, Primitive, ResourceForm, ScopeName, Shape, Shapes, TypeBody, TypeDef, TypeOwner, UnknownForm, Used, Word, about_name, at_prefix, at_within, body_of, drop, entry_end, exprs_of, found_end, kind_end, kind_of, length-take-le, local_name, meaning, meant_end, name_exprs, named_end, part_end, primitive_type, scope, shape_end, slice_get, slice_get_within, take, take-append-drop, take-append-le, unwrap_or, «Type» as Written}
+use Rattle.wit_arena.proofs.Names.{Address, AliasForm, AreAt, AreDistinct, AtForeign, AtResource, Decls, Def, Defined, Elsewhere, EndsAt, EntryEnd, ForeignName, Form, Id, IsKeyed, IsOccurrence, IsOther, IsResource, IsUnknown, Key, Neither, None', Occurrence, PackageFile, Plain, Primitive, ResourceForm, ScopeName, Shape, Shapes, TypeBody, TypeDef, TypeOwner, UnknownForm, Used, Word, about_name, at_prefix, at_within, body_of, drop, entry_end, exprs_of, found_end, keys, length-map, kind_end, kind_of, length-take-le, local_name, meaning, meant_end, name_exprs, named_end, part_end, primitive_type, scope, shape_end, slice_get, slice_get_within, take, take-append-drop, take-append-le, unwrap_or, «Type» as Written}
 use Rattle.wit_syntax.proofs.Common.{End, More, Prim, one}
 use Rattle.wit_type_tree.specs.declared.types.Primitive.TheVariants as primitive
 use Rattle.wit_type_tree.specs.declared.types.«Type».TheVariants as written
@@ -8,6 +8,7 @@ use Rattle.wit_types.specs.declared.types.«Type».{«Type» as Ty}
 use Rattle.wit_types.specs.declared.types.«Type».TheVariants as type
 use Rattle.wit_arena.proofs.Parts.{HasPart}
 use Rattle.wit_arena.proofs.OneKind.{all_at_untaken, same_some}
+use Rattle.wit_arena.proofs.Placing.{keyed_by}
 use Rattle.wit_arena.proofs.Shape.{entry_of_key, backward}
 use Rattle.wit_arena.proofs.Depth.{meaning_found}
 
@@ -124,7 +125,13 @@ pub record IsDeclared (files : List PackageFile) (decls : Decls) (s : Address) :
   pub whose : TypeOwner
   pub own : decls s ≡ (scope files s, whose)
 
-module _ (files : List PackageFile) (decls : Decls) (ks : List Key) (es : List TypeDef) (m : IsKeyed decls ks es) (scopes : (j : ℕ) (s : Address) (name : List ℕ) → slice_get ks j ≡ Some (Def s name) → IsDeclared files decls s) where
+module _ (files : List PackageFile) (decls : Decls) (ms : List Occurrence) (es : List TypeDef) (o : IsOccurrence decls ms es) (scopes : (j : ℕ) (s : Address) (name : List ℕ) → slice_get (keys ms) j ≡ Some (Def s name) → IsDeclared files decls s) where
+  abbrev ks : List Key
+  ks = keys ms
+
+  m : IsKeyed decls ks es
+  m = keyed_by o (λ j s name at. subst (λ (d : List ScopeName × TypeOwner). AreDistinct d.0) (sym (scopes j s name at).own) (scopes j s name at).distinct)
+
   -- in so many steps, an entry says where its name ends
   abbrev Stated : ℕ → Type 0
   Stated n = (i : ℕ) (s : Address) (id : Id) (e : EntryEnd) → slice_get ks i ≡ Some (Def s id.name.now) → entry_end n es i ≡ Some e → EndIs files ks s id e
@@ -183,7 +190,7 @@ module _ (files : List PackageFile) (decls : Decls) (ks : List Key) (es : List T
       end_formed n (end_source n) i s id x (kind_of entry.0.kind).0 (kind_of entry.0.kind).1 e means it.7 it.3 parts at one
 
 -- an entry of a name ends where the name does, also once the arena has grown
-pub end_source-more : (files : List PackageFile) (decls : Decls) (ks : List Key) (es more : List TypeDef) (m : IsKeyed decls ks es) → ((j : ℕ) (s : Address) (name : List ℕ) → slice_get ks j ≡ Some (Def s name) → IsDeclared files decls s) → (n i : ℕ) (s : Address) (id : Id) (e : EntryEnd) → slice_get ks i ≡ Some (Def s id.name.now) → entry_end n (es ++ more) i ≡ Some e → EndIs files ks s id e
-end_source-more files decls ks es more m scopes n i s id e at is =
-    let lt : i < length es = (let within = slice_get_within ks i (Def s id.name.now) at in let count = m.count in omega arith) in
-    end_source files decls ks es m scopes n i s id e at (sym (entry_end-same n es more i lt) ∙ is)
+pub end_source-more : (files : List PackageFile) (decls : Decls) (ms : List Occurrence) (es more : List TypeDef) (m : IsOccurrence decls ms es) → ((j : ℕ) (s : Address) (name : List ℕ) → slice_get (keys ms) j ≡ Some (Def s name) → IsDeclared files decls s) → (n i : ℕ) (s : Address) (id : Id) (e : EntryEnd) → slice_get (keys ms) i ≡ Some (Def s id.name.now) → entry_end n (es ++ more) i ≡ Some e → EndIs files (keys ms) s id e
+end_source-more files decls ms es more m scopes n i s id e at is =
+    let lt : i < length es = (let within = slice_get_within (keys ms) i (Def s id.name.now) at in let count = m.count ∙ sym (length-map ms (λ (o : Occurrence). o.key)) in omega arith) in
+    end_source files decls ms es m scopes n i s id e at (sym (entry_end-same n es more i lt) ∙ is)

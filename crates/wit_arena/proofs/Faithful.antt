@@ -3,7 +3,7 @@ use Rattle.std.proofs.Common.{◌≡◌, ◌↔◌, ◌<◌, ℕ, List, [], ◌�
 use Rattle.wit_arena.proofs.Names.{Address, AllDiffer, Decls, Def, Expr, Exprs, Form, Function, FunctionKey, HasType, IsAnonymousForm, IsAt, IsBelow, IsEntry, IsFaithful, IsRoot, Key, Names, Occurrence, OfFunction, OfName, PackageFile, Place, ScopeName, Shape, SourceFunction, TypeDef, TypeOwner, UnknownForm, UnresolvedPackage, Whole, Word, about_name, at_contains, at_within, contains_at, differ_at, expr_of, first_foreign_uses, function_key, function_types, functions_at, functions_of, keys, kind_of, local_id, local_name, lookup-place, named_node, names_of, node_parts, owner_of, role_side, scope, signature, slice_get, slice_get_within, unwrap_or}
 use Rattle.wit_types.specs.declared.types.«Type».{«Type» as Ty}
 use Rattle.wit_types.specs.declared.types.«Type».TheVariants.{Id}
-use Rattle.wit_arena.proofs.Resolving.{type_of, DoneScope, IsWholeOf, IsInSignatureOf, IsPresent}
+use Rattle.wit_arena.proofs.Resolving.{keyed_in, type_of, DoneScope, IsWholeOf, IsInSignatureOf, IsPresent}
 use Rattle.wit_arena.proofs.PlacingFunctions.{IsFunction, function_of, function_typed, made_count, made_name}
 use Rattle.wit_arena.proofs.OneKind.{Extended, at_injective, at_functional, same_some}
 use Rattle.wit_arena.proofs.Occurrence.{Has, collects_from}
@@ -52,8 +52,8 @@ module _ (files : List PackageFile) (decls : Decls) (written : List Occurrence) 
   -- an unnamed entry is that of an unnamed type, which is in a name of a scope or in a function
   whole_at : (j : ℕ) (e : TypeDef) → slice_get p.types j ≡ Some e → e.name ≡ None → (parts : Exprs) × (slice_get ks j ≡ Some (Whole (kind_of e.kind).0 parts)) × (IsWholeOf cs (kind_of e.kind).0 parts ⊎ IsInSignatureOf cs (kind_of e.kind).0 parts)
   whole_at j e at none =
-      let k = key_of decls ks p.types d.occurrence.keyed j e at in
-      let w = whole_key j k.0 e (d.occurrence.keyed.each j k.0 e k.1 at) none in
+      let k = key_of decls ks p.types (keyed_in d) j e at in
+      let w = whole_key j k.0 e ((keyed_in d).each j k.0 e k.1 at) none in
       let there : slice_get ks j ≡ Some (Whole (kind_of e.kind).0 w.0) = k.1 ∙ ap Some w.1 in
       (w.0, there, wholes (kind_of e.kind).0 w.0 (was_seen j (kind_of e.kind).0 w.0 there))
 
@@ -62,7 +62,7 @@ module _ (files : List PackageFile) (decls : Decls) (written : List Occurrence) 
   at_made t c at k f made =
       let are = d.made t c at in
       let lt = slice_get_within c.made k f made in
-      let count = made_count ks c.address d.occurrence.keyed.once c.functions c.made are in
+      let count = made_count ks c.address d.occurrence.once c.functions c.made are in
       let fn = at_within c.functions k (omega arith) in
       (k, fn.0, fn.1, refl, function_of ks c.address c.functions c.made are k fn.0 f fn.1 made)
 
@@ -81,7 +81,7 @@ module _ (files : List PackageFile) (decls : Decls) (written : List Occurrence) 
   stated_at : (t : ℕ) (c : DoneScope) (k : ℕ) (fn : SourceFunction) (f : Function) → slice_get cs t ≡ Some c → slice_get c.functions k ≡ Some fn → slice_get c.made k ≡ Some f → IsFunction ks c.address fn f → Contains (functions_of p c.owner) (function_key fn, f)
   stated_at t c k fn f at fat made is =
       let place = (d.each t c at).stated.has k fn f fat made in
-      contains_at (functions_of p c.owner) place.0 (function_key fn, f) (ap (λ (l : List (FunctionKey × Function)). slice_get l place.0) (owners.functions t c at) ∙ place.1 ∙ ap (λ (n : List ℕ). Some ((role_side fn.role, n), f)) (made_name ks c.address d.occurrence.keyed.once fn f is))
+      contains_at (functions_of p c.owner) place.0 (function_key fn, f) (ap (λ (l : List (FunctionKey × Function)). slice_get l place.0) (owners.functions t c at) ∙ place.1 ∙ ap (λ (n : List ℕ). Some ((role_side fn.role, n), f)) (made_name ks c.address d.occurrence.once fn f is))
 
   -- what a name of a scope is written with is below it
   reached_from : (j : ℕ) (form : Form) (parts : Exprs) → slice_get ks j ≡ Some (Whole form parts) → IsWholeOf cs form parts → (x : Place) × HasType files p x (Id j)
@@ -112,7 +112,7 @@ module _ (files : List PackageFile) (decls : Decls) (written : List Occurrence) 
       let c = w.resolved_scope in
       let i = w.inside in
       let f = function_at files decls written cs p.types d w.place c i.index i.fn w.at i.among in
-      let typed = function_typed ks c.address d.occurrence.keyed.once i.fn f.0 f.2 in
+      let typed = function_typed ks c.address d.occurrence.once i.fn f.0 f.2 in
       let ty = type_of typed i.position i.shape i.written in
       let lead = leads files decls written cs p d c.address i.shape ty.0 j form parts (typed.each i.position i.shape ty.0 i.written ty.1) there i.has in
       let among : Contains (functions_at files c.address) i.fn = contains_at (functions_at files c.address) i.index i.fn (ap (λ (l : List SourceFunction). slice_get l i.index) (sym (d.each w.place c w.at).functions) ∙ i.among) in (
@@ -140,15 +140,15 @@ module _ (files : List PackageFile) (decls : Decls) (written : List Occurrence) 
   owned j e name t c at here there =
       let are_present = d.are_present t c at in
       let env = are_present.has j name here in
-      let same : env.0 ≡ j = d.occurrence.keyed.once.differ env.0 j (Def c.address name) (are_present.present name env.0 env.1) here in
+      let same : env.0 ≡ j = d.occurrence.once.differ env.0 j (Def c.address name) (are_present.present name env.0 env.1) here in
       let place = lookup-place c.types name env.0 env.1 in
       let own = owner_at_name files decls written cs p.types d t c j name e at here there in
       contains_at (names_of p e.owner) place.0 (name, j) (ap (λ (l : Names). slice_get l place.0) (ap (names_of p) own ∙ owners.names t c at) ∙ place.1 ∙ ap (λ (x : ℕ). Some (name, x)) same)
 
   named : (j : ℕ) (e : TypeDef) (name : List ℕ) → slice_get p.types j ≡ Some e → e.name ≡ Some name → Contains (names_of p e.owner) (name, j)
   named j e name at some =
-      let k = key_of decls ks p.types d.occurrence.keyed j e at in
-      let it = named_key j k.0 e name (d.occurrence.keyed.each j k.0 e k.1 at) some in
+      let k = key_of decls ks p.types (keyed_in d) j e at in
+      let it = named_key j k.0 e name ((keyed_in d).each j k.0 e k.1 at) some in
       let here : slice_get ks j ≡ Some (Def it.0 name) = k.1 ∙ ap Some it.1 in
       let of = d.before j it.0 name here in
       owned j e name of.place of.resolved_scope of.at (here ∙ ap (λ (s : Address). Some (Def s name)) (sym of.scope)) at
@@ -186,7 +186,7 @@ module _ (files : List PackageFile) (decls : Decls) (written : List Occurrence) 
       let k = function_place s fn w.place w.resolved_scope w.at w.scope among in
       let f = function_at files decls written cs p.types d w.place w.resolved_scope k.0 fn w.at k.1 in
       let stated = stated_at w.place w.resolved_scope k.0 fn f.0 w.at k.1 f.1 f.2 in
-      (f.0, subst (λ (z : TypeOwner). Contains (functions_of p z) (function_key fn, f.0)) w.whose stated, (function_typed ks w.resolved_scope.address d.occurrence.keyed.once fn f.0 f.2).count)
+      (f.0, subst (λ (z : TypeOwner). Contains (functions_of p z) (function_key fn, f.0)) w.whose stated, (function_typed ks w.resolved_scope.address d.occurrence.once fn f.0 f.2).count)
 
   -- a name of an owner means the place where it occurred
   pub name_at : (o : TypeOwner) (s : Address) (k : ℕ) (name : List ℕ) (id : ℕ) → owner_of p o ≡ Some s → slice_get (names_of p o) k ≡ Some (name, id) → slice_get ks id ≡ Some (Def s name)
@@ -207,7 +207,7 @@ module _ (files : List PackageFile) (decls : Decls) (written : List Occurrence) 
         let there = at_contains (functions_of p o) (function_key fn, f) present in
         let made = (d.each w.place c w.at).stated.from there.0 (function_key fn) f (ap (λ (l : List (FunctionKey × Function)). slice_get l there.0) (sym (ap (functions_of p) (sym w.whose) ∙ owners.functions w.place w.resolved_scope w.at)) ∙ there.1) in
         let index = at_made w.place c w.at made.0 f made.1 in
-        let key : function_key index.1 ≡ function_key fn = ap (λ (n : List ℕ). (role_side index.1.role, n)) (sym (made_name ks c.address d.occurrence.keyed.once index.1 f index.4)) ∙ made.2 index.1 (ap (slice_get c.functions) (sym index.3) ∙ index.2) in
+        let key : function_key index.1 ≡ function_key fn = ap (λ (n : List ℕ). (role_side index.1.role, n)) (sym (made_name ks c.address d.occurrence.once index.1 f index.4)) ∙ made.2 index.1 (ap (slice_get c.functions) (sym index.3) ∙ index.2) in
         let place = differ_at function_key c.functions (apart w.place c w.at) index.0 k.0 index.1 fn index.2 k.1 key in
         let one = same_some (sym index.2 ∙ ap (slice_get c.functions) place ∙ k.1) in
         subst (λ (z : Address). IsFunction ks z fn f) w.scope (subst (λ (g : SourceFunction). IsFunction ks c.address g f) one index.4)
@@ -217,7 +217,7 @@ module _ (files : List PackageFile) (decls : Decls) (written : List Occurrence) 
     root_at s x ty (OfName o n id called among present written is) =
         let k = at_contains (names_of p o) (local_name n, id) present in
         subst (λ (z : Shape). IsAt ks (expr_of s z) ty) (sym written) (id, is, name_at o s k.0 (local_name n) id called k.1)
-    root_at s x ty (OfFunction o fn f k called among present written is) = (function_typed ks s d.occurrence.keyed.once fn f (function_is o s fn f called among present)).each k x ty written is
+    root_at s x ty (OfFunction o fn f k called among present written is) = (function_typed ks s d.occurrence.once fn f (function_is o s fn f called among present)).each k x ty written is
 
     pub type_at : (x : Place) (ty : Ty) → HasType files p x ty → IsAt ks (expr_of x.0 x.1) ty
     type_at x ty h = below_at files decls written cs p d h.path h.top x h.whole ty (root_at h.top.0 h.top.1 h.whole h.root) h.below h.is
@@ -229,14 +229,14 @@ module _ (files : List PackageFile) (decls : Decls) (written : List Occurrence) 
 
       pub faithful : IsFaithful files p
       faithful = record {
-        backward = λ i e at. all_parts (IsBelow i) (kind_of e.kind).1 (λ part has. backward decls ks p.types d.occurrence.keyed i e part (record { is = at }) has);
-        interned = λ i j e f ati atj. interned decls ks p.types d.occurrence.keyed i j e f (record { is = ati }) (record { is = atj });
+        backward = λ i e at. all_parts (IsBelow i) (kind_of e.kind).1 (λ part has. backward decls ks p.types (keyed_in d) i e part (record { is = at }) has);
+        interned = λ i j e f ati atj. interned decls ks p.types (keyed_in d) i j e f (record { is = ati }) (record { is = atj });
         formed = formed;
         prefix = prefix;
         named = named;
         covered = covered;
         names = name_present;
         functions = function_present;
-        same = λ x y t u h k. (λ same. at_injective ks (expr_of x.0 x.1) (expr_of y.0 y.1) u (subst (IsAt ks (expr_of x.0 x.1)) same (type_at x t h)) (type_at y u k), λ same. at_functional ks d.occurrence.keyed.once (expr_of y.0 y.1) t u (subst (λ (z : Expr). IsAt ks z t) same (type_at x t h)) (type_at y u k));
-        trees = λ x t n h. same_tree files decls ks p d.occurrence.keyed scopes n x.0 x.1 t (type_at x t h);
+        same = λ x y t u h k. (λ same. at_injective ks (expr_of x.0 x.1) (expr_of y.0 y.1) u (subst (IsAt ks (expr_of x.0 x.1)) same (type_at x t h)) (type_at y u k), λ same. at_functional ks d.occurrence.once (expr_of y.0 y.1) t u (subst (λ (z : Expr). IsAt ks z t) same (type_at x t h)) (type_at y u k));
+        trees = λ x t n h. same_tree files decls ks p (keyed_in d) scopes n x.0 x.1 t (type_at x t h);
       }

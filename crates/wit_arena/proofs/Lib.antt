@@ -46,7 +46,7 @@ pub mod SameKeys
 pub mod Occurrence
 pub mod Placing
 pub mod PlacingFunctions
-pub mod MadeEntries
+pub mod Keyed
 pub mod MadeScopes
 pub mod MadeInterfaces
 pub mod Members

@@ -6,8 +6,7 @@ use Rattle.wit_arena.proofs.Ordered.{Ordered, OrderedWorld, all_inside, all_turn
 use Rattle.wit_arena.proofs.PackageIfDone.{IsPackage, NamesOthers}
 use Rattle.wit_arena.proofs.SameKeys.{same_key, same_key_determines}
 use Rattle.wit_arena.proofs.Occurrence.{collects-firsts}
-use Rattle.wit_arena.proofs.Placing.{gives_places}
-use Rattle.wit_arena.proofs.MadeEntries.{entries_count, entries_stated}
+use Rattle.wit_arena.proofs.Placing.{gives_places, gives_used}
 use Rattle.wit_arena.proofs.MadeScopes.{scope_place-found, interface_scopes-differ, world_scopes-differ}
 use Rattle.wit_arena.proofs.MadeSides.{ArePlaced}
 use Rattle.wit_arena.proofs.MadeArenas.{interfaces-as_stated, worlds-as_stated}
@@ -31,7 +30,7 @@ module _ (files : List PackageFile) (p : UnresolvedPackage) (legal : IsLegal fil
   place k = position_or_len (λ (m : Occurrence). same_key k m.key) h.seen
 
   gives : GivesPlaces place (keys h.seen)
-  gives = gives_places same_key same_key_determines h.seen place (λ k. refl) h.occurrence.keyed.once
+  gives = gives_places same_key same_key_determines h.seen place (λ k. refl) h.occurrence.once
 
   -- the scopes of interfaces and worlds, as they are stated here and there
   abbrev ss : List Address
@@ -58,7 +57,7 @@ module _ (files : List PackageFile) (p : UnresolvedPackage) (legal : IsLegal fil
   types_made : (n : ℕ) (m : Occurrence) (e : TypeDef) → slice_get h.seen n ≡ Some m → slice_get p.types n ≡ Some e
       → IsEntryOf (scope files) (owner_at (interface_scopes files items) (world_scopes files items)) place (take n p.types) m.key m.span m.given e
   types_made n m e at_m at_e =
-      let as_stated = entries_stated place h.seen gives files ss ws p.types h.occurrence n m e at_m at_e in
+      let as_stated = h.occurrence.each n m e at_m at_e place (gives_used place (keys h.seen) gives n) in
       subst (λ (l : List Address). IsEntryOf (scope files) (owner_at (interface_scopes files items) l) place (take n p.types) m.key m.span m.given e) ws_are
       (subst (λ (l : List Address). IsEntryOf (scope files) (owner_at l ws) place (take n p.types) m.key m.span m.given e) ss_are as_stated)
 
@@ -96,7 +95,7 @@ module _ (files : List PackageFile) (p : UnresolvedPackage) (legal : IsLegal fil
     first = collects-firsts same_key same_key_determines (all_occurrences files (all_turns interfaces worlds)) h.seen h.first ∙ ap (λ ts. firsts (λ (a b : Occurrence). same_key a.key b.key) (all_occurrences files ts)) turns_are;
     id = place;
     places = λ k. refl;
-    count = entries_count place h.seen gives files ss ws p.types h.occurrence;
+    count = h.occurrence.count;
     types = types_made;
     interfaces = interfaces_made;
     worlds = worlds_made;

@@ -1,8 +1,9 @@
 -- The list of occurrences, as it grows.
-use Rattle.std.proofs.Common.{◌≡◌, ℕ, ◌+◌, List, [], ◌∷◌, ◌++◌, length, take, Some, None, ◌⊎◌, inl, inr, refl, sym, ap, ◌∙◌, subst, arith, length-append, suc, ◌↔◌, zero, Bool, true, false, not, cond, ◌&&◌, append_assoc, append-nil, Option, is_some}
-use Rattle.wit_arena.proofs.Names.{Address, AreAt, AreNames, Collects, Decls, Def, End, Env, Expr, Exprs, Extends, IsEntry, IsInterned, IsKeyed, IsOccurrence, IsSeen, Key, More, Occurrence, Of, Span, Stability, TypeDef, TypeDefKind, Whole, all_seen, at_either, at_seam, at_within, differ_more, flat_map, keys, kind_of, length-map, map, map-append, seen, slice_get, slice_get_within, take_prefix, take_seam, unnamed, AllDiffer, and_parts, both_ways, cases_Bool, cond-false, cond-true, filter, firsts, firsts_differ, not-true, not_from_false, not_from_true, Borrow, BorrowForm, FixedLengthListForm, Form, FutureForm, IsAnonymousForm, ListForm, MapForm, OptionForm, Own, ResultForm, StreamForm, TupleForm, option_to_list}
+use Rattle.std.proofs.Common.{◌≡◌, ℕ, ◌+◌, List, [], ◌∷◌, ◌++◌, length, take, Some, None, ◌⊎◌, inl, inr, refl, sym, ap, ◌∙◌, subst, arith, length-append, suc, ◌↔◌, zero, Bool, true, false, not, cond, ◌&&◌, append_assoc, append-nil, Option, is_some, Contains}
+use Rattle.wit_arena.proofs.Names.{Address, AreNames, Collects, Decls, Def, End, Env, Expr, Exprs, Extends, GivesPlaces, IsEntryOf, IsInterned, IsOccurrence, IsSeen, Key, More, Occurrence, Of, ScopeName, Span, Stability, TypeDef, TypeDefKind, Whole, about_name, all_seen, at_either, at_seam, at_within, differ_more, first_known, flat_map, keys, kind_of, length-map, local_name, map, map-append, seen, slice_get, slice_get_within, stability_at, take_prefix, take_seam, types_of, unnamed, AllDiffer, and_parts, both_ways, cases_Bool, cond-false, cond-true, filter, firsts, firsts_differ, not-true, not_from_false, not_from_true, Borrow, BorrowForm, FixedLengthListForm, Form, FutureForm, IsAnonymousForm, ListForm, MapForm, OptionForm, Own, ResultForm, StreamForm, TupleForm, option_to_list}
 use Rattle.wit_arena.specs.Occurrences.{settled}
-use Rattle.wit_arena.proofs.OneKind.{Extended, extended_trans, key_extended, all_at_untaken, all_at_injective, all_at_functional}
+use Rattle.wit_arena.proofs.OneKind.{Extended, extended_trans, key_extended, all_at_injective}
+use Rattle.wit_arena.proofs.Placing.{AreOver, entry_over, gives_in, gives_used, over_at, place_in}
 use Rattle.wit_types.specs.declared.types.«Type».{«Type» as Ty}
 use Rattle.wit_types.specs.declared.types.«Type».TheVariants.{Id}
 use Rattle.wit_types.specs.declared.types.TypeDefKind.TheVariants as kind
@@ -87,86 +88,87 @@ both_either us u xs x count i a b at_a at_b = elim (at_either us u i a at_a) [
   ]
 ]
 
--- one key more, with its entry
-pub keyed_more : {decls : Decls} {ks : List Key} {es : List TypeDef} (k : Key) (e : TypeDef) → IsKeyed decls ks es → (IsSeen ks k → ⊥) → IsEntry decls ks k e → IsKeyed decls (ks ++ k ∷ []) (es ++ e ∷ [])
-keyed_more {decls} {ks} {es} k e m new it = record {
-  count = length-append es (e ∷ []) ∙ ap (λ n. n + 1) m.count ∙ sym (length-append ks (k ∷ []));
-  once = differ_more ks k m.once (λ i at. new (i, at));
-  each = λ i x f key entry. elim (both_either ks k es e m.count i x f key entry) [
-    | inl old ↦ subst (λ prefix. IsEntry decls prefix x f) (sym (take_prefix ks (k ∷ []) i (omega (arith, slice_get_within ks i x old.0)))) (m.each i x f old.0 old.1)
-    | inr new_one ↦ rw (new_one.0, new_one.1, new_one.2) (subst (λ prefix. IsEntry decls prefix k e) (sym (take_seam ks (k ∷ []))) it)
-  ];
-}
+-- the entry of what occurs over the places of these keys, after these entries
+abbrev pub IsEntryOver : Decls → List Key → List TypeDef → Occurrence → TypeDef → Type 0
+IsEntryOver decls ks es m e = (id : Key → ℕ) → GivesPlaces id ks → IsEntryOf (λ s. (decls s).0) (λ s. (decls s).1) id es m.key m.span m.given e
 
--- an unnamed type has the stability that it gets among these entries
-abbrev HasSettled : List TypeDef → Stability → TypeDef → Type 0
-HasSettled es given e = e.name ≡ None → e.stability ≡ settled es given e.kind
+-- a name that occurs is where a name of its scope is
+abbrev pub IsWhereNamed : Decls → Occurrence → Type 0
+IsWhereNamed decls m = (s : Address) (name : List ℕ) → m.key ≡ Def s name → (x : ScopeName) × Contains (decls s).0 x × (local_name x ≡ name) × (m.span ≡ (about_name x).span)
 
--- so it is given by its key
-abbrev pub IsSettled : List TypeDef → Stability → Key → TypeDef → Type 0
-IsSettled es given (Def scope name) e = Unit {0}
-IsSettled es given (Whole form parts) e = e.stability ≡ settled es given e.kind
-
-settled_by : (decls : Decls) (ks : List Key) (es : List TypeDef) (given : Stability) (k : Key) (e : TypeDef) → IsEntry decls ks k e → IsSettled es given k e → HasSettled es given e
-settled_by decls ks es given (Def s name) e it is none = absurd (let named = it.4 in let f : ⊥ = cc in f)
-settled_by decls ks es given (Whole form parts) e it is none = is
-
--- where each entry is settled, one more is among those before it
-settled_more : (ms : List Occurrence) (es : List TypeDef) (m : Occurrence) (e : TypeDef) → length es ≡ length ms → ((i : ℕ) (x : Occurrence) (f : TypeDef) → slice_get ms i ≡ Some x → slice_get es i ≡ Some f → HasSettled (take i es) x.given f) → HasSettled es m.given e → (i : ℕ) (x : Occurrence) (f : TypeDef) → slice_get (ms ++ m ∷ []) i ≡ Some x → slice_get (es ++ e ∷ []) i ≡ Some f → HasSettled (take i (es ++ e ∷ [])) x.given f
-settled_more ms es m e count each it i x f seen entry = elim (both_either ms m es e count i x f seen entry) [
-  | inl old ↦ subst (λ prefix. HasSettled prefix x.given f) (sym (take_prefix es (e ∷ []) i (omega (arith, slice_get_within es i f old.1)))) (each i x f old.0 old.1)
-  | inr new ↦ subst (λ (g : TypeDef). HasSettled (take i (es ++ e ∷ [])) x.given g) (sym new.2) (subst (λ (y : Occurrence). HasSettled (take i (es ++ e ∷ [])) y.given e) (sym new.1) (subst (λ (n : ℕ). HasSettled (take n (es ++ e ∷ [])) m.given e) (sym (new.0 ∙ sym count)) (subst (λ prefix. HasSettled prefix m.given e) (sym (take_seam es (e ∷ []))) it)))
-]
+-- what comes before the last
+before_last : {X : Type 0} (xs : List X) (x : X) (n : ℕ) → n ≡ length xs → take n (xs ++ x ∷ []) ≡ xs
+before_last xs x n at = ap (λ (k : ℕ). take k (xs ++ x ∷ [])) at ∙ take_seam xs (x ∷ [])
 
 -- one occurrence more, with its entry
-pub occurrence_more : {decls : Decls} {ms : List Occurrence} {es : List TypeDef} (m : Occurrence) (e : TypeDef) → IsOccurrence decls ms es → (IsSeen (keys ms) m.key → ⊥) → IsEntry decls (keys ms) m.key e → e.span ≡ m.span → IsSettled es m.given m.key e → IsOccurrence decls (ms ++ m ∷ []) (es ++ e ∷ [])
-occurrence_more {decls} {ms} {es} m e occurrence new it here settled = record {
-  keyed = subst (λ ks. IsKeyed decls ks (es ++ e ∷ [])) (sym (keys-append ms (m ∷ []))) (keyed_more m.key e occurrence.keyed new it);
-  spans = map-append (λ (e : TypeDef). e.span) es (e ∷ []) ∙ ap (λ ss. ss ++ e.span ∷ []) occurrence.spans ∙ ap (λ s. map (λ (m : Occurrence). m.span) ms ++ s ∷ []) here ∙ sym (map-append (λ (m : Occurrence). m.span) ms (m ∷ []));
-  settled = settled_more ms es m e (occurrence.keyed.count ∙ length-map ms (λ (m : Occurrence). m.key)) occurrence.settled (settled_by decls (keys ms) es m.given m.key e it settled);
+pub occurrence_more : {decls : Decls} {ms : List Occurrence} {es : List TypeDef} (m : Occurrence) (e : TypeDef) → IsOccurrence decls ms es → (IsSeen (keys ms) m.key → ⊥) → IsWhereNamed decls m → IsEntryOver decls (keys ms) es m e → IsOccurrence decls (ms ++ m ∷ []) (es ++ e ∷ [])
+occurrence_more {decls} {ms} {es} m e before new named is = record {
+  count = length-append es (e ∷ []) ∙ ap (λ n. n + 1) before.count ∙ sym (length-append ms (m ∷ []));
+  once = subst AllDiffer (sym (keys-append ms (m ∷ []))) (differ_more (keys ms) m.key before.once (λ i at. new (i, at)));
+  named = λ i x s name at. elim (at_either ms m i x at) [
+    | inl old ↦ before.named i x s name old
+    | inr last ↦ subst (λ (y : Occurrence). y.key ≡ Def s name → (z : ScopeName) × Contains (decls s).0 z × (local_name z ≡ name) × (y.span ≡ (about_name z).span)) (sym last.1) (named s name)
+  ];
+  each = λ i x f at there. elim (both_either ms m es e before.count i x f at there) [
+    | inl old ↦ (
+        let lt = slice_get_within ms i x old.0 in
+        let ks = ap (take i) (keys-append ms (m ∷ [])) ∙ take_prefix (keys ms) (m.key ∷ []) i (let long = length-map ms (λ (y : Occurrence). y.key) in omega (arith, lt, long)) in
+        let fs = take_prefix es (e ∷ []) i (let count = before.count in omega (arith, lt, count)) in
+        rw (ks, fs) (before.each i x f old.0 old.1))
+    | inr last ↦ (
+        let ks = ap (take i) (keys-append ms (m ∷ [])) ∙ before_last (keys ms) m.key i (last.0 ∙ sym (length-map ms (λ (y : Occurrence). y.key))) in
+        let fs = before_last es e i (last.0 ∙ sym before.count) in
+        rw (ks, fs, last.1, last.2) is)
+  ];
 }
 
 -- what occurs, and then more
 pub extends_then : {decls : Decls} {ms a b : List Occurrence} {mid new : List TypeDef} {P Q : List Key → Type 0} (R : List Key → Type 0) (x : Extends decls ms a mid P) (y : Extends decls x.now b new Q) → R (keys y.now) → Extends decls ms (a ++ b) new R
 extends_then {decls} {ms} {a} {b} {mid} {new} {P} {Q} R x y holds = record { now = y.now; collects = collects_append a b ms x.now y.now x.collects y.collects; occurrence = y.occurrence; holds = holds }
 
-found_key : (decls : Decls) (n : ℕ) (ks : List Key) (k : Key) (parts : Exprs) (e : TypeDef) → IsEntry decls (take n ks) k e → e.name ≡ None → AreAt ks parts (kind_of e.kind).1 → k ≡ Whole (kind_of e.kind).0 parts
-found_key decls n ks (Def s name) parts e h none at = absurd (let wrong = h.4 in let f : ⊥ = cc in f)
-found_key decls n ks (Whole form parts') parts e h none at = cc (h.2, all_at_injective ks parts' parts (kind_of e.kind).1 (all_at_untaken n ks parts' (kind_of e.kind).1 h.3) at)
+found_key : (decls : Decls) (ks : List Key) → AllDiffer ks → (es : List TypeDef) (k : Key) (span : Span) (given : Stability) (parts : Exprs) (e : TypeDef) → ((id : Key → ℕ) → GivesPlaces id ks → IsEntryOf (λ s. (decls s).0) (λ s. (decls s).1) id es k span given e) → e.name ≡ None → AreOver ks parts (kind_of e.kind).1 → k ≡ Whole (kind_of e.kind).0 parts
+found_key decls ks differ es (Def s name) span given parts e h none at = absurd (let wrong = ap (λ (y : TypeDef). y.name) (h (place_in ks 0) (gives_in ks 0 differ)).5 in let f : ⊥ = cc in f)
+found_key decls ks differ es (Whole form parts') span given parts e h none at =
+    let same : (id : Key → ℕ) → GivesPlaces id ks → kind_of e.kind ≡ (form, types_of id parts') = λ id gives. ap (λ (y : TypeDef). kind_of y.kind) (h id gives).2 ∙ (h id gives).1 in
+    let forms = ap (λ k. k.0) (same (place_in ks 0) (gives_in ks 0 differ)) in
+    let inner = all_at_injective ks parts' parts (kind_of e.kind).1 (over_at ks differ parts' (kind_of e.kind).1 (λ id gives. ap (λ k. k.1) (same id gives))) (over_at ks differ parts (kind_of e.kind).1 at) in
+    ap (λ (f : Form). Whole f parts') (sym forms) ∙ ap (Whole (kind_of e.kind).0) inner
 
 -- this kind alone has its form and parts
 pub record IsOnly (what : TypeDefKind) : Type 0 where
   pub same : (k : TypeDefKind) → (kind_of k).0 ≡ (kind_of what).0 → (kind_of k).1 ≡ (kind_of what).1 → k ≡ what
 
 -- an unnamed type occurs, whether it was there or was added
-pub occur_whole : (decls : Decls) (ms : List Occurrence) (old new : List TypeDef) (kind : TypeDefKind) (given : Stability) (span : Span) (parts : Exprs) (i : ℕ) → IsOnly kind → IsOccurrence decls ms old → AreAt (keys ms) parts (kind_of kind).1 → IsInterned old new kind given span i → Extends decls ms (record { key = Whole (kind_of kind).0 parts; span = span; given = given } ∷ []) new (λ ks. slice_get ks i ≡ Some (Whole (kind_of kind).0 parts))
+pub occur_whole : (decls : Decls) (ms : List Occurrence) (old new : List TypeDef) (kind : TypeDefKind) (given : Stability) (span : Span) (parts : Exprs) (i : ℕ) → IsOnly kind → IsOccurrence decls ms old → AreOver (keys ms) parts (kind_of kind).1 → IsInterned old new kind given span i → Extends decls ms (record { key = Whole (kind_of kind).0 parts; span = span; given = given } ∷ []) new (λ ks. slice_get ks i ≡ Some (Whole (kind_of kind).0 parts))
 occur_whole decls ms old new kind given span parts i only m at interned = elim interned.either [
   | inl found ↦ (
       let e = found.1.0 in
       let is = found.1.2 in
-      let keyed = m.keyed in
-      let count = keyed.count in
+      let count = m.count ∙ sym (length-map ms (λ (y : Occurrence). y.key)) in
       let lt = slice_get_within old i e found.1.1.is in
       let key = at_within (keys ms) i (omega arith) in
-      let at' = subst (λ (k : TypeDefKind). AreAt (keys ms) parts (kind_of k).1) (sym is.kind) at in
-      let same = found_key decls i (keys ms) key.0 parts e (keyed.each i key.0 e key.1 found.1.1.is) is.name at' in
+      let at' = subst (λ (k : TypeDefKind). AreOver (keys ms) parts (kind_of k).1) (sym is.kind) at in
+      let it = entry_over m i key.0 e key.1 found.1.1.is in
+      let same = found_key decls (keys ms) m.once (take i old) key.0 it.0.span it.0.given parts e (λ id gives. it.3 id (gives_used id (keys ms) gives i)) is.name at' in
       let there : slice_get (keys ms) i ≡ Some (Whole (kind_of kind).0 parts) = key.1 ∙ ap Some same ∙ ap (λ (k : TypeDefKind). Some (Whole (kind_of k).0 parts)) is.kind in
       record { now = ms; collects = inl ((i, there), refl); occurrence = subst (IsOccurrence decls ms) (sym found.0) m; holds = there })
   | inr added ↦ (
       let key = Whole (kind_of kind).0 parts in
-      let keyed = m.keyed in
+      let count = m.count ∙ sym (length-map ms (λ (y : Occurrence). y.key)) in
+      let id = place_in (keys ms) 0 in
+      let gives = gives_in (keys ms) 0 m.once in
       let fresh : IsSeen (keys ms) key → ⊥ = λ was. (
-      let count = keyed.count in
       let lt = slice_get_within (keys ms) was.0 key was.1 in
       let e = at_within old was.0 (omega arith) in
-      let it = keyed.each was.0 key e.0 was.1 e.1 in
-      let tys = all_at_functional (keys ms) keyed.once parts (kind_of e.0.kind).1 (kind_of kind).1 (all_at_untaken was.0 (keys ms) parts (kind_of e.0.kind).1 it.3) at in
-      added.2 was.0 e.0 (record { is = e.1 }) (record { name = it.0; kind = only.same e.0.kind it.2 tys })) in
+      let it = (entry_over m was.0 key e.0 was.1 e.1).3 id (gives_used id (keys ms) gives was.0) in
+      let same = ap (λ (y : TypeDef). kind_of y.kind) it.2 ∙ it.1 in
+      added.2 was.0 e.0 (record { is = e.1 }) (record { name = ap (λ (y : TypeDef). y.name) it.2; kind = only.same e.0.kind (ap (λ k. k.0) same) (ap (λ k. k.1) same ∙ sym (at id gives)) })) in
+      let x : Occurrence = record { key = key; span = span; given = given } in
       record {
-        now = ms ++ record { key = key; span = span; given = given } ∷ [];
+        now = ms ++ x ∷ [];
         collects = inr (fresh, refl);
-        occurrence = subst (IsOccurrence decls (ms ++ record { key = key; span = span; given = given } ∷ [])) (sym added.0) (occurrence_more (record { key = key; span = span; given = given }) (unnamed kind (settled old given kind) span) m fresh (refl, refl, refl, at, refl, refl) refl refl);
-        holds = rw (added.1, keyed.count) (ap (λ l. slice_get l (length (keys ms))) (keys-append ms (record { key = key; span = span; given = given } ∷ [])) ∙ at_seam (keys ms) key);
+        occurrence = subst (IsOccurrence decls (ms ++ x ∷ [])) (sym added.0) (occurrence_more x (unnamed kind (settled old given kind) span) m fresh (λ s name named. absurd (let f : ⊥ = cc in f)) (λ id gives. (kind, ap (λ (ts : List Ty). ((kind_of kind).0, ts)) (at id gives), ap (λ (ts : List Ty). unnamed kind (first_known (given ∷ map (stability_at old) ts)) span) (at id gives))));
+        holds = rw (added.1, count) (ap (λ l. slice_get l (length (keys ms))) (keys-append ms (x ∷ [])) ∙ at_seam (keys ms) key);
       })
 ]
 

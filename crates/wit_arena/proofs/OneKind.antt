@@ -1,6 +1,6 @@
 -- A type of the arena is given by its form and its parts.
 use Rattle.std.proofs.Common.{◌≡◌, ℕ, Bool, true, false, List, [], ◌∷◌, Option, Some, None, refl, sym, ap, ◌∙◌, is_some, ◌++◌, take, append_assoc}
-use Rattle.wit_arena.proofs.Names.{AliasForm, Borrow, BorrowForm, Docs, EnumForm, FixedLengthListForm, FlagsForm, Form, FutureForm, ListForm, MapForm, Member, OptionForm, Own, OwnForm, RecordForm, ResourceForm, ResultForm, Span, StreamForm, TupleForm, TypeDefKind, UnknownForm, VariantForm, filter_map, kind_of, map, IsBelow, Leaf, Primitive, UnresolvedPackage, package_node, primitive_type, AllDiffer, AreAt, Def, End, Expr, Exprs, IsAt, Key, More, Of, Prim, Use, Whole, all_seen, at_prefix, at_take, joined, seen, slice_get}
+use Rattle.wit_arena.proofs.Names.{AliasForm, Borrow, BorrowForm, Docs, EnumForm, FixedLengthListForm, FlagsForm, Form, FutureForm, ListForm, MapForm, Member, OptionForm, Own, OwnForm, RecordForm, ResourceForm, ResultForm, Span, StreamForm, TupleForm, TypeDefKind, UnknownForm, VariantForm, filter_map, kind_of, map, IsBelow, Leaf, Primitive, UnresolvedPackage, package_node, primitive_type, AllDiffer, AreAt, Def, End, Expr, Exprs, IsAt, Key, More, Of, Prim, Use, Whole, at_prefix, at_take, slice_get}
 use Rattle.wit_types.specs.declared.types.Field.{Field}
 use Rattle.wit_types.specs.declared.types.Case.{Case}
 use Rattle.wit_types.specs.declared.types.EnumCase.{EnumCase}
@@ -191,31 +191,16 @@ extended_trans {a} {b} {c} g h = record { more = g.more ++ h.more; is = rw (h.is
 pub key_extended : {a b : List Key} → Extended a b → (i : ℕ) (k : Key) → slice_get a i ≡ Some k → slice_get b i ≡ Some k
 key_extended {a} g i k h = rw g.is (at_prefix a g.more i k h)
 
--- what is at its place among some keys is so among others where each key keeps its place
-at_moved : (a b : List Key) → ((i : ℕ) (k : Key) → slice_get a i ≡ Some k → slice_get b i ≡ Some k) → (e : Expr) (t : Ty) → IsAt a e t → IsAt b e t
-at_moved a b moves (Prim p) t h = h
-at_moved a b moves (Use s name) t h = (h.0, h.1, moves h.0 (Def s name) h.2)
-at_moved a b moves (Of form parts) t h = (h.0, h.1, moves h.0 (Whole form parts) h.2)
+-- what is at its place among the first n is so among all
+at_untaken : (n : ℕ) (ks : List Key) (e : Expr) (t : Ty) → IsAt (take n ks) e t → IsAt ks e t
+at_untaken n ks (Prim p) t h = h
+at_untaken n ks (Use s name) t h = (h.0, h.1, (at_take ks n h.0 (Def s name) h.2).0)
+at_untaken n ks (Of form parts) t h = (h.0, h.1, (at_take ks n h.0 (Whole form parts) h.2).0)
 
-all_at_moved : (a b : List Key) → ((i : ℕ) (k : Key) → slice_get a i ≡ Some k → slice_get b i ≡ Some k) → (es : Exprs) (ts : List Ty) → AreAt a es ts → AreAt b es ts
-all_at_moved a b moves End [] h = tt
-all_at_moved a b moves (More e es) (t ∷ ts) h = (at_moved a b moves e t h.0, all_at_moved a b moves es ts h.1)
-all_at_moved a b moves es ts h = absurd h
-
-pub at_extended : {a b : List Key} → Extended a b → (e : Expr) (t : Ty) → IsAt a e t → IsAt b e t
-at_extended {a} {b} g e t h = at_moved a b (key_extended g) e t h
-
-pub all_at_extended : {a b : List Key} → Extended a b → (es : Exprs) (ts : List Ty) → AreAt a es ts → AreAt b es ts
-all_at_extended {a} {b} g es ts h = all_at_moved a b (key_extended g) es ts h
-
--- from the first n to the whole
 pub all_at_untaken : (n : ℕ) (ks : List Key) (es : Exprs) (ts : List Ty) → AreAt (take n ks) es ts → AreAt ks es ts
-all_at_untaken n ks es ts h = all_at_moved (take n ks) ks (λ i k at. (at_take ks n i k at).0) es ts h
-
-pub all_at_joined : (ks : List Key) (es fs : Exprs) (ts us : List Ty) → AreAt ks es ts → AreAt ks fs us → AreAt ks (joined es fs) (ts ++ us)
-all_at_joined ks End fs [] us h k = k
-all_at_joined ks (More e es) fs (t ∷ ts) us h k = (h.0, all_at_joined ks es fs ts us h.1 k)
-all_at_joined ks es fs ts us h k = absurd h
+all_at_untaken n ks End [] h = tt
+all_at_untaken n ks (More e es) (t ∷ ts) h = (at_untaken n ks e t h.0, all_at_untaken n ks es ts h.1)
+all_at_untaken n ks es ts h = absurd h
 
 -- one place, one expression
 pub at_injective : (ks : List Key) (e f : Expr) (ty : Ty) → IsAt ks e ty → IsAt ks f ty → e ≡ f
@@ -236,12 +221,3 @@ pub at_functional : (ks : List Key) → AllDiffer ks → (e : Expr) (t u : Ty) �
 at_functional ks o (Prim p) t u h k = h ∙ sym k
 at_functional ks o (Use s name) t u p q = p.1 ∙ ap Id (o.differ p.0 q.0 (Def s name) p.2 q.2) ∙ sym q.1
 at_functional ks o (Of form parts) t u p q = p.1 ∙ ap Id (o.differ p.0 q.0 (Whole form parts) p.2 q.2) ∙ sym q.1
-
-pub all_at_functional : (ks : List Key) → AllDiffer ks → (es : Exprs) (ts us : List Ty) → AreAt ks es ts → AreAt ks es us → ts ≡ us
-all_at_functional ks o End [] [] p q = refl
-all_at_functional ks o (More e es) (t ∷ ts) (u ∷ us) p q = let a = at_functional ks o e t u p.0 q.0 in let b = all_at_functional ks o es ts us p.1 q.1 in cc
-all_at_functional ks o es ts us p q = search
-
-pub all_seen-joined : (es fs : Exprs) → all_seen (joined es fs) ≡ all_seen es ++ all_seen fs
-all_seen-joined End fs = refl
-all_seen-joined (More e es) fs = ap (λ ks. seen e ++ ks) (all_seen-joined es fs) ∙ sym (append_assoc (seen e) (all_seen es) (all_seen fs))

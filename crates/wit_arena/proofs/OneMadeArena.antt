@@ -6,7 +6,7 @@ use Rattle.wit_arena.proofs.OneKind.{one_kind, same_some}
 use Rattle.wit_arena.proofs.OneList.{same_by_prefixes}
 
 -- of distinct names one is called so
-one_called : (xs : List ScopeName) → AreDistinct xs → (x y : ScopeName) → Contains xs x → Contains xs y → local_name x ≡ local_name y → x ≡ y
+pub one_called : (xs : List ScopeName) → AreDistinct xs → (x y : ScopeName) → Contains xs x → Contains xs y → local_name x ≡ local_name y → x ≡ y
 one_called xs differ x y in_x in_y same =
     let a = at_contains xs x in_x in
     let b = at_contains xs y in_y in

@@ -5,7 +5,7 @@ use Rattle.wit_arena.proofs.Ordered.{AreOrdered, Ordered, ordered_names, turned,
 use Rattle.wit_arena.proofs.OneKind.{all_at_untaken}
 use Rattle.wit_arena.proofs.PlacingFunctions.{IsFunction, function_of, made_count, HasTypes, IsForeignInterface}
 use Rattle.wit_arena.proofs.Shape.{entry_of_key}
-use Rattle.wit_arena.proofs.Resolving.{DoneScope, turn_of, IsPresent, members}
+use Rattle.wit_arena.proofs.Resolving.{keyed_in, DoneScope, turn_of, IsPresent, members}
 use Rattle.wit_arena.proofs.Prefix.{interface_scope, prefix_scopes, interface_in_front, interfaces_count}
 use Rattle.wit_arena.proofs.ScopesInTurn.{done_required, required_in_turn, ordered_addresses, scope_at, scope_of_entry}
 use Rattle.wit_arena.proofs.DoneWorlds.{inside_of, interface_list, world_list, decls, InterfacesDone, world_resolved_scope, AreWorldsDone, own_order, scopes_of, all_within, types_of_resolved_scope, prefix_interface_at, world_scope_among, inside_scope_among, inside_entry}
@@ -86,19 +86,19 @@ module _ (files : List PackageFile) (decls : Decls) (written : List Occurrence) 
 
   -- the entry of a name
   pub entry_of : (id : ℕ) (s : Address) (name : List ℕ) → slice_get ks id ≡ Some (Def s name) → (e : TypeDef) × (slice_get es id ≡ Some e)
-  entry_of id s name here = entry_of_key decls ks es d.occurrence.keyed id (Def s name) here
+  entry_of id s name here = entry_of_key decls ks es (keyed_in d) id (Def s name) here
 
   -- it is its scope's
   pub owner_at_name : (t : ℕ) (c : DoneScope) (id : ℕ) (name : List ℕ) (e : TypeDef) → slice_get cs t ≡ Some c → slice_get ks id ≡ Some (Def c.address name) → slice_get es id ≡ Some e → e.owner ≡ c.owner
   owner_at_name t c id name e at here there =
-      let it = d.occurrence.keyed.each id (Def c.address name) e here there in
+      let it = (keyed_in d).each id (Def c.address name) e here there in
       it.6 ∙ ap (λ (d : List ScopeName × TypeOwner). d.1) (d.own t c at)
 
   -- it has the parts of the name
   pub parts_at : (t : ℕ) (c : DoneScope) (k : ℕ) (x : ScopeName) (id : ℕ) (e : TypeDef) → slice_get cs t ≡ Some c → slice_get (scope files c.address) k ≡ Some x → slice_get ks id ≡ Some (Def c.address (local_name x)) → slice_get es id ≡ Some e → AreAt ks (name_exprs c.address x) (kind_of e.kind).1
   parts_at t c k x id e at xat here there =
       let s = c.address in
-      let it = d.occurrence.keyed.each id (Def s (local_name x)) e here there in
+      let it = (keyed_in d).each id (Def s (local_name x)) e here there in
       let there : slice_get (scope files s) it.0 ≡ Some it.1 = ap (λ (d : List ScopeName × TypeOwner). slice_get d.0 it.0) (sym (d.own t c at)) ∙ it.2 in
       let place = differ_at local_name (scope files s) (d.each t c at).turn.distinct it.0 k it.1 x there xat it.3 in
       let one : Some it.1 ≡ Some x = sym there ∙ ap (slice_get (scope files s)) place ∙ xat in
@@ -110,7 +110,7 @@ module _ (files : List PackageFile) (decls : Decls) (written : List Occurrence) 
   function_at t c k fn at fat =
       let are = d.made t c at in
       let lt = slice_get_within c.functions k fn fat in
-      let count = made_count ks c.address d.occurrence.keyed.once c.functions c.made are in
+      let count = made_count ks c.address d.occurrence.once c.functions c.made are in
       let f = at_within c.made k (omega arith) in
       (f.0, f.1, function_of ks c.address c.functions c.made are k fn f.0 fat f.1)
 

@@ -1,10 +1,11 @@
--- Where a function gives the place of each key, it gives the types of all expressions.
-use Rattle.std.proofs.Common.{◌≡◌, ◌↔◌, ℕ, zero, suc, Bool, true, false, List, [], ◌∷◌, take, Some, if◌then◌else◌, inl, inr, refl, sym, ap, ◌∙◌, arith}
-use Rattle.wit_arena.proofs.Names.{AllDiffer, AreAt, Def, End, Expr, Exprs, GivesPlaces, IsAt, Key, More, Occurrence, Of, Prim, Use, Whole, at_take, cases_Bool, cond-false, cond-true, differ_at, keys, map_at, position_or_len, slice_get, type_of, types_of}
+-- Where a function gives the place of each key, it gives the types of all expressions, and the entries of the arena.
+use Rattle.std.proofs.Common.{◌≡◌, ◌↔◌, ℕ, zero, suc, Bool, true, false, List, [], ◌∷◌, take, Some, if◌then◌else◌, inl, inr, refl, sym, ap, ◌∙◌, subst, arith}
+use Rattle.wit_arena.proofs.Names.{Address, AllDiffer, AreAt, AreDistinct, Decls, Def, End, Expr, Exprs, GivesPlaces, IsAt, IsEntry, IsEntryOf, IsKeyed, IsOccurrence, Key, More, Occurrence, Of, Prim, ScopeName, TypeDef, Use, Whole, about_name, at_contains, at_take, cases_Bool, cond-false, cond-true, differ_at, entry, keys, kind_of, length-map, map_at, name_exprs, position_or_len, slice_get, type_of, types_of}
 use Rattle.wit_types.specs.declared.types.«Type».{«Type» as Ty}
 use Rattle.wit_types.specs.declared.types.«Type».TheVariants.{Id}
 use Rattle.wit_arena.proofs.Interfaces.{prefix_len-only}
 use Rattle.wit_arena.proofs.OneKind.{Extended, key_extended}
+use Rattle.wit_arena.proofs.OneMadeArena.{one_called}
 use Rattle.wit_arena.proofs.SameKeys.{same_key, same_key_determines}
 
 module _ (same : Key → Key → Bool) (gives : (a b : Key) → (same a b ≡ true) ↔ (a ≡ b)) (seen : List Occurrence) (id : Key → ℕ) (places : (k : Key) → id k ≡ position_or_len (λ (m : Occurrence). same k m.key) seen) where
@@ -75,3 +76,52 @@ pub at_places : (ks : List Key) (e : Expr) (t : Ty) → t ≡ type_of (place_in 
 at_places ks (Prim p) t first second = first
 at_places ks (Use s name) t first second = (place_in ks 0 (Def s name), first, place_seen ks (Def s name) (same_id (sym first ∙ second)))
 at_places ks (Of form parts) t first second = (place_in ks 0 (Whole form parts), first, place_seen ks (Whole form parts) (same_id (sym first ∙ second)))
+
+-- over the places of some keys, whatever others may be, these are the types of expressions
+abbrev pub AreOver : List Key → Exprs → List Ty → Type 0
+AreOver ks es ts = (id : Key → ℕ) → GivesPlaces id ks → ts ≡ types_of id es
+
+all_at_places : (ks : List Key) (es : Exprs) (ts : List Ty) → ts ≡ types_of (place_in ks 0) es → ts ≡ types_of (place_in ks 1) es → AreAt ks es ts
+all_at_places ks End [] first second = tt
+all_at_places ks (More e es) (t ∷ ts) first second = (at_places ks e t (cc) (cc), all_at_places ks es ts (cc) (cc))
+all_at_places ks es ts first second = absurd (let f : ⊥ = cc in f)
+
+-- so they are at their places
+pub over_at : (ks : List Key) → AllDiffer ks → (es : Exprs) (ts : List Ty) → AreOver ks es ts → AreAt ks es ts
+over_at ks differ es ts over = all_at_places ks es ts (over (place_in ks 0) (gives_in ks 0 differ)) (over (place_in ks 1) (gives_in ks 1 differ))
+
+module _ {decls : Decls} {ms : List Occurrence} {es : List TypeDef} (o : IsOccurrence decls ms es) where
+  -- the entry of a key, and where it occurs
+  pub entry_over : (i : ℕ) (k : Key) (e : TypeDef) → slice_get (keys ms) i ≡ Some k → slice_get es i ≡ Some e → (m : Occurrence) × (slice_get ms i ≡ Some m) × (m.key ≡ k) × ((id : Key → ℕ) → GivesPlaces id (take i (keys ms)) → IsEntryOf (λ s. (decls s).0) (λ s. (decls s).1) id (take i es) k m.span m.given e)
+  entry_over i k e key there =
+      let m = map_at (λ (m : Occurrence). m.key) ms i k key in
+      (m.0, m.1, m.2, λ id gives. subst (λ (x : Key). IsEntryOf (λ s. (decls s).0) (λ s. (decls s).1) id (take i es) x m.0.span m.0.given e) m.2 (o.each i m.0 e m.1 there id gives))
+
+  differ_used : (n : ℕ) → AllDiffer (take n (keys ms))
+  differ_used n = record { differ = λ i j k at_i at_j. o.once.differ i j k (at_take (keys ms) n i k at_i).0 (at_take (keys ms) n j k at_j).0 }
+
+  -- where the names of each scope are distinct, each entry is that of its key, whose parts are at their places
+  module _ (distinct : (j : ℕ) (s : Address) (name : List ℕ) → slice_get (keys ms) j ≡ Some (Def s name) → AreDistinct (decls s).0) where
+    entry_keyed : (i : ℕ) (k : Key) (e : TypeDef) → slice_get (keys ms) i ≡ Some k → slice_get es i ≡ Some e → IsEntry decls (take i (keys ms)) k e
+    entry_keyed i (Def s name) e key there =
+        let ks = take i (keys ms) in
+        let m = entry_over i (Def s name) e key there in
+        let n = o.named i m.0 s name m.1 m.2 in
+        let p = at_contains (decls s).0 n.0 n.1 in
+        let same : (id : Key → ℕ) → GivesPlaces id ks → (kind_of e.kind ≡ ((about_name n.0).body.form, types_of id (name_exprs s n.0))) × (e ≡ entry (Some name) (decls s).1 (about_name n.0).metadata m.0.span e.kind) = λ id gives. (
+        let h = m.3 id gives in
+        let x = one_called (decls s).0 (distinct i s name key) h.0 n.0 h.2 n.1 (h.3 ∙ sym n.2) in
+        let kind = ap (λ (y : TypeDef). y.kind) h.5 in
+        (ap kind_of kind ∙ h.4 ∙ ap (λ (y : ScopeName). ((about_name y).body.form, types_of id (name_exprs s y))) x, h.5 ∙ ap (λ (y : ScopeName). entry (Some name) (decls s).1 (about_name y).metadata m.0.span h.1) x ∙ ap (entry (Some name) (decls s).1 (about_name n.0).metadata m.0.span) (sym kind))) in
+        let it = same (place_in ks 0) (gives_in ks 0 (differ_used i)) in
+        let parts = over_at ks (differ_used i) (name_exprs s n.0) (kind_of e.kind).1 (λ id gives. ap (λ k. k.1) (same id gives).0) in
+        (p.0, n.0, p.1, n.2, ap (λ (y : TypeDef). y.name) it.1, ap (λ (y : TypeDef). y.span) it.1 ∙ n.3, ap (λ (y : TypeDef). y.owner) it.1, ap (λ k. k.0) it.0, parts, record { docs = ap (λ (y : TypeDef). y.docs) it.1; stability = ap (λ (y : TypeDef). y.stability) it.1; external_id = ap (λ (y : TypeDef). y.external_id) it.1 })
+    entry_keyed i (Whole form parts) e key there =
+        let ks = take i (keys ms) in
+        let m = entry_over i (Whole form parts) e key there in
+        let it = m.3 (place_in ks 0) (gives_in ks 0 (differ_used i)) in
+        let same : (id : Key → ℕ) → GivesPlaces id ks → kind_of e.kind ≡ (form, types_of id parts) = λ id gives. ap (λ (y : TypeDef). kind_of y.kind) (m.3 id gives).2 ∙ (m.3 id gives).1 in
+        (ap (λ (y : TypeDef). y.name) it.2, ap (λ (y : TypeDef). y.owner) it.2, ap (λ k. k.0) (same (place_in ks 0) (gives_in ks 0 (differ_used i))), over_at ks (differ_used i) parts (kind_of e.kind).1 (λ id gives. ap (λ k. k.1) (same id gives)))
+
+    pub keyed_by : IsKeyed decls (keys ms) es
+    keyed_by = record { count = o.count ∙ sym (length-map ms (λ (m : Occurrence). m.key)); once = o.once; each = entry_keyed }

@@ -10,7 +10,7 @@ use Rattle.wit_arena.proofs.Occurrence.{Has, has_either}
 use Rattle.wit_arena.proofs.Shape.{entry_of_key}
 use Rattle.wit_arena.proofs.Depth.{meaning_found}
 use Rattle.wit_arena.proofs.Parts.{part_type}
-use Rattle.wit_arena.proofs.Resolving.{DoneScope, IsPresent}
+use Rattle.wit_arena.proofs.Resolving.{keyed_in, DoneScope, IsPresent}
 use Rattle.wit_arena.proofs.PackageIfDone.{entry_of, parts_at}
 
 -- an entry has the parts of its kind
@@ -59,8 +59,8 @@ module _ (files : List PackageFile) (decls : Decls) (written : List Occurrence) 
   whole_parts : (s : Address) (span : Span) (form : Form) (parts : Shapes) (t : Ty) → IsAt ks (expr_of s (shape.Of span form parts)) t → AreAt ks (exprs_of s parts) (node_parts (package_node p t))
   whole_parts s span form parts t h =
       let k = Whole form (exprs_of s parts) in
-      let e = entry_of_key decls ks p.types d.occurrence.keyed h.0 k h.2 in
-      let it = d.occurrence.keyed.each h.0 k e.0 h.2 e.1 in
+      let e = entry_of_key decls ks p.types (keyed_in d) h.0 k h.2 in
+      let it = (keyed_in d).each h.0 k e.0 h.2 e.1 in
       subst (AreAt ks (exprs_of s parts)) (sym (ap (λ (u : Ty). node_parts (package_node p u)) h.1 ∙ type_parts p h.0 e.0 e.1)) (all_at_untaken h.0 ks (exprs_of s parts) (kind_of e.0.kind).1 it.3)
 
   pub has_parts : (s : Address) (x : Shape) (t : Ty) → IsAt ks (expr_of s x) t → HasParts (s, x) t
@@ -117,7 +117,7 @@ module _ (files : List PackageFile) (decls : Decls) (written : List Occurrence) 
     leads s (shape.Of span own xs) t j form parts at there has = elim (has_either (all_seen (exprs_of s xs)) (Whole own (exprs_of s xs) ∷ []) (Whole form parts) has) [
       | inl inner ↦ whole_leads (s, shape.Of span own xs) t j (all_lead s xs (node_parts (package_node p t)) j form parts (whole_parts s span own xs t at) there inner)
       | inr last ↦ elim last [
-        | inl here ↦ record { inner = (s, shape.Of span own xs); path = []; below = refl; is = at.1 ∙ ap type.Id (d.occurrence.keyed.once.differ at.0 j (Whole form parts) (at.2 ∙ ap Some here) there) }
+        | inl here ↦ record { inner = (s, shape.Of span own xs); path = []; below = refl; is = at.1 ∙ ap type.Id (d.occurrence.once.differ at.0 j (Whole form parts) (at.2 ∙ ap Some here) there) }
         | inr none ↦ absurd none
       ]
     ]

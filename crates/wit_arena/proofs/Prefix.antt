@@ -1,6 +1,7 @@
 -- What other packages put before the arenas, as scopes that are done.
-use Rattle.std.proofs.Common.{◌≡◌, ℕ, zero, suc, ◌+◌, false, List, [], ◌∷◌, ◌++◌, length, take, Option, Some, None, inl, inr, refl, sym, ap, ◌∙◌, subst, arith}
-use Rattle.wit_arena.proofs.Names.{Address, AddsForeign, AllDiffer, AreFunctions, AreNames, AreRequired, Declared, Decls, Def, ForeignName, ForeignNamed, ForeignUse, ForeignVisit, Imported, Interface, IsEntry, IsOccurrence, IsSome, Item, Key, Occurrence, PackageFile, PackageName, ScopeName, TheInterface, TypeDef, TypeOwner, World, about, all_handles, all_items, all_scopes, at_part, at_prefix, at_within, differ_join, differ_none, env_of, filter, first_foreign_uses, firsts_at, flat_map, foreign_interfaces, foreign_type, foreign_use_occurrence, foreign_uses, foreign_worlds, functions, interface_functions, item_at, keys, length-map, local_name, lookup-place, map, map-append, map_at, map_map, name_types, option_map, option_map_or, owner_at, package_of, resolved_scopes, same_address, same_foreign_use, scope, slice_get, slice_get-map, slice_get_within, some_of, turn_handles, used_names, visited, «Type» as Written, GivesPlaces, foreign_interface, foreign_world, metadata, no_docs, interface}
+use Rattle.std.proofs.Common.{◌≡◌, ℕ, zero, suc, ◌+◌, false, List, [], ◌∷◌, ◌++◌, length, take, Option, Some, None, inl, inr, refl, sym, ap, ◌∙◌, subst, arith, Contains}
+use Rattle.wit_arena.proofs.Names.{Address, AddsForeign, AllDiffer, AreFunctions, AreNames, AreRequired, Declared, Decls, Def, ForeignName, ForeignNamed, ForeignUse, ForeignVisit, Imported, Interface, IsEntryOf, IsOccurrence, IsSome, Item, Key, Occurrence, PackageFile, PackageName, ScopeName, TheInterface, TypeDef, TypeOwner, World, about, all_handles, all_items, all_scopes, at_part, at_prefix, at_within, contains_at, differ_join, differ_none, env_of, filter, first_foreign_uses, firsts_at, flat_map, foreign_interfaces, foreign_type, foreign_use_occurrence, foreign_uses, foreign_worlds, functions, interface_functions, item_at, keys, length-map, local_name, lookup-place, map, map-append, map_at, name_types, named, stability_of, option_map, option_map_or, owner_at, package_of, resolved_scopes, same_address, same_foreign_use, scope, slice_get, slice_get-map, slice_get_within, some_of, turn_handles, used_names, visited, «Type» as Written, GivesPlaces, foreign_interface, foreign_world, metadata, no_docs, interface}
+use Rattle.wit_types.specs.declared.types.TypeDefKind.TheVariants.{Unknown}
 use Rattle.wit_types.specs.declared.types.TypeOwner.TheVariants as owner
 use Rattle.wit_arena.proofs.OneKind.{same_some}
 use Rattle.wit_arena.proofs.UsePart.{lookup-listed}
@@ -104,12 +105,6 @@ no_types_used (t ∷ ts) = no_types_used ts
 
 nothing_required : (files : List PackageFile) (ks : List Key) (s : Address) (ts : List ForeignUse) → AreRequired files ks (turn_handles (record { address = s; names = map (λ (t : ForeignUse). ForeignName t.attributes t.id) ts; functions = [] })) []
 nothing_required files ks s ts = subst (λ (types : List Written). AreRequired files ks (map (λ id. (s, id)) (all_handles (types ++ []))) []) (sym (no_types_used ts)) (required_none files ks)
-
--- what is taken is named
-used_named : (files : List PackageFile) (ts : List ForeignUse) (i : ℕ) (e : TypeDef) → slice_get (map (foreign_type files) ts) i ≡ Some e → e.name ≡ None → ⊥
-used_named files ts i e there none =
-    let t = map_at (foreign_type files) ts i e there in
-    cc (ap (λ (x : TypeDef). x.name) t.2)
 
 -- the scope of an interface in front has its names in turn
 pub prefix_interface_done : (files : List PackageFile) (ks : List Key) (i : ℕ) (v : ForeignVisit) (x : Interface) → IsForeignInterface files ks v x → IsDoneScope files (interface_scope files i v x)
@@ -216,9 +211,9 @@ module _ (files : List PackageFile) (uses : AreUsableUses files (all_items files
   prefix_differ = subst AllDiffer (sym (map-append done_address (interface_scopes files 0 visits prefix) (world_scopes 0 (foreign_worlds files)) ∙ ap (λ l. l ++ map done_address (world_scopes 0 (foreign_worlds files))) (map-interface_scopes files 0 visits prefix (interfaces_count adds)) ∙ ap (λ l. map visited visits ++ l) (map-world_scopes 0 (foreign_worlds files)))) (differ_join (map visited visits) (map visited (foreign_worlds files)) (visited_addresses files).interfaces (visited_addresses files).worlds (visited_addresses files).apart)
 
   module _ (decls : Decls) (interfaces_own : (i : ℕ) (v : ForeignVisit) → slice_get visits i ≡ Some v → decls (visited v) ≡ (scope files (visited v), (owner.Interface i))) (worlds_own : (i : ℕ) (w : ForeignVisit) → slice_get (foreign_worlds files) i ≡ Some w → decls (visited w) ≡ (scope files (visited w), (owner.World i))) where
-    -- the entry of a name that is taken
-    used_entry : (ks : List Key) (j : ℕ) (t : ForeignUse) → slice_get ts j ≡ Some t → IsEntry decls ks (Def t.from t.id.name.now) (foreign_type files t)
-    used_entry ks j t at =
+    -- a name that is taken is one of its scope, of its owner
+    used_owned : (j : ℕ) (t : ForeignUse) → slice_get ts j ≡ Some t → Contains (decls t.from).0 (ForeignName t.attributes t.id) × (prefix_owner t.from ≡ (decls t.from).1)
+    used_owned j t at =
         let s = t.from in
         let v = first_from files uses j t at in
         let o = owner.Interface v.0 in
@@ -226,20 +221,25 @@ module _ (files : List PackageFile) (uses : AreUsableUses files (all_items files
         let names : scope files s ≡ used_names files s = ap (scope files) (sym v.3) ∙ ap (used_names files) v.3 in
         let declared : decls s ≡ (scope files s, o) = subst (λ z. decls z ≡ (scope files z, o)) v.3 (interfaces_own v.0 v.1 v.2) in
         let whose : prefix_owner s ≡ o = ap prefix_owner (sym v.3) ∙ interface_owner_at (map visited visits) (map visited (foreign_worlds files)) (visited_addresses files) v.0 (visited v.1) (slice_get-map visited visits v.0 ∙ ap (option_map visited) v.2) in
-        (k.0, ForeignName t.attributes t.id, ap (λ (d : List ScopeName × TypeOwner). slice_get d.0 k.0) declared ∙ ap (λ l. slice_get l k.0) names ∙ k.1, refl, refl, refl, whose ∙ sym (ap (λ (d : List ScopeName × TypeOwner). d.1) declared), refl, tt, record { docs = refl; stability = refl; external_id = refl })
+        (contains_at (decls s).0 k.0 (ForeignName t.attributes t.id) (ap (λ (d : List ScopeName × TypeOwner). slice_get d.0 k.0) declared ∙ ap (λ l. slice_get l k.0) names ∙ k.1), whose ∙ sym (ap (λ (d : List ScopeName × TypeOwner). d.1) declared))
+
+    used_entry : (fs : List TypeDef) (id : Key → ℕ) (j : ℕ) (t : ForeignUse) → slice_get ts j ≡ Some t → IsEntryOf (λ s. (decls s).0) (λ s. (decls s).1) id fs (Def t.from t.id.name.now) t.id.span (stability_of t.attributes) (foreign_type files t)
+    used_entry fs id j t at = (ForeignName t.attributes t.id, Unknown, (used_owned j t at).0, refl, refl, ap (λ (o : TypeOwner). named o t.id.name.now Unknown (metadata no_docs t.attributes) t.id.span) (used_owned j t at).1)
 
     used_occurrence : IsOccurrence decls seen es
     used_occurrence = record {
-      keyed = record {
-        count = ap length adds.types ∙ length-map ts (foreign_type files) ∙ sym (length-map ts foreign_use_key) ∙ ap length (sym (keys-foreign_uses ts));
-        once = foreign_keys_differ files;
-        each = λ j k e key entry. (
-            let t = foreign_use_of j k key in
-            let u = map_at (foreign_type files) ts j e (ap (λ l. slice_get l j) (sym adds.types) ∙ entry) in
-            subst (λ x. IsEntry decls (take j (keys seen)) x e) t.2 (subst (λ x. IsEntry decls (take j (keys seen)) (Def t.0.from t.0.id.name.now) x) (ap (foreign_type files) (same_some (sym t.1 ∙ u.1)) ∙ u.2) (used_entry (take j (keys seen)) j t.0 t.1)));
-      };
-      spans = ap (map (λ (e : TypeDef). e.span)) adds.types ∙ map_map (λ (e : TypeDef). e.span) (foreign_type files) ts ∙ sym (map_map (λ (m : Occurrence). m.span) foreign_use_occurrence ts);
-      settled = λ i m e at there none. absurd (used_named files ts i e (ap (λ l. slice_get l i) (sym adds.types) ∙ there) none);
+      count = ap length adds.types ∙ length-map ts (foreign_type files) ∙ sym (length-map ts foreign_use_occurrence);
+      once = foreign_keys_differ files;
+      named = λ j m s name at key. (
+          let t = map_at foreign_use_occurrence ts j m at in
+          let same : Def t.0.from t.0.id.name.now ≡ Def s name = ap (λ (m : Occurrence). m.key) t.2 ∙ key in
+          let from : t.0.from ≡ s = cc in
+          let called : t.0.id.name.now ≡ name = cc in
+          (ForeignName t.0.attributes t.0.id, subst (λ z. Contains (decls z).0 (ForeignName t.0.attributes t.0.id)) from (used_owned j t.0 t.1).0, called, ap (λ (m : Occurrence). m.span) (sym t.2)));
+      each = λ j m e at there id gives. (
+          let t = map_at foreign_use_occurrence ts j m at in
+          let u = map_at (foreign_type files) ts j e (ap (λ l. slice_get l j) (sym adds.types) ∙ there) in
+          rw (← t.2, ← u.2, ← same_some (sym t.1 ∙ u.1)) (used_entry (take j es) id j t.0 t.1));
     }
 
     -- a name that occurred is one of its scope

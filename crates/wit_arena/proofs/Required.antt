@@ -1,6 +1,6 @@
 -- What handles require of other packages: what is given by the arena is what the files say.
 use Rattle.std.proofs.Common.{◌≡◌, ℕ, ◌+◌, List, [], ◌∷◌, ◌++◌, length, map, Option, Some, None, ◌⊎◌, inl, inr, refl, sym, ap, ◌∙◌, subst, arith, zero, suc, length-append}
-use Rattle.wit_arena.proofs.Names.{Address, AllZip, AreEnded, AreNames, AreRequired, Decls, Def, Env, HandleRequires, Id, IsKeyed, IsResource, Key, OneByOne, PackageFile, Required, TypeDef, at_split, cons_option, filter_map, filter_map-append, slice_get, slice_get_within}
+use Rattle.wit_arena.proofs.Names.{Address, AllZip, AreEnded, AreNames, AreRequired, Decls, Def, Env, HandleRequires, Id, IsOccurrence, IsResource, Key, Occurrence, OneByOne, PackageFile, Required, TypeDef, at_split, cons_option, filter_map, filter_map-append, keys, slice_get, slice_get_within}
 use Rattle.wit_arena.specs.Kind as ends
 use Rattle.wit_arena.proofs.OneKind.{Extended, key_extended}
 use Rattle.wit_arena.proofs.Ends.{IsDeclared, entry_end-more, end_source}
@@ -91,11 +91,14 @@ required_extended files {a} {b} g hs rs h = (h.0, zip_weaker (HandleRequires fil
 abbrev pub in_scope : Address → Id → Address × Id
 in_scope s id = (s, id)
 
-module _ (files : List PackageFile) (decls : Decls) (ks : List Key) (es : List TypeDef) (m : IsKeyed decls ks es) (scopes : (j : ℕ) (t : Address) (name : List ℕ) → slice_get ks j ≡ Some (Def t name) → IsDeclared files decls t) (s : Address) (env : Env) (names : AreNames ks s env) where
+module _ (files : List PackageFile) (decls : Decls) (ms : List Occurrence) (es : List TypeDef) (m : IsOccurrence decls ms es) (scopes : (j : ℕ) (t : Address) (name : List ℕ) → slice_get (keys ms) j ≡ Some (Def t name) → IsDeclared files decls t) (s : Address) (env : Env) (names : AreNames (keys ms) s env) where
+  abbrev ks : List Key
+  ks = keys ms
+
   -- what is required is what the files say
   pub ended_required : (ids : List Id) (rs : List Required) → AreEnded env es ids rs → AreRequired files ks (map (in_scope s) ids) rs
   ended_required [] rs h = subst (AreRequired files ks []) (sym h) (required_none files ks)
-  ended_required (id ∷ ids) rs (place, steps, present, inl own) = required_more files ks (s, id) None (map (in_scope s) ids) rs (end_source files decls ks es m scopes steps place s id IsResource (names.present id.name.now place present) own.0) (ended_required ids rs own.1)
+  ended_required (id ∷ ids) rs (place, steps, present, inl own) = required_more files ks (s, id) None (map (in_scope s) ids) rs (end_source files decls ms es m scopes steps place s id IsResource (names.present id.name.now place present) own.0) (ended_required ids rs own.1)
   ended_required (id ∷ ids) rs (place, steps, present, inr far) =
-      let it = end_source files decls ks es m scopes steps place s id (ends.IsUnknown far.0) (names.present id.name.now place present) far.2 in
+      let it = end_source files decls ms es m scopes steps place s id (ends.IsUnknown far.0) (names.present id.name.now place present) far.2 in
       subst (AreRequired files ks (map (in_scope s) (id ∷ ids))) (sym far.3) (required_more files ks (s, id) (Some (far.0, id.span)) (map (in_scope s) ids) far.1 (it.0, it.1, it.3, it.2, refl) (ended_required ids far.1 far.4))

@@ -1,39 +1,14 @@
 -- What occurs in types, one after another.
-use Rattle.std.proofs.Common.{ℕ, List, [], ◌∷◌, ◌++◌, refl, sym, ap, ◌∙◌, ◌≡◌, map, Some, subst, arith, ◌+◌}
-use Rattle.wit_arena.proofs.Names.{Address, AreAt, AreResolved, End, Env, Exprs, IsInterned, Occurrence, Of, Span, Stability, TypeDef, TypeDefKind, Whole, all_seen, append-nil, joined, keys, kind_of, one, Shape, Shapes, expr_of, exprs_of, seen, shape_occurrences, shapes_occurrences, AreFunctions, AreNames, Collects, Def, Form, Function, Key, OneByOne, Param, SourceFunction, SourceParam, Unknown, all_function_occurrences, all_params, at_within, flat_map, flat_map-flat_map, function_types, gathered, signature, slice_get, slice_get_within, AddsFunctions, AreMetadata, AreShapes, Names, docs_of, env_of, flat_map-append, metadata, AllDiffer, AreDistinct, AreRequired, Decls, FunctionKey, IsOccurrence, PackageFile, Required, ResolvedScope, ScopeName, Turned, TypeOwner, functions_at, local_name, local_names, name_exprs, scope, turn_handles, GivesPlaces, Id, function_in, map-append, role_kind}
+use Rattle.std.proofs.Common.{ℕ, List, [], ◌∷◌, ◌++◌, refl, sym, ap, ◌∙◌, ◌≡◌, map, Some, subst, arith, ◌+◌, append_assoc}
+use Rattle.wit_arena.proofs.Names.{Address, AreResolved, End, Env, Exprs, IsInterned, Occurrence, Of, Span, Stability, TypeDef, TypeDefKind, Whole, all_seen, append-nil, keys, kind_of, one, Shape, Shapes, expr_of, exprs_of, seen, shape_occurrences, shapes_occurrences, AreFunctions, AreNames, Collects, Def, Form, Function, Key, OneByOne, SourceFunction, Unknown, all_function_occurrences, all_params, at_within, flat_map, flat_map-flat_map, function_types, gathered, signature, slice_get, slice_get_within, AddsFunctions, AreMetadata, AreShapes, Names, docs_of, env_of, flat_map-append, metadata, AllDiffer, AreDistinct, AreRequired, Decls, FunctionKey, IsOccurrence, PackageFile, Required, ResolvedScope, ScopeName, Turned, TypeOwner, functions_at, local_name, local_names, name_exprs, scope, turn_handles, types_of, GivesPlaces, Id, IsKeyed, all_shapes, function_in, map-append, role_kind, shape_of, «Type» as Written}
 use Rattle.wit_types.specs.declared.types.«Type».{«Type» as Ty}
 use Rattle.wit_types.specs.declared.types.«Type».TheVariants as type
-use Rattle.wit_arena.proofs.OneKind.{all_at_extended, all_at_joined, all_seen-joined}
 use Rattle.wit_arena.proofs.Occurrence.{keys-append, collects_extended, extends_then, names_kept, occur_whole, IsOnly, Has, no_defs, has_from, collects_append}
-use Rattle.wit_arena.proofs.Placing.{all_at-types_of, gives_fewer}
+use Rattle.wit_arena.proofs.Placing.{AreOver, gives_fewer, keyed_by}
 use Rattle.wit_arena.proofs.PlacingFunctions.{as_written, function_same, said, types_gathered}
 use Rattle.wit_arena.proofs.FreeNames.{free_of, AreStated}
 use Rattle.wit_syntax.specs.Shape as shape
 use Rattle.wit_arena.specs.Occurrences as exprs
-
--- nothing occurs
-pub resolved_none : (es : List TypeDef) (s : Address) (env : Env) → AreResolved es es s env [] End []
-resolved_none es s env = record { same = refl; from = λ decls ms m names. record { now = ms; collects = refl; occurrence = m; holds = tt } }
-
--- some types, and then others
-pub resolved_more : {old mid new : List TypeDef} {s : Address} {env : Env} {a b : List Occurrence} {es fs : Exprs} {ts us : List Ty} → AreResolved old mid s env a es ts → AreResolved mid new s env b fs us → AreResolved old new s env (a ++ b) (joined es fs) (ts ++ us)
-resolved_more {old} {mid} {new} {s} {env} {a} {b} {es} {fs} {ts} {us} p q = record {
-  same = keys-append a b ∙ ap (λ ks. ks ++ keys b) p.same ∙ ap (λ ks. all_seen es ++ ks) q.same ∙ sym (all_seen-joined es fs);
-  from = λ decls ms m names. (
-      let x = p.from decls ms m names in
-      let y = q.from decls x.now x.occurrence (names_kept ms x.now a s env es p.same x.collects names) in
-      extends_then (λ ks. AreAt ks (joined es fs) (ts ++ us)) x y (all_at_joined (keys y.now) es fs ts us (all_at_extended (collects_extended b x.now y.now y.collects) es ts x.holds) y.holds));
-}
-
--- the whole after its parts
-pub resolved_whole : {old mid new : List TypeDef} {s : Address} {env : Env} {a : List Occurrence} {es : Exprs} (kind : TypeDefKind) (given : Stability) (span : Span) (i : ℕ) → IsOnly kind → AreResolved old mid s env a es (kind_of kind).1 → IsInterned mid new kind given span i → AreResolved old new s env (a ++ record { key = Whole (kind_of kind).0 es; span = span; given = given } ∷ []) (one (Of (kind_of kind).0 es)) (type.Id i ∷ [])
-resolved_whole {old} {mid} {new} {s} {env} {a} {es} kind given span i only p interned = record {
-  same = keys-append a (record { key = Whole (kind_of kind).0 es; span = span; given = given } ∷ []) ∙ ap (λ ks. ks ++ Whole (kind_of kind).0 es ∷ []) p.same ∙ sym (append-nil (all_seen es ++ Whole (kind_of kind).0 es ∷ []));
-  from = λ decls ms m names. (
-      let x = p.from decls ms m names in
-      let y = occur_whole decls x.now mid new kind given span es i only x.occurrence x.holds interned in
-      extends_then (λ ks. AreAt ks (one (Of (kind_of kind).0 es)) (type.Id i ∷ [])) x y ((i, refl, y.holds), tt));
-}
 
 -- What occurs in types, by its keys.
 -- what occurs in types are the unnamed expressions in them
@@ -45,6 +20,46 @@ mutual
   pub keys-shapes : (s : Address) (given : Stability) (xs : Shapes) → keys (shapes_occurrences s given xs) ≡ all_seen (exprs_of s xs)
   keys-shapes s given shape.End = refl
   keys-shapes s given (shape.More x xs) = keys-append (shape_occurrences s given x) (shapes_occurrences s given xs) ∙ ap (λ ks. ks ++ keys (shapes_occurrences s given xs)) (keys-shape s given x) ∙ ap (λ ks. seen (expr_of s x) ++ ks) (keys-shapes s given xs)
+
+-- shapes and then others
+abbrev pub both_shapes : Shapes → Shapes → Shapes
+both_shapes shape.End ys = ys
+both_shapes (shape.More x xs) ys = shape.More x (both_shapes xs ys)
+
+occurrences-both : (s : Address) (given : Stability) (xs ys : Shapes) → shapes_occurrences s given (both_shapes xs ys) ≡ shapes_occurrences s given xs ++ shapes_occurrences s given ys
+occurrences-both s given shape.End ys = refl
+occurrences-both s given (shape.More x xs) ys = ap (λ ms. shape_occurrences s given x ++ ms) (occurrences-both s given xs ys) ∙ sym (append_assoc (shape_occurrences s given x) (shapes_occurrences s given xs) (shapes_occurrences s given ys))
+
+types-both : (id : Key → ℕ) (s : Address) (xs ys : Shapes) → types_of id (exprs_of s (both_shapes xs ys)) ≡ types_of id (exprs_of s xs) ++ types_of id (exprs_of s ys)
+types-both id s shape.End ys = refl
+types-both id s (shape.More x xs) ys = ap (λ (l : List Ty). exprs.type_of id (expr_of s x) ∷ l) (types-both id s xs ys)
+
+pub all_shapes-append : (ts us : List Written) → all_shapes (ts ++ us) ≡ both_shapes (all_shapes ts) (all_shapes us)
+all_shapes-append [] us = refl
+all_shapes-append (t ∷ ts) us = ap (shape.More (shape_of t)) (all_shapes-append ts us)
+
+-- nothing occurs
+pub resolved_none : (es : List TypeDef) (s : Address) (env : Env) (given : Stability) → AreResolved es es s env given shape.End []
+resolved_none es s env given = record { from = λ decls ms m names. record { now = ms; collects = refl; occurrence = m; holds = λ id gives. refl } }
+
+-- some types, and then others
+pub resolved_more : {old mid new : List TypeDef} {s : Address} {env : Env} {given : Stability} {xs ys : Shapes} {ts us : List Ty} → AreResolved old mid s env given xs ts → AreResolved mid new s env given ys us → AreResolved old new s env given (both_shapes xs ys) (ts ++ us)
+resolved_more {old} {mid} {new} {s} {env} {given} {xs} {ys} {ts} {us} p q = record {
+  from = λ decls ms m names. (
+      let x = p.from decls ms m names in
+      let y = q.from decls x.now x.occurrence (names_kept ms x.now (shapes_occurrences s given xs) s env (exprs_of s xs) (keys-shapes s given xs) x.collects names) in
+      rw (occurrences-both s given xs ys) (extends_then (λ ks. AreOver ks (exprs_of s (both_shapes xs ys)) (ts ++ us)) x y (λ id gives. ap (λ (l : List Ty). l ++ us) (x.holds id (gives_fewer (collects_extended (shapes_occurrences s given ys) x.now y.now y.collects) id gives)) ∙ ap (λ (l : List Ty). types_of id (exprs_of s xs) ++ l) (y.holds id gives) ∙ sym (types-both id s xs ys))));
+}
+
+-- the whole after its parts
+pub resolved_whole : {old mid new : List TypeDef} {s : Address} {env : Env} {xs : Shapes} (kind : TypeDefKind) (given : Stability) (span : Span) (i : ℕ) → IsOnly kind → AreResolved old mid s env given xs (kind_of kind).1 → IsInterned mid new kind given span i → AreResolved old new s env given (shape.More (shape.Of span (kind_of kind).0 xs) shape.End) (type.Id i ∷ [])
+resolved_whole {old} {mid} {new} {s} {env} {xs} kind given span i only p interned = record {
+  from = λ decls ms m names. (
+      let x = p.from decls ms m names in
+      let whole = Whole (kind_of kind).0 (exprs_of s xs) in
+      let y = occur_whole decls x.now mid new kind given span (exprs_of s xs) i only x.occurrence x.holds interned in
+      rw (append-nil (shapes_occurrences s given xs ++ record { key = whole; span = span; given = given } ∷ [])) (extends_then (λ ks. AreOver ks (one (Of (kind_of kind).0 (exprs_of s xs))) (type.Id i ∷ [])) x y (λ id gives. ap (λ (n : ℕ). type.Id n ∷ []) (sym (gives.at i whole y.holds)))));
+}
 
 -- What occurs in functions, and the types of functions of the package.
 -- the expressions in functions
@@ -104,15 +119,12 @@ functions_append old mid new s names fns gns fs gs p q = record {
       });
 }
 
-pub shapes_none : (es : List TypeDef) (s : Address) (env : Env) → AreShapes es es s env [] []
-shapes_none es s env = resolved_none es s env
-
-gathered_exprs : (s : Address) (xs ys : List Shape) → exprs_of s (gathered (xs ++ ys)) ≡ joined (exprs_of s (gathered xs)) (exprs_of s (gathered ys))
-gathered_exprs s [] ys = refl
-gathered_exprs s (x ∷ xs) ys = ap (λ (es : Exprs). exprs.More (expr_of s x) es) (gathered_exprs s xs ys)
+gathered-append : (xs ys : List Shape) → gathered (xs ++ ys) ≡ both_shapes (gathered xs) (gathered ys)
+gathered-append [] ys = refl
+gathered-append (x ∷ xs) ys = ap (shape.More x) (gathered-append xs ys)
 
 pub shapes_append : (old mid new : List TypeDef) (s : Address) (env : Env) (xs ys : List Shape) (ts us : List Ty) → AreShapes old mid s env xs ts → AreShapes mid new s env ys us → AreShapes old new s env (xs ++ ys) (ts ++ us)
-shapes_append old mid new s env xs ys ts us p q = subst (λ (ms : List Occurrence). AreResolved old new s env ms (exprs_of s (gathered (xs ++ ys))) (ts ++ us)) (sym (flat_map-append (shape_occurrences s Unknown) xs ys)) (subst (λ (es : Exprs). AreResolved old new s env (flat_map (shape_occurrences s Unknown) xs ++ flat_map (shape_occurrences s Unknown) ys) es (ts ++ us)) (sym (gathered_exprs s xs ys)) (resolved_more p q))
+shapes_append old mid new s env xs ys ts us p q = rw (gathered-append xs ys) (resolved_more p q)
 
 -- a function of the package is the written one apart from its types
 pub record SaysFunction (env : Env) (fn : SourceFunction) (f : Function) : Type 0 where
@@ -123,10 +135,10 @@ pub record SaysFunction (env : Env) (fn : SourceFunction) (f : Function) : Type 
   pub metadata : AreMetadata (metadata (docs_of fn.docs) fn.attributes) f.docs f.stability f.external_id
 
 -- a function whose types are at their places is the written one
-function_is : (ks : List Key) (s : Address) (env : Env) (fn : SourceFunction) (f : Function) → AreNames ks s env → SaysFunction env fn f → AreAt ks (exprs_of s (gathered (signature fn))) (function_types f) → (id : Key → ℕ) → GivesPlaces id ks → f ≡ function_in id s fn
+function_is : (ks : List Key) (s : Address) (env : Env) (fn : SourceFunction) (f : Function) → AreNames ks s env → SaysFunction env fn f → AreOver ks (exprs_of s (gathered (signature fn))) (function_types f) → (id : Key → ℕ) → GivesPlaces id ks → f ≡ function_in id s fn
 function_is ks s env fn f names says at id gives =
     let kind = says.kind (λ (of : Id). id (Def s of.name.now)) (λ of r meant. gives.at r (Def s of.name.now) (names.present of.name.now r meant)) in
-    let types = all_at-types_of id ks gives (exprs_of s (gathered (signature fn))) (function_types f) at ∙ types_gathered id s (signature fn) in
+    let types = at id gives ∙ types_gathered id s (signature fn) in
     function_same id s fn f says.name kind says.params types says.span says.metadata
 
 -- one function
@@ -134,11 +146,11 @@ pub function_one : (old new : List TypeDef) (s : Address) (names : Names) (fn : 
 function_one old new s names fn f says h = record {
   from = λ decls ms m are_present. (
       let x = h.from decls ms m are_present in
-      let more = flat_map (shape_occurrences s Unknown) (signature fn) in
-      let kept = names_kept ms x.now more s (env_of names) (exprs_of s (gathered (signature fn))) h.same x.collects are_present in
+      let xs = gathered (signature fn) in
+      let kept = names_kept ms x.now (shapes_occurrences s Unknown xs) s (env_of names) (exprs_of s xs) (keys-shapes s Unknown xs) x.collects are_present in
       record {
         now = x.now;
-        collects = subst (λ (l : List Occurrence). Collects ms l x.now) (sym (append-nil more)) x.collects;
+        collects = subst (λ (l : List Occurrence). Collects ms l x.now) (sym (append-nil (flat_map (shape_occurrences s Unknown) (signature fn)) ∙ gathered_occurrences s (signature fn))) x.collects;
         occurrence = x.occurrence;
         holds = λ id gives. ap (λ (g : Function). g ∷ []) (function_is (keys x.now) s (env_of names) fn f kept says x.holds id gives);
       });
@@ -232,6 +244,12 @@ pub record IsPresent (files : List PackageFile) (decls : Decls) (written : List 
   pub are_present : (t : ℕ) (c : DoneScope) → slice_get cs t ≡ Some c → AreNames (keys seen) c.address (env_of c.types)
   pub before : (j : ℕ) (s : Address) (name : List ℕ) → slice_get (keys seen) j ≡ Some (Def s name) → IsNameOf cs s name
   pub made : (t : ℕ) (c : DoneScope) → slice_get cs t ≡ Some c → AreFunctions (keys seen) c.address c.functions c.made
+
+-- each entry is that of its key, whose parts are at their places
+pub keyed_in : {files : List PackageFile} {decls : Decls} {written : List Occurrence} {cs : List DoneScope} {es : List TypeDef} → (d : IsPresent files decls written cs es) → IsKeyed decls (keys d.seen) es
+keyed_in {files} {decls} d = keyed_by d.occurrence (λ j s name at. (
+    let it = d.before j s name at in
+    subst (λ (z : Address). AreDistinct (decls z).0) it.scope (subst (λ (x : List ScopeName × TypeOwner). AreDistinct x.0) (sym (d.own it.place it.resolved_scope it.at)) (d.each it.place it.resolved_scope it.at).turn.distinct)))
 
 abbrev pub members : {files : List PackageFile} {decls : Decls} {written : List Occurrence} {cs : List DoneScope} {es : List TypeDef} → IsDone files decls written cs es → IsPresent files decls written cs es
 members d = record { seen = d.seen; collects = d.collects; occurrence = d.occurrence; each = d.each; own = d.own; are_present = d.are_present; before = d.before; made = d.made }

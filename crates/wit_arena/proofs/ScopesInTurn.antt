@@ -53,7 +53,7 @@ module _ (files : List PackageFile) (decls : Decls) (written : List Occurrence) 
   is_whole : AreWhole files all (gs ++ scope_functions c) (keys functions_step.seen)
   is_whole = record {
     whole = λ t b at. elim (at_either cs c t b at) [
-      | inl old ↦ record { functions = (d.each t b old).functions; stated = (d.each t b old).stated; count = made_count (keys d.seen) b.address d.occurrence.keyed.once b.functions b.made (d.made t b old) }
+      | inl old ↦ record { functions = (d.each t b old).functions; stated = (d.each t b old).stated; count = made_count (keys d.seen) b.address d.occurrence.once b.functions b.made (d.made t b old) }
       | inr new ↦ rw new.1 (record { functions = a.functions; stated = a.stated; count = functions_count files decls (written ++ named) all gs a.middle es' names_step (length cs) c (at_seam cs c) c.functions c.made a.adds })
     ];
     made = λ t k b g at there. elim (at_either cs c t b at) [

@@ -1,6 +1,6 @@
 -- Written types by their parts: the shapes of these, and the names in them.
 use Rattle.std.proofs.Common.{◌≡◌, List, [], ◌∷◌, ◌++◌, refl, sym, ap, ◌∙◌, append_assoc, Vec, ℕ, suc, ◌+◌, false, length, map, Some, inl, inr, subst, arith, length-append, is_some}
-use Rattle.wit_arena.proofs.Names.{Address, Both', Err', Global, Id, Neither, None', Ok', ResultTypes, Row_of-Type, Shape, Shapes, Some', Span, Stability, all_handles, all_shapes, all_words, append-nil, end_of-Type, expr_of, exprs_of, handles, head, joined, more_of-Type, ok_type, part_types, result_types, row_handles, row_shapes, row_types, shape_occurrences, shape_of, shapes_occurrences, tuple_types, words, «Type» as Written, AddsFunctions, AddsInterface, AddsSides, AllDiffer, AreEnded, AreRequired, Collects, Decls, Extern, Function, Interface, InterfaceItem, Item, Key, Link, Names, Occurrence, PackageFile, Required, ResolvedScope, ResultForm, ScopeName, SideFunction, SideInline, SideItem, SideLink, SourceFunction, Turned, TypeDef, address, after_one, all_function_occurrences, all_types, at_back, at_either, at_prefix, at_seam, differ_head, differ_tail, env_of, flat_map, functions, functions_at, functions_imported, in_turn, interface_functions, is_world, item_function, item_inline, keys, map-append, scope, scope_names, slice_get, turn_handles, turn_occurrences, written_types}
+use Rattle.wit_arena.proofs.Names.{Address, Both', Err', Global, Id, Neither, None', Ok', ResultTypes, Row_of-Type, Shape, Shapes, Some', Span, all_handles, all_shapes, all_words, append-nil, end_of-Type, handles, head, more_of-Type, ok_type, part_types, result_types, row_handles, row_shapes, row_types, shape_of, tuple_types, words, «Type» as Written, AddsFunctions, AddsInterface, AddsSides, AllDiffer, AreEnded, AreRequired, Collects, Decls, Extern, Function, Interface, InterfaceItem, Item, Key, Link, Names, Occurrence, PackageFile, Required, ResolvedScope, ResultForm, ScopeName, SideFunction, SideInline, SideItem, SideLink, SourceFunction, Turned, TypeDef, address, after_one, all_function_occurrences, all_types, at_back, at_either, at_prefix, at_seam, differ_head, differ_tail, env_of, flat_map, functions, functions_at, functions_imported, in_turn, interface_functions, is_world, item_function, item_inline, keys, map-append, scope, scope_names, slice_get, turn_handles, turn_occurrences, written_types}
 use Rattle.wit_syntax.proofs.Common.{More, Of, Prim, err_type}
 use Rattle.wit_syntax.specs.Shape.{End}
 use Rattle.wit_arena.proofs.Ordered.{Ordered, turned, side_turns}
@@ -14,7 +14,6 @@ use Rattle.wit_arena.proofs.Resolving.{DoneScope, turn_of, resolved_scope_of, Is
 use Rattle.wit_arena.proofs.Settled.{stated_placed}
 use Rattle.wit_arena.proofs.Turns.{item_of, function_turn, occurrences, all_name_occurrences}
 use Rattle.wit_type_tree.specs.declared.types.«Type».TheVariants as written
-use Rattle.wit_arena.specs.Occurrences as exprs
 use Rattle.wit_types.specs.declared.types.TypeOwner.TheVariants as owner
 
 pub row_shapes-all : {m : _} (ts : Row_of-Type m) → row_shapes ts ≡ all_shapes (row_types ts)
@@ -48,15 +47,7 @@ inner-parts _ h = refl
 pub tuple_inner : (span : Span) (v : Vec Written Global) → inner (shape_of (written.Tuple span v)) ≡ all_shapes v.items
 tuple_inner span v = inner-parts (written.Tuple span v) tt ∙ ap all_shapes (tuple_types span v)
 
--- types after others
-pub all_exprs-append : (s : Address) (ts us : List Written) → exprs_of s (all_shapes (ts ++ us)) ≡ joined (exprs_of s (all_shapes ts)) (exprs_of s (all_shapes us))
-all_exprs-append s [] us = refl
-all_exprs-append s (t ∷ ts) us = ap (exprs.More (expr_of s (shape_of t))) (all_exprs-append s ts us)
-
-pub all_occurrences-append : (s : Address) (given : Stability) (ts us : List Written) → shapes_occurrences s given (all_shapes (ts ++ us)) ≡ shapes_occurrences s given (all_shapes ts) ++ shapes_occurrences s given (all_shapes us)
-all_occurrences-append s given [] us = refl
-all_occurrences-append s given (t ∷ ts) us = ap (λ ms. shape_occurrences s given (shape_of t) ++ ms) (all_occurrences-append s given ts us) ∙ sym (append_assoc (shape_occurrences s given (shape_of t)) (shapes_occurrences s given (all_shapes ts)) (shapes_occurrences s given (all_shapes us)))
-
+-- words of types after others
 pub all_words-append : (ts us : List Written) → all_words (all_shapes (ts ++ us)) ≡ all_words (all_shapes ts) ++ all_words (all_shapes us)
 all_words-append [] us = refl
 all_words-append (t ∷ ts) us = ap (λ ids. words (shape_of t) ++ ids) (all_words-append ts us) ∙ sym (append_assoc (words (shape_of t)) (all_words (all_shapes ts)) (all_words (all_shapes us)))

@@ -4,7 +4,7 @@ use Rattle.wit_arena.proofs.Names.{Address, Attribute, Collects, Decls, Def, Def
 use Rattle.wit_arena.proofs.OneKind.{Extended, key_extended}
 use Rattle.wit_arena.proofs.Shape.{key_of}
 use Rattle.wit_arena.proofs.Forms.{body_known}
-use Rattle.wit_arena.proofs.Resolving.{DoneScope, IsPresent}
+use Rattle.wit_arena.proofs.Resolving.{keyed_in, DoneScope, IsPresent}
 use Rattle.wit_arena.proofs.Itemizing.{own_names}
 use Rattle.wit_arena.proofs.ForeignUses.{foreign_use_key, keys-foreign_uses, foreign_uses_seen, used_at, used_name_at}
 use Rattle.wit_arena.proofs.Occurrence.{collects_longer}
@@ -43,7 +43,7 @@ module _ (files : List PackageFile) (decls : Decls) (written : List Occurrence) 
       let of = d.before i s name here in
       let c = of.resolved_scope in
       let own : slice_get (keys d.seen) i ≡ Some (Def c.address name) = here ∙ ap (λ (z : Address). Some (Def z name)) (sym of.scope) in
-      let it = d.occurrence.keyed.each i (Def c.address name) e own there in
+      let it = (keyed_in d).each i (Def c.address name) e own there in
       (it.0, it.1, ap (λ (z : Address). slice_get (scope files z) it.0) (sym of.scope) ∙ ap (λ (d : List ScopeName × TypeOwner). slice_get d.0 it.0) (sym (d.own of.place c of.at)) ∙ it.2, it.7, it.3)
 
   -- and has an unknown form there
@@ -58,7 +58,7 @@ module _ (files : List PackageFile) (decls : Decls) (written : List Occurrence) 
   foreign_prefix i s name k x here foreign at called =
       let y = foreign_name files s k x foreign at in
       let key : foreign_use_key y.1 ≡ Def s name = ap (λ (z : Address). Def z y.1.id.name.now) y.3 ∙ ap (Def s) (sym (ap local_name y.4) ∙ called) in
-      let same = d.occurrence.keyed.once.differ i y.0 (Def s name) here ((key_extended prefix y.0 (foreign_use_key y.1) (slice_get-map foreign_use_key ts y.0 ∙ ap (option_map foreign_use_key) y.2)) ∙ ap Some key) in
+      let same = d.occurrence.once.differ i y.0 (Def s name) here ((key_extended prefix y.0 (foreign_use_key y.1) (slice_get-map foreign_use_key ts y.0 ∙ ap (option_map foreign_use_key) y.2)) ∙ ap Some key) in
       let lt = slice_get_within ts y.0 y.1 y.2 in
       omega arith
 
@@ -70,11 +70,11 @@ module _ (files : List PackageFile) (decls : Decls) (written : List Occurrence) 
         | inl foreign ↦ foreign_prefix i s name x.0 x.1 here foreign x.2 x.4
         | inr own ↦ absurd (let t = unknown_used x.1 (sym x.3 ∙ unknown) in own_name files s x.0 t.0 t.1 own (x.2 ∙ ap Some t.2))
       ]
-  unknown_at i (Whole form parts) e here there unknown = absurd (subst IsAnonymousForm unknown (formed i e there (d.occurrence.keyed.each i (Whole form parts) e here there).0))
+  unknown_at i (Whole form parts) e here there unknown = absurd (subst IsAnonymousForm unknown (formed i e there ((keyed_in d).each i (Whole form parts) e here there).0))
 
   -- so these are the prefix
   pub unknown_prefix : (i : ℕ) (e : TypeDef) → slice_get es i ≡ Some e → ((kind_of e.kind).0 ≡ UnknownForm) ↔ (i < length ts)
   unknown_prefix i e at = (
-    λ unknown. (let k = key_of decls (keys d.seen) es d.occurrence.keyed i e at in unknown_at i k.0 e k.1 at unknown),
+    λ unknown. (let k = key_of decls (keys d.seen) es (keyed_in d) i e at in unknown_at i k.0 e k.1 at unknown),
     λ lt. (let t = at_within ts i lt in prefix_unknown i t.0 e t.1 at),
   )

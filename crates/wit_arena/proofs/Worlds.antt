@@ -142,7 +142,7 @@ module _ (files : List PackageFile) (is ws : List Item) (interfaces : AreOfSort 
 
       all_of : AreWhole files all_scopes_now (made_before ++ sided.more) (keys function_part.seen)
       all_of = record {
-        whole = of_each (IsScopeWhole files) (λ k x at. record { functions = (e.done.each k x at).functions; stated = (e.done.each k x at).stated; count = made_count (keys e.done.seen) x.address e.done.occurrence.keyed.once x.functions x.made (e.done.made k x at) }) (record { functions = sym (functions_of files ws (item_scopes files ws ws_items) (length us) w next); stated = stated_all; count = sided.count }) sided.whole;
+        whole = of_each (IsScopeWhole files) (λ k x at. record { functions = (e.done.each k x at).functions; stated = (e.done.each k x at).stated; count = made_count (keys e.done.seen) x.address e.done.occurrence.once x.functions x.made (e.done.made k x at) }) (record { functions = sym (functions_of files ws (item_scopes files ws ws_items) (length us) w next); stated = stated_all; count = sided.count }) sided.whole;
         made = made_among;
         required = of_each (λ (x : DoneScope). AreRequired files (keys function_part.seen) (turn_handles (turn_of x)) x.required) (λ k x at. required_extended files extended_before (turn_handles (turn_of x)) x.required (e.done.required k x at)) own_required as_stated.each;
       }

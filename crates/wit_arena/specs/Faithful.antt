@@ -3,10 +3,10 @@ use Rattle.std.specs.Prelude.{◌≡◌, ◌↔◌, ◌<◌, ℕ, All, List, [],
 use Rattle.wit_arena.specs.Names.{Address, AliasForm, EnumForm, FlagsForm, Form, Function, IsLegal, Leaf, Named, Node, Nothing, OwnForm, PackageFile, Place, RecordForm, ResourceForm, ScopeName, Shape, SourceFunction, TypeDef, TypeOwner, UnknownForm, Unnamed, UnresolvedPackage, VariantForm, Word, function_key, local_id, local_name, scope, signature, source_node, source_tree, «Type» as Ty}
 use Rattle.wit_types.specs.declared.types.«Type».TheVariants.{Id}
 use Rattle.wit_arena.specs.Kind.{kind_of}
-use Rattle.wit_arena.specs.Occurrences.{expr_of, Def, keys}
+use Rattle.wit_arena.specs.Occurrences.{expr_of, Def, keys, type_of}
 use Rattle.wit_arena.specs.UnfoldedTypes.{owner_of, names_of, functions_of, function_types, package_node, package_tree, IsBelow}
 use Rattle.wit_arena.specs.Whole.{functions_at}
-use Rattle.wit_arena.specs.Made.{Makes, type_of}
+use Rattle.wit_arena.specs.Made.{Makes}
 
 -- the parts of one level
 abbrev pub node_parts : {X : Type 0} → Node X → List X

@@ -1,26 +1,15 @@
 -- The package that files make, as a value.
 use Rattle.std.specs.Prelude.{if◌then◌else◌, ◌≡◌, ◌↔◌, ℕ, Bool, true, List, [], ◌∷◌, ◌++◌, length, map, take, Option, Some, None, Contains, slice_get}
-use Rattle.wit_arena.specs.Names.{Address, Constructor, Exported, ExternalId, ForeignUse, ForeignVisit, Freestanding, Function, FunctionKind, Id, Imported, Include, Interface, IsOrder, Item, Metadata, Method, OnSide, PackageFile, Role, ScopeName, SideFunction, SideInline, SideItem, SideLink, SourceFunction, SourceParam, Span, Stability, Static, TopName, TypeDef, TypeDefKind, TypeOwner, UnresolvedPackage, World, WorldInclude, WorldItem, WorldKey, WorldNamed, WorldSide, about, about_name, address, all_items, all_params, all_scopes, declared_metadata, docs_of, filter_map, first_foreign_uses, first_known, firsts, flat_map, foreign_interfaces, foreign_packages, foreign_worlds, functions, headers, in_order, in_turn, includes, inline_items, interfaces_of, members, item_rows, last_header, leads, local_id, local_name, no_docs, option_map, package_of, path_id, path_scope, placed, position_or_len, primitive_type, role_side, rows_of, same_side, scope, scope_names, stability_of, stated_text, target_scope, unwrap_or, visited, worlds_of, «Type» as Ty, metadata}
+use Rattle.wit_arena.specs.Names.{Address, Constructor, Exported, ExternalId, ForeignUse, ForeignVisit, Freestanding, Function, FunctionKind, Id, Imported, Include, Interface, IsOrder, Item, Metadata, Method, OnSide, PackageFile, Role, ScopeName, SideFunction, SideInline, SideItem, SideLink, SourceFunction, SourceParam, Span, Stability, Static, TopName, TypeDef, TypeDefKind, TypeOwner, UnresolvedPackage, World, WorldInclude, WorldItem, WorldKey, WorldNamed, WorldSide, about, about_name, address, all_items, all_params, all_scopes, declared_metadata, docs_of, filter_map, first_foreign_uses, first_known, firsts, flat_map, foreign_interfaces, foreign_packages, foreign_worlds, functions, headers, in_order, in_turn, includes, inline_items, interfaces_of, members, item_rows, last_header, leads, local_id, local_name, no_docs, option_map, package_of, path_id, path_scope, placed, position_or_len, role_side, rows_of, same_side, scope, scope_names, stability_of, stated_text, target_scope, unwrap_or, visited, worlds_of, metadata}
 use Rattle.wit_tree.specs.declared.tree.PackageName.{PackageName as Header}
 use Rattle.wit_types.specs.declared.types.TypeOwner.TheVariants as owner
-use Rattle.wit_types.specs.declared.types.«Type».TheVariants as type
 use Rattle.wit_functions.specs.declared.function.FunctionKind.TheVariants as kind
 use Rattle.wit_model.specs.declared.world.WorldKey.TheVariants as key
 use Rattle.wit_model.specs.declared.world.WorldItem.TheVariants as item
 use Rattle.wit_arena.specs.Kind.{kind_of}
-use Rattle.wit_arena.specs.Occurrences.{Expr, Prim, Use, Of, Exprs, End, More, expr_of, name_exprs, Key, Def, Whole, Occurrence, stability_at}
+use Rattle.wit_arena.specs.Occurrences.{expr_of, name_exprs, Key, Def, Whole, Occurrence, stability_at, type_of, types_of}
 use Rattle.wit_arena.specs.SourceFunctions.{kinds_of, link_item, inline_entry, settled}
 use Rattle.wit_arena.specs.Whole.{Turned, turn_handles, all_occurrences, AreRequired, place_at, owner_at, dep, renamed, first_docs}
-
--- the type of an expression, where this gives the place of what occurs
-abbrev pub type_of : (Key → ℕ) → Expr → Ty
-type_of id (Prim p) = primitive_type p
-type_of id (Use s name) = type.Id (id (Def s name))
-type_of id (Of form parts) = type.Id (id (Whole form parts))
-
-abbrev pub types_of : (Key → ℕ) → Exprs → List Ty
-types_of id End = []
-types_of id (More e es) = type_of id e ∷ types_of id es
 
 -- an entry of the arena of types: one of this name, if it has one, in a scope of this owner, of which this is stated, which is there
 abbrev pub entry : Option (List ℕ) → TypeOwner → Metadata → Span → TypeDefKind → TypeDef

@@ -1,12 +1,12 @@
 -- What resolving does: to the arena of types, from whatever occurred before, and to those of interfaces and worlds.
-use Rattle.std.specs.Prelude.{◌≡◌, ℕ, List, [], ◌∷◌, ◌++◌, length, map, Option, Some, None, ◌⊎◌, slice_get, nat_eq, IsSome, ◌+◌}
-use Rattle.wit_arena.specs.Names.{Address, AreDistinct, Exported, ForeignUse, Function, Id, Imported, Interface, InterfaceNamed, IsOrder, Item, Metadata, PackageFile, ScopeName, Shape, Shapes, SideFunction, SideInline, SideItem, SideLink, SourceFunction, Span, Stability, TypeDef, TypeDefKind, TypeOwner, Unknown, World, WorldNamed, about, address, all_handles, all_types, declared_metadata, first_foreign_uses, flat_map, foreign_interfaces, foreign_worlds, functions as item_functions, in_turn, includes, inline_items, insert_entry, local_name, local_names, lookup, metadata, name_types, no_docs, pointwise, rows_of, scope_names, side_items, unwrap_or, visited, written_types, «Type» as Ty, signature, stability_of, WorldInclude}
-use Rattle.wit_arena.specs.Occurrences.{Expr, Prim, Use, Of, Exprs, End, More, exprs_of, Key, Def, Whole, Occurrence, keys, IsSeen, Collects, AreAt, Decls, IsOccurrence, name_occurrences, settled, shape_occurrences}
+use Rattle.std.specs.Prelude.{◌≡◌, ℕ, List, [], ◌∷◌, ◌++◌, length, map, take, Option, Some, None, Contains, ◌⊎◌, slice_get, nat_eq, IsSome, ◌+◌}
+use Rattle.wit_arena.specs.Names.{Address, AllDiffer, AreDistinct, Exported, ForeignUse, Function, Id, Imported, Interface, InterfaceNamed, IsOrder, Item, Metadata, PackageFile, ScopeName, Shape, Shapes, SideFunction, SideInline, SideItem, SideLink, SourceFunction, Span, Stability, TypeDef, TypeDefKind, TypeOwner, Unknown, World, WorldNamed, about, about_name, address, all_handles, all_types, declared_metadata, first_foreign_uses, flat_map, foreign_interfaces, foreign_worlds, functions as item_functions, in_turn, includes, inline_items, insert_entry, local_name, local_names, lookup, metadata, name_types, no_docs, pointwise, rows_of, scope_names, side_items, unwrap_or, visited, written_types, «Type» as Ty, signature, stability_of, WorldInclude}
+use Rattle.wit_arena.specs.Occurrences.{exprs_of, Key, Def, Occurrence, keys, IsSeen, Collects, Decls, name_occurrences, settled, shape_occurrences, shapes_occurrences, types_of}
 use Rattle.wit_arena.specs.UnfoldedTypes.{At}
 use Rattle.wit_arena.specs.SourceFunctions.{freestanding_names, placed_functions, HasSide}
 use Rattle.wit_arena.specs.Kind.{IsResource, IsUnknown as IsUnknownEntry, entry_end}
 use Rattle.wit_types.specs.declared.types.TypeDefKind.TheVariants.{Unknown as UnknownKind}
-use Rattle.wit_arena.specs.Made.{foreign_interface, foreign_world, function_in, include_in, interface, scope_place, world}
+use Rattle.wit_arena.specs.Made.{IsEntryOf, foreign_interface, foreign_world, function_in, include_in, interface, scope_place, world}
 use Rattle.wit_arena.specs.Whole.{owner_at, type_imports}
 use Rattle.wit_types.specs.declared.types.TypeOwner.TheVariants as owner
 use Rattle.wit_syntax.specs.Shape as shape
@@ -39,16 +39,17 @@ pub record AreNames (ks : List Key) (s : Address) (env : Env) : Type 0 where
   pub present : (name : List ℕ) (i : ℕ) → env name ≡ Some i → slice_get ks i ≡ Some (Def s name)
   pub has : (j : ℕ) (name : List ℕ) → slice_get ks j ≡ Some (Def s name) → (i : ℕ) × (env name ≡ Some i)
 
--- everything that occurs in expressions
-abbrev mutual
-  pub seen : Expr → List Key
-  seen (Prim p) = []
-  seen (Use scope name) = []
-  seen (Of form parts) = all_seen parts ++ Whole form parts ∷ []
+-- this gives the place of each of these
+pub record GivesPlaces {X : Type 0} (place : X → ℕ) (xs : List X) : Type 0 where
+  pub at : (i : ℕ) (x : X) → slice_get xs i ≡ Some x → place x ≡ i
 
-  pub all_seen : Exprs → List Key
-  all_seen End = []
-  all_seen (More e es) = seen e ++ all_seen es
+-- The arena is the list of first occurrences: each entry is that of what occurs, over the places of what occurs before it, and a name occurs
+-- where a name of its scope is.
+pub record IsOccurrence (decls : Decls) (ms : List Occurrence) (es : List TypeDef) : Type 0 where
+  pub count : length es ≡ length ms
+  pub once : AllDiffer (keys ms)
+  pub named : (i : ℕ) (m : Occurrence) (s : Address) (name : List ℕ) → slice_get ms i ≡ Some m → m.key ≡ Def s name → (x : ScopeName) × Contains (decls s).0 x × (local_name x ≡ name) × (m.span ≡ (about_name x).span)
+  pub each : (i : ℕ) (m : Occurrence) (e : TypeDef) → slice_get ms i ≡ Some m → slice_get es i ≡ Some e → (id : Key → ℕ) → GivesPlaces id (take i (keys ms)) → IsEntryOf (λ s. (decls s).0) (λ s. (decls s).1) id (take i es) m.key m.span m.given e
 
 -- what occurred, extended by these, with the new arena of it, where something holds of all keys
 pub record Extends (decls : Decls) (ms more : List Occurrence) (new : List TypeDef) (Holds : List Key → Type 0) : Type 0 where
@@ -57,10 +58,10 @@ pub record Extends (decls : Decls) (ms more : List Occurrence) (new : List TypeD
   pub occurrence : IsOccurrence decls now new
   pub holds : Holds (keys now)
 
--- From whatever occurred, the new arena is that with what occurs in the types, and they are at their places.
-pub record AreResolved (old new : List TypeDef) (s : Address) (env : Env) (more : List Occurrence) (es : Exprs) (tys : List Ty) : Type 0 where
-  pub same : keys more ≡ all_seen es
-  pub from : (decls : Decls) (ms : List Occurrence) → IsOccurrence decls ms old → AreNames (keys ms) s env → Extends decls ms more new (λ ks. AreAt ks es tys)
+-- From whatever occurred, the new arena is that with what occurs in types that are written in a definition of this stability, and over the places
+-- of it they are these.
+pub record AreResolved (old new : List TypeDef) (s : Address) (env : Env) (given : Stability) (xs : Shapes) (tys : List Ty) : Type 0 where
+  pub from : (decls : Decls) (ms : List Occurrence) → IsOccurrence decls ms old → AreNames (keys ms) s env → Extends decls ms (shapes_occurrences s given xs) new (λ ks. (id : Key → ℕ) → GivesPlaces id ks → tys ≡ types_of id (exprs_of s xs))
 
 -- the unnamed type of a kind and a stability, written at a span
 abbrev pub unnamed : TypeDefKind → Stability → Span → TypeDef
@@ -139,10 +140,6 @@ pub record IsNameIndex (called : List ℕ → Address) (all : List Address) (by_
   pub present : (name : List ℕ) (t : ℕ) → env_of by_name name ≡ Some t → slice_get all t ≡ Some (called name)
   pub has : (t : ℕ) (name : List ℕ) → slice_get all t ≡ Some (called name) → IsSome (env_of by_name name)
 
--- this gives the place of each of these
-pub record GivesPlaces {X : Type 0} (place : X → ℕ) (xs : List X) : Type 0 where
-  pub at : (i : ℕ) (x : X) → slice_get xs i ≡ Some x → place x ≡ i
-
 -- over the places of these keys, these are the functions of a scope, in source order
 abbrev pub AreFunctions : List Key → Address → List SourceFunction → List Function → Type 0
 AreFunctions ks s written fs = (id : Key → ℕ) → GivesPlaces id ks → fs ≡ map (function_in id s) written
@@ -168,7 +165,7 @@ gathered (x ∷ xs) = shape.More x (gathered xs)
 
 -- From whatever occurred, the new arena is that with what occurs in these types, and they mean those.
 abbrev pub AreShapes : List TypeDef → List TypeDef → Address → Env → List Shape → List Ty → Type 0
-AreShapes old new s env xs ts = AreResolved old new s env (flat_map (shape_occurrences s Unknown) xs) (exprs_of s (gathered xs)) ts
+AreShapes old new s env xs ts = AreResolved old new s env Unknown (gathered xs) ts
 
 -- what the names of a scope add to the arena of types, in the order of its table; `cs` are the scopes that they may use
 pub record AddsScope (old new : List TypeDef) (cs : List ResolvedScope) (o : TypeOwner) (xs : List ScopeName) (types : Names) : Type 0 where

@@ -1,6 +1,6 @@
 -- Where names in handles end in an arena, they end by files in so many steps: also once some names of the next interface or world, or of what is written in it, were added.
 use Rattle.std.proofs.Common.{◌≡◌, ℕ, zero, suc, ◌<◌, List, [], ◌∷◌, ◌++◌, take, Option, Some, None, inl, inr, refl, sym, ap, ◌∙◌, arith, true, false, length, map, subst, ◌+◌}
-use Rattle.wit_contents.proofs.Names.{Address, AddsForeign, AddsScope, AddsSides, AliasForm, AreDistinct, AreItems, AreKnown, AreNames, AreOfSort, AreOwned, AreUsableUses, AreWorldsDone, AtForeign, AtResource, Decls, Def, Defines, DoneScope, Elsewhere, EndIs, EndsAt, EndsInTurn, EntryEnd, Env, Extends, Form, Function, Id, Interface, InterfacesDone, IsDeclared, IsKeyed, IsNameOf, IsOrder, IsOther, IsOutcome, IsResource, IsUnknown, Key, Names, Occurrence, Outcome, PackageFile, Required, ResolvedScope, ResourceForm, ScopeName, SideItem, Turned, TypeDef, TypeOwner, UnknownForm, Word, World, WorldArenas, address, all_items, all_name_occurrences, all_occurrences, all_turns, at_part, at_prefix, at_seam, at_take, cases_lt, collects_from, decls, defines_wider, differ_at, differ_by, done_address, end_fault as walk_fault, end_source-more, entry_end, env_of, flat_map, foreign_interfaces, found_end, function_part_declared, handle_fault, in_turn, in_turn_among, in_turn_distinct, inline_items, inline_items_differ, item_declared, item_of, item_scopes, keys, kind_end, kind_of, length-map, local_name, local_names, map-append, map_at, name_seen_in, names_in, next_interface, next_world, none_is_next, option_cases, option_map, own_item, own_order, part_end, prefix_apart, prefix_scopes, resolved_scope_of, resolved_scopes, resolved_scopes_among, rows_of, scope, scope_names, scope_of, scopes_of, shape_end, slice_get, slice_get-map, slice_get_within, turned, visited, world_item_declared}
+use Rattle.wit_contents.proofs.Names.{Address, AddsForeign, AddsScope, AddsSides, AliasForm, AreDistinct, AreItems, AreKnown, AreNames, AreOfSort, AreOwned, AreUsableUses, AreWorldsDone, AtForeign, AtResource, Decls, Def, Defines, DoneScope, Elsewhere, EndIs, EndsAt, EndsInTurn, EntryEnd, Env, Extends, Form, Function, Id, Interface, InterfacesDone, IsDeclared, IsOccurrence, IsNameOf, IsOrder, IsOther, IsOutcome, IsResource, IsUnknown, Names, Occurrence, Outcome, PackageFile, Required, ResolvedScope, ResourceForm, ScopeName, SideItem, Turned, TypeDef, TypeOwner, UnknownForm, Word, World, WorldArenas, address, all_items, all_name_occurrences, all_occurrences, all_turns, at_part, at_prefix, at_seam, at_take, cases_lt, collects_from, decls, defines_wider, differ_at, differ_by, done_address, end_fault as walk_fault, end_source-more, entry_end, env_of, flat_map, foreign_interfaces, found_end, function_part_declared, handle_fault, in_turn, in_turn_among, in_turn_distinct, inline_items, inline_items_differ, item_declared, item_of, item_scopes, keys, kind_end, kind_of, length-map, local_name, local_names, map-append, map_at, name_seen_in, names_in, next_interface, next_world, none_is_next, option_cases, option_map, own_item, own_order, part_end, prefix_apart, prefix_scopes, resolved_scope_of, resolved_scopes, resolved_scopes_among, rows_of, scope, scope_names, scope_of, scopes_of, shape_end, slice_get, slice_get-map, slice_get_within, turned, visited, world_item_declared}
 use Rattle.wit_walk.proofs.Common.{End}
 use Rattle.wit_arena.proofs.Common.{Item}
 use Rattle.wit_types.specs.declared.types.«Type».{«Type» as Ty}
@@ -52,8 +52,8 @@ end_there es i = place_ends (suc i) es i (omega arith)
 abbrev pub IsEnough : List PackageFile → ℕ → Address → Type 0
 IsEnough files steps s = (id : Id) (end : End) → EndsAt files s id end → shape_end files steps s (Word id) ≡ Some end
 
-module _ (files : List PackageFile) (decls : Decls) (ks : List Key) (es more : List TypeDef) (m : IsKeyed decls ks es) (scopes : (j : ℕ) (t : Address) (name : List ℕ) → slice_get ks j ≡ Some (Def t name) → IsDeclared files decls t) (s : Address) (env : Env) (names : AreNames ks s env) (steps : ℕ) (enough : IsEnough files steps s) where
-  said : (id : Id) (e : EntryEnd) → EndIs files ks s id e → handle_fault files steps s id ≡ end_fault id (Some e)
+module _ (files : List PackageFile) (decls : Decls) (ms : List Occurrence) (es more : List TypeDef) (m : IsOccurrence decls ms es) (scopes : (j : ℕ) (t : Address) (name : List ℕ) → slice_get (keys ms) j ≡ Some (Def t name) → IsDeclared files decls t) (s : Address) (env : Env) (names : AreNames (keys ms) s env) (steps : ℕ) (enough : IsEnough files steps s) where
+  said : (id : Id) (e : EntryEnd) → EndIs files (keys ms) s id e → handle_fault files steps s id ≡ end_fault id (Some e)
   said id IsResource h = ap (walk_fault id) (enough id AtResource h)
   said id (IsUnknown place) h = ap (walk_fault id) (enough id (AtForeign h.0 h.1) h.3)
   said id IsOther h = ap (walk_fault id) (enough id Elsewhere h)
@@ -62,7 +62,7 @@ module _ (files : List PackageFile) (decls : Decls) (ks : List Key) (es more : L
   pub walk_ends : EndsIn env (es ++ more) (handle_fault files steps s)
   walk_ends id place present =
       let e = end_there (es ++ more) place in
-      said id e.0 (end_source-more files decls ks es more m scopes (suc (suc place)) place s id e.0 (names.present id.name.now place present) e.1) ∙ ap (end_fault id) (sym e.1)
+      said id e.0 (end_source-more files decls ms es more m scopes (suc (suc place)) place s id e.0 (names.present id.name.now place present) e.1) ∙ ap (end_fault id) (sym e.1)
 
 -- these scopes are among those that are being resolved
 abbrev AreAmong : List ResolvedScope → List DoneScope → Type 0
@@ -130,11 +130,11 @@ module _ (files : List PackageFile) (declares : Decls) (written : List Occurrenc
   reached_ends resolved among outcome right steps enough order is distinct count mid more names defines =
       let least : IsOrder (rows_of (scope_names w)) order = subst (IsOutcome (rows_of (scope_names w))) is right in
       let d = defined resolved among order least distinct count mid names defines in
-      walk_ends files declares (keys d.now) mid more d.occurrence.keyed (seen_declared resolved among order least distinct count mid names defines) s (env_of names) d.holds.0 steps enough
+      walk_ends files declares d.now mid more d.occurrence (seen_declared resolved among order least distinct count mid names defines) s (env_of names) d.holds.0 steps enough
 
 -- a scope whose names are done, also once the arena has grown
 pub part_ends : (files : List PackageFile) (declares : Decls) (written : List Occurrence) (cs : List DoneScope) (gs : List DoneFunction) (es more : List TypeDef) → IsFunctionPart files declares written cs gs es → (t : ℕ) (c : DoneScope) → slice_get cs t ≡ Some c → (steps : ℕ) → IsEnough files steps c.address → EndsIn (env_of c.types) (es ++ more) (handle_fault files steps c.address)
-part_ends files declares written cs gs es more d t c at steps enough = walk_ends files declares (keys d.seen) es more d.occurrence.keyed (λ j s name there. function_part_declared files declares written cs gs es s name d (d.before j s name there)) c.address (env_of c.types) (d.are_present t c at) steps enough
+part_ends files declares written cs gs es more d t c at steps enough = walk_ends files declares d.seen es more d.occurrence (λ j s name there. function_part_declared files declares written cs gs es s name d (d.before j s name there)) c.address (env_of c.types) (d.are_present t c at) steps enough
 
 among_more : (known : List ResolvedScope) (cs more : List DoneScope) → AreAmong known cs → AreAmong known (cs ++ more)
 among_more known cs more among t c at =

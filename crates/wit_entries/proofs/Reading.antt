@@ -1,32 +1,30 @@
 -- Written types whose parts are resolved: as they are in a type, and under a name.
-use Rattle.std.proofs.Common.{◌≡◌, ℕ, List, [], ◌∷◌, ◌++◌, Some, refl, sym, subst}
-use Rattle.wit_arena.proofs.Common.{AliasForm, AreResolved, Env, Id as Name, IsAnonymousForm, IsInterned, Shape, Span, Stability, TypeDef, TypeDefKind, Word, all_exprs-append, all_occurrences-append, append-nil, expr_of, head, shape_occurrences, shape_of, «Type» as Written, Plain, body_of}
+use Rattle.std.proofs.Common.{◌≡◌, ℕ, List, [], ◌∷◌, ◌++◌, Some, refl, sym, ap, subst}
+use Rattle.wit_arena.proofs.Common.{AliasForm, Def, Env, Id as Name, IsAnonymousForm, IsInterned, Shape, Span, Stability, TypeDef, TypeDefKind, Word, head, shape_of, «Type» as Written, Plain, body_of}
 use Rattle.wit_walk.proofs.Common.{Of, Prim, one}
 use Rattle.wit_syntax.specs.Shape.{Body}
 use Rattle.wit_types.specs.declared.types.«Type».{«Type» as Ty}
 use Rattle.wit_types.specs.declared.types.«Type».TheVariants.{Id}
 use Rattle.wit_type_tree.specs.declared.types.«Type».TheVariants as written
-use Rattle.wit_arena.specs.Occurrences as exprs
 use Rattle.wit_arena.proofs.Occurrence.{only_anonymous}
-use Rattle.wit_arena.proofs.Resolving.{resolved_more, resolved_whole}
+use Rattle.wit_arena.proofs.Resolving.{all_shapes-append, resolved_more, resolved_whole}
 use Rattle.wit_entries.specs.declared.types.Reading.{Reading}
 use Rattle.wit_entries.specs.declared.types.Reading.TheVariants as reading
 use Rattle.wit_entries.specs.ResolvedForms.{AreParts, AreTypes, IsKindOf, IsLeaf, IsForm, IsRead, named_kind}
 
 -- the type of a name
 pub resolved_word : (es : List TypeDef) (env : Env) (given : Stability) (id : Name) (i : ℕ) → env id.name.now ≡ Some i → AreParts es es env given (one (Word id)) (Id i ∷ [])
-resolved_word es env given id i found s = record { same = refl; from = λ decls ms m names. record { now = ms; collects = refl; occurrence = m; holds = ((i, refl, names.present id.name.now i found), tt) } }
+resolved_word es env given id i found s = record { from = λ decls ms m names. record { now = ms; collects = refl; occurrence = m; holds = λ at gives. ap (λ (n : ℕ). Id n ∷ []) (sym (gives.at i (Def s id.name.now) (names.present id.name.now i found))) } }
 
 -- the type of a form, once it is interned
 pub whole_present : (old mid new : List TypeDef) (env : Env) (given : Stability) (x : Shape) (k : TypeDefKind) (span : Span) (i : ℕ) → IsForm old mid env given x k span → IsInterned mid new k given span i → AreParts old new env given (one x) (Id i ∷ [])
 whole_present old mid new env given (Prim p) k span i form interned s = absurd form
 whole_present old mid new env given (Word id) k span i form interned s = absurd form
 whole_present old mid new env given (Of at f parts) k span i form interned s =
-    subst (λ ms. AreResolved old new s env ms (exprs.one (expr_of s (Of at f parts))) (Id i ∷ [])) (sym (append-nil (shape_occurrences s given (Of at f parts))))
-    (rw (form.0, ← form.1) (resolved_whole k given span i (only_anonymous k (subst IsAnonymousForm (sym form.1) form.2)) (form.3 s) interned))
+    rw (form.0, ← form.1) (resolved_whole k given span i (only_anonymous k (subst IsAnonymousForm (sym form.1) form.2)) (form.3 s) interned)
 
 pub types_then : {old mid new : List TypeDef} {env : Env} {tys uys : List Ty} (given : Stability) (ts us : List Written) → AreTypes old mid env given ts tys → AreTypes mid new env given us uys → AreTypes old new env given (ts ++ us) (tys ++ uys)
-types_then given ts us p q s = rw (all_exprs-append s ts us, all_occurrences-append s given ts us) (resolved_more (p s) (q s))
+types_then given ts us p q s = rw (all_shapes-append ts us) (resolved_more (p s) (q s))
 
 leaf_head : (x : Shape) → IsLeaf x → head x ≡ record { form = AliasForm; parts = one x }
 leaf_head (Prim p) leaf = refl

@@ -1,6 +1,6 @@
 -- Written types that are resolved, one after another, and those that have them as parts.
 use Rattle.std.proofs.Common.{◌≡◌, ℕ, List, [], ◌∷◌, ◌++◌, Option, Some, None, is_some, inl, refl, sym, ap, ◌∙◌, subst, Box}
-use Rattle.wit_arena.proofs.Common.{Env, Fault, Form, FutureForm, Global, Id, IsAllocationFailure, IsAnonymousForm, IsInterned, IsNoHandle, ParseError, Required, Shape, Shapes, Span, Stability, StreamForm, TypeDef, TypeDefKind, all_handles, all_shapes, append-nil, boxed_types, env_of, handles, kind_of, part_types, shape_of, shapes_none, «Type» as Written}
+use Rattle.wit_arena.proofs.Common.{Env, Fault, Form, FutureForm, Global, Id, IsAllocationFailure, IsAnonymousForm, IsInterned, IsNoHandle, ParseError, Required, Shape, Shapes, Span, Stability, StreamForm, TypeDef, TypeDefKind, all_handles, all_shapes, append-nil, boxed_types, env_of, handles, kind_of, part_types, resolved_none, shape_of, «Type» as Written}
 use Rattle.wit_walk.proofs.Common.{Of, Reports, back_fault, fault_parts, in-append, none_both, or_none, prefix_fault, reports_back, reports_prefix, reports_same}
 use Rattle.wit_type_tree.specs.declared.types.«Type».TheVariants as written
 use Rattle.wit_types.specs.declared.types.«Type».{«Type» as Ty}
@@ -26,7 +26,7 @@ pub extended_same : (es : List TypeDef) → IsExtended es es
 extended_same es = record { more = []; is = sym (append-nil es) }
 
 pub types_none : (scope : TypeScope) (given : Stability) (es : List TypeDef) (rs : List Required) → ResolvedTypes scope given es es rs rs [] []
-types_none scope given es rs = record { made = λ s. shapes_none es s (env_of scope.names.now); handled = requires_none (env_of scope.names.now) es rs; extended = extended_same es; first = refl }
+types_none scope given es rs = record { made = λ s. resolved_none es s (env_of scope.names.now) given; handled = requires_none (env_of scope.names.now) es rs; extended = extended_same es; first = refl }
 
 -- types, and then further ones
 pub types_more : {old mid new : List TypeDef} {a b c : List Required} (scope : TypeScope) (given : Stability) (ts us : List Written) (tys uys : List Ty) → ResolvedTypes scope given old mid a b ts tys → ResolvedTypes scope given mid new b c us uys → ResolvedTypes scope given old new a c (ts ++ us) (tys ++ uys)

@@ -1,10 +1,9 @@
 -- What a written type is once its parts are resolved.
 use Rattle.std.specs.Prelude.{◌≡◌, List, [], ◌∷◌, Result, Vec}
-use Rattle.wit_arena.specs.Common.{Address, AreResolved, Body, Env, Global, Of, ParseError, Prim, Required, Shape, Shapes, Span, Stability, TypeDef, TypeDefKind, Type_, Word, all_handles, all_shapes, env_of, handles, kind_of, shape_of, shapes_occurrences, «Type» as Ty}
+use Rattle.wit_arena.specs.Common.{Address, AreResolved, Body, Env, Global, Of, ParseError, Prim, Required, Shape, Shapes, Span, Stability, TypeDef, TypeDefKind, Type_, Word, all_handles, all_shapes, env_of, handles, kind_of, shape_of, «Type» as Ty}
 use Rattle.wit_type_tree.specs.declared.types.«Type».{«Type» as Written}
 use Rattle.wit_type_tree.specs.declared.types.«Type».TheVariants as written
 use Rattle.wit_syntax.specs.Shape.{one}
-use Rattle.wit_arena.specs.Occurrences.{exprs_of}
 use Rattle.wit_arena.specs.Faithful.{IsAnonymousForm}
 use Rattle.wit_entries.specs.EntryFaults.{lost_in, types_fault, written_fault, Resolves}
 use Rattle.wit_entries.specs.declared.types.Reading.{Reading}
@@ -13,7 +12,7 @@ use Rattle.wit_entries.specs.declared.names.TypeScope.{TypeScope}
 
 -- from whatever occurred, the new arena is that with what occurs in the parts of a form, or in types, in a definition of this stability, and they mean these
 abbrev pub AreParts : List TypeDef → List TypeDef → Env → Stability → Shapes → List Ty → Type 0
-AreParts old new env given xs tys = (s : Address) → AreResolved old new s env (shapes_occurrences s given xs) (exprs_of s xs) tys
+AreParts old new env given xs tys = (s : Address) → AreResolved old new s env given xs tys
 
 abbrev pub AreTypes : List TypeDef → List TypeDef → Env → Stability → List Written → List Ty → Type 0
 AreTypes old new env given ts tys = AreParts old new env given (all_shapes ts) tys

@@ -1,7 +1,10 @@
 -- What occurs for the first time, given by marks, and the entries of it, one after the other.
-use Rattle.std.proofs.Common.{◌≡◌, ℕ, zero, suc, Bool, true, false, not, ◌&&◌, List, [], ◌∷◌, ◌++◌, Some, inr, refl, sym, ap, ◌∙◌, subst, append_assoc}
-use Rattle.wit_arena.proofs.Common.{Address, AreAt, BorrowForm, Collects, Decls, Def, Exprs, ForeignNamed, Form, InlineAt, InterfaceNamed, IsEntry, IsOccurrence, IsSeen, IsSettled, Key, ListForm, Occurrence, ResultForm, ScopeName, Span, Stability, TypeDef, TypeDefKind, Whole, WorldNamed, about_name, and_parts, append-nil, bytes_eq, differ_none, keys, keys-append, kind_of, local_name, name_exprs, name_itself, named, occurrence_more, slice_get, unnamed}
+use Rattle.std.proofs.Common.{◌≡◌, ℕ, zero, suc, Bool, true, false, not, ◌&&◌, List, [], ◌∷◌, ◌++◌, Some, inr, refl, sym, ap, ◌∙◌, subst, append_assoc, Contains}
+use Rattle.wit_arena.proofs.Common.{Address, AreAt, BorrowForm, Collects, Decls, Def, Exprs, ForeignNamed, Form, GivesPlaces, InlineAt, InterfaceNamed, IsOccurrence, IsSeen, Key, ListForm, Occurrence, ResultForm, ScopeName, Span, Stability, TypeDef, TypeDefKind, Whole, WorldNamed, about_name, and_parts, append-nil, bytes_eq, contains_at, differ_none, first_known, keys, keys-append, kind_of, local_name, map, name_exprs, name_itself, named, occurrence_more, slice_get, stability_at, types_of, unnamed}
 use Rattle.wit_arena.specs.Occurrences.{settled}
+use Rattle.wit_arena.proofs.DefinitionPart.{kind_stated}
+use Rattle.wit_arena.proofs.Placing.{all_at-types_of}
+use Rattle.wit_types.specs.declared.types.«Type».{«Type» as Ty}
 
 -- a mark of a scope, of a form, and of what occurs: it says some of it
 abbrev scope_mark : Address → List ℕ
@@ -55,24 +58,19 @@ collects_each ms (m ∷ more) new =
 
 -- before anything occurs the arena is empty
 pub none_seen : (decls : Decls) → IsOccurrence decls [] []
-none_seen decls = record {
-  keyed = record { count = refl; once = differ_none; each = λ i k e at there. absurd (let f : ⊥ = cc in f) };
-  spans = refl;
-  settled = λ i m e at there. absurd (let f : ⊥ = cc in f);
-}
-
--- what occurs next and is new has the next entry
-pub seen_more : {decls : Decls} {ms : List Occurrence} {es : List TypeDef} (m : Occurrence) (e : TypeDef) → IsOccurrence decls ms es → is_new (key_mark m.key) (keys ms) ≡ true → IsEntry decls (keys ms) m.key e → e.span ≡ m.span → IsSettled es m.given m.key e → IsOccurrence decls (ms ++ m ∷ []) (es ++ e ∷ [])
-seen_more {decls} {ms} {es} m e before new it here settled = occurrence_more m e before (fresh (keys ms) m.key new) it here settled
+none_seen decls = record { count = refl; once = differ_none; named = λ i m s name at is. absurd (let f : ⊥ = cc in f); each = λ i m e at there id gives. absurd (let f : ⊥ = cc in f) }
 
 -- a name of a scope has the next entry, over the places of its parts
 pub seen_named : {decls : Decls} {ms : List Occurrence} {es : List TypeDef} (s : Address) (k : ℕ) (x : ScopeName) (kind : TypeDefKind) → IsOccurrence decls ms es → is_new (key_mark (Def s (local_name x))) (keys ms) ≡ true → slice_get (decls s).0 k ≡ Some x → (kind_of kind).0 ≡ (about_name x).body.form → AreAt (keys ms) (name_exprs s x) (kind_of kind).1 → IsOccurrence decls (ms ++ record { key = Def s (local_name x); span = (about_name x).span; given = (about_name x).metadata.stability } ∷ []) (es ++ named (decls s).1 (local_name x) kind (about_name x).metadata (about_name x).span ∷ [])
 seen_named {decls} {ms} {es} s k x kind before new at form parts =
     let m : Occurrence = record { key = Def s (local_name x); span = (about_name x).span; given = (about_name x).metadata.stability } in
-    seen_more m (named (decls s).1 (local_name x) kind (about_name x).metadata (about_name x).span) before new (k, x, at, refl, refl, refl, refl, form, parts, record { docs = refl; stability = refl; external_id = refl }) refl tt
+    let owned = contains_at (decls s).0 k x at in
+    occurrence_more m (named (decls s).1 (local_name x) kind (about_name x).metadata (about_name x).span) before (fresh (keys ms) m.key new) (λ t n same. (let at : s ≡ t = cc in let called : local_name x ≡ n = cc in (x, subst (λ (z : Address). Contains (decls z).0 x) at owned, called, refl)))
+    (λ id gives. (x, kind, owned, refl, kind_stated (kind_of kind) (about_name x).body.form (types_of id (name_exprs s x)) form (all_at-types_of id (keys ms) gives (name_exprs s x) (kind_of kind).1 parts), refl))
 
 -- and so has an unnamed type
 pub seen_unnamed : {decls : Decls} {ms : List Occurrence} {es : List TypeDef} (form : Form) (parts : Exprs) (kind : TypeDefKind) (given : Stability) (span : Span) → IsOccurrence decls ms es → is_new (key_mark (Whole form parts)) (keys ms) ≡ true → (kind_of kind).0 ≡ form → AreAt (keys ms) parts (kind_of kind).1 → IsOccurrence decls (ms ++ record { key = Whole form parts; span = span; given = given } ∷ []) (es ++ unnamed kind (settled es given kind) span ∷ [])
 seen_unnamed {decls} {ms} {es} form parts kind given span before new of are =
     let m : Occurrence = record { key = Whole form parts; span = span; given = given } in
-    seen_more m (unnamed kind (settled es given kind) span) before new (refl, refl, of, are, refl, refl) refl refl
+    let types : (id : Key → ℕ) → GivesPlaces id (keys ms) → (kind_of kind).1 ≡ types_of id parts = λ id gives. all_at-types_of id (keys ms) gives parts (kind_of kind).1 are in
+    occurrence_more m (unnamed kind (settled es given kind) span) before (fresh (keys ms) m.key new) (λ s name same. absurd (let f : ⊥ = cc in f)) (λ id gives. (kind, kind_stated (kind_of kind) form (types_of id parts) of (types id gives), ap (λ (ts : List Ty). unnamed kind (first_known (given ∷ map (stability_at es) ts)) span) (types id gives)))

@@ -1,6 +1,6 @@
 -- Worked rows with docs and attributes: what they say, what occurs in a definition with a stability, and what breaks the rules of docs and attributes.
 use Rattle.std.proofs.Common.{◌≡◌, ℕ, List, [], ◌∷◌, Some, None, inr, refl, ap, lit<, rules}
-use Rattle.wit_arena.proofs.Common.{Address, AreMetadata, Attribute, AttributedUse, Box, Def, Defined, DeprecatedAlone, ExternalId, Global, InterfaceNamed, IsBrokenMetadata, IsBrokenStability, IsSecondDocs, IsSettled, IsWrongTop, ListForm, Occurrence, Plain, Prim, Release, SinceAndUnstable, SinceTwice, Span, Stability, Stable, ToplevelUse, TypeDef, Unknown, Version, Whole, about_name, chars-IsAscii, codes, docs_of, drop_trailing_whitespace, encode_utf8_all, fault, first_known, name_occurrences, named, no_docs, one, stability_of, stated_text, unnamed}
+use Rattle.wit_arena.proofs.Common.{Address, AreMetadata, Attribute, AttributedUse, Box, Def, Defined, DeprecatedAlone, ExternalId, Global, InterfaceNamed, IsBrokenMetadata, IsBrokenStability, IsEntryOf, IsSecondDocs, IsWrongTop, Key, ListForm, Occurrence, Plain, Prim, Release, ScopeName, SinceAndUnstable, SinceTwice, Span, Stability, Stable, ToplevelUse, TypeDef, TypeOwner, Unknown, Version, Whole, about_name, chars-IsAscii, codes, docs_of, drop_trailing_whitespace, encode_utf8_all, fault, first_known, name_occurrences, named, no_docs, one, stability_of, stated_text, unnamed}
 use Rattle.wit_types.specs.declared.stability.Stability.TheVariants.{Unstable}
 use Rattle.std.specs.Str.{trim_end}
 use Rattle.std.proofs.Math.Utf8.{encode}
@@ -92,8 +92,8 @@ module _ (ptr : Ptr) (alloc : Global) where
     inner_stable : inner.stability ≡ stable
     inner_stable = refl
 
-    inner_settled : IsSettled [] stable (Whole ListForm (one (Prim primitive.U8))) inner
-    inner_settled = refl
+    inner_is : (names : Address → List ScopeName) (owner_of : Address → TypeOwner) (id : Key → ℕ) → IsEntryOf names owner_of id [] (Whole ListForm (one (Prim primitive.U8))) (at 69 73) stable inner
+    inner_is names owner_of id = (kind.List type.U8, refl, refl)
 
     abbrev outer : TypeDef
     outer = named (owner.Interface 0) (codes "x") (kind.List (type.Id 0)) (about_name (Defined x)).metadata (at 60 61)

@@ -2,6 +2,8 @@
 use Rattle.std.proofs.Common.{◌≡◌, ◌<◌, ◌≤◌, ℕ, ◌+◌, List, ◌++◌, length, map, take, Option, Some, None, refl, sym, ap, ◌∙◌, subst, arith, inl, inr, length-append, zero, suc, [], ◌∷◌}
 use Rattle.wit_items.proofs.Common.{Address, AstItem, Def, Extern, ForeignVisit, GivesPlaces, Id, IsEntry, IsKeyed, IsLegal, IsSeen, Key, Link, Makes, Occurrence, PackageFile, PackageName, SourceFunction, Stability, TypeDef, UnresolvedPackage, Whole, WorldInclude, WorldNamed, address, all_at_untaken, declarations, dep, dep_item, entry_of_interface, entry_of_world, filter, flat_map, foreign_entry, foreign_interface, foreign_interfaces, foreign_items, foreign_packages, foreign_turned, foreign_world, foreign_worlds, function_in, functions, include_in, includes, inline_entry, inline_items, interface_scopes, interface_turn, item_link, item_sort, item_turns, kept_at, keys, kind_of, leads, length-map, link_item, link_key, local_name, map_at, name_exprs, names_in_turn, option_map, option_or, own_interface, own_interfaces, own_world, package_of, path_scope, place_at, position-Some, same_address, same_package, scope_place, side_items, slice_get, slice_get_within, target_scope, turn_handles, unwrap_or, visited, world_scopes, worlds_of, AllZip, AreAt, AreRequired, Constructor, End, Expr, Exprs, Freestanding, FuncForm, Function, HandleRequires, HasTypes, IsAt, IsBelow, Method, More, Of, OnSide, Prim, Role, Span, Static, Turned, Use, expr_of, filter_map, freestanding_kind, method_kind, same_some, static_kind, role_kind}
 use Rattle.wit_arena.proofs.Common.{Item}
+use Rattle.wit_arena.proofs.LegalScopes.{scope_differs}
+use Rattle.wit_arena.proofs.Placing.{keyed_by}
 use Rattle.wit_arena.proofs.Shape.{key_of}
 use Rattle.wit_parser.proofs.EachMade.{Entry, exports_each, imports_each, members_each}
 use Rattle.wit_parser.proofs.Images.{images_at}
@@ -229,7 +231,7 @@ module _ (files : List PackageFile) (p : UnresolvedPackage) (legal : IsLegal fil
 
   pub ids_within : AreIdsWithin p
   ids_within = record {
-    types = entries_within p (keys m.seen) as_many_types ss ws as_many_interfaces as_many_worlds files (entries_made files p legal m).keyed;
+    types = entries_within p (keys m.seen) as_many_types ss ws as_many_interfaces as_many_worlds files (keyed_by (entries_made files p legal m) (λ j s name at. scope_differs files legal s));
     interfaces = images_at (foreign_interface files m.id) (own_interface m.id m.order) (foreign_interfaces files) (own_interfaces m.items) p.interfaces m.interfaces (λ k. IsInterfaceWithin p) (λ k v at. foreign_interface_within v) (λ k i at. own_interface_within i (interface_seen files p legal m k i at));
     worlds = images_at foreign_world (own_world m.id m.order ss ws) (foreign_worlds files) (worlds_of m.items) p.worlds m.worlds (λ k. IsWorldWithin p) (λ k v at. foreign_world_within v) (λ k w at. own_world_within w (world_seen files p legal m k w at) (has_places files legal m.items m.in_order k w at));
     foreign = foreign_within;

@@ -1,9 +1,10 @@
 -- The arena of types that is given by places is the list of first occurrences.
-use Rattle.std.proofs.Common.{◌≡◌, ℕ, suc, true, List, [], ◌∷◌, ◌++◌, length, take, Some, None, inl, inr, refl, sym, ap, ◌∙◌, subst, arith}
-use Rattle.wit_items.proofs.Common.{Address, AllDiffer, AreAt, Collects, Contains, Def, Exprs, ForeignNamed, ForeignUse, GivesPlaces, Has, IsEntry, IsEntryOf, IsLegal, IsOccurrence, IsSeen, Key, Makes, Occurrence, PackageFile, ScopeName, Span, Stability, TypeDef, UnresolvedPackage, Whole, about_name, all_occurrences, at_contains, at_prefix, at_seam, at_within, collects_extended, collects_one, collects_split, declarations, differ_at, first_foreign_uses, first_known, firsts_at, flat_map, foreign_use_key, foreign_use_occurrence, foreign_uses, foreign_uses_differ, foreign_uses_seen, gives_places, gives_used, interface_scopes, is_foreign, item_turns, key_extended, keys, kind_of, length-map, local_name, map, map_at, name_exprs, option_map, owner_at, same_foreign_use, same_some, scope, slice_get, slice_get-map, stability_at, three_ways, turn_occurrences, types_of, used_at, used_name_at, world_scopes}
-use Rattle.wit_arena.proofs.Common.{Item}
+use Rattle.std.proofs.Common.{◌≡◌, ℕ, true, List, [], ◌∷◌, ◌++◌, length, take, Some, None, inl, inr, refl, sym, ap, ◌∙◌, subst, arith}
+use Rattle.wit_items.proofs.Common.{Address, AllDiffer, Collects, Contains, Def, Exprs, ForeignNamed, ForeignUse, GivesPlaces, Has, IsEntryOf, IsLegal, IsOccurrence, IsSeen, Key, Makes, Occurrence, PackageFile, ScopeName, Span, Stability, TypeDef, UnresolvedPackage, Whole, about_name, all_occurrences, at_contains, at_prefix, at_seam, at_within, collects_extended, collects_one, collects_split, declarations, differ_at, first_foreign_uses, first_known, firsts_at, flat_map, foreign_use_key, foreign_use_occurrence, foreign_uses, foreign_uses_differ, foreign_uses_seen, gives_places, gives_used, interface_scopes, is_foreign, item_turns, key_extended, keys, local_name, map, map_at, name_exprs, option_map, owner_at, same_foreign_use, same_some, scope, slice_get, slice_get-map, slice_get_within, stability_at, three_ways, turn_occurrences, types_of, used_at, used_name_at, world_scopes}
+use Rattle.wit_arena.proofs.Common.{Item, entry, no_docs}
+use Rattle.wit_arena.proofs.Placing.{all_at-types_of}
 use Rattle.wit_types.specs.declared.types.«Type».{«Type» as Ty}
-use Rattle.wit_arena.specs.Occurrences.{settled}
+use Rattle.wit_types.specs.declared.types.TypeOwner.TheVariants as owner
 use Rattle.wit_arena.proofs.Occurrence.{firsts-collects, firsts-differ}
 use Rattle.wit_parser.proofs.PartsScopes.{all_ready, no_parts}
 use Rattle.wit_parser.proofs.PartsTurns.{AllPresent, types_of-at, PartsPresent, Ready, collects_prefix, seen_ready, ready_wider}
@@ -30,12 +31,6 @@ collects_after : (ks ls a b c : List Occurrence) → Collects a (ks ++ ls) c →
 collects_after ks ls a b c h prefix =
     let it = collects_split ks ls a c h in
     subst (λ (x : List Occurrence). Collects x ls c) (collects_one ks a it.0 b it.1 prefix) it.2
-
--- lists whose elements are stated alike
-mapped_alike : {X Y Z : Type 0} (f : X → Z) (g : Y → Z) (xs : List X) (ys : List Y) → length xs ≡ length ys → ((k : ℕ) (x : X) (y : Y) → slice_get xs k ≡ Some x → slice_get ys k ≡ Some y → f x ≡ g y) → map f xs ≡ map g ys
-mapped_alike f g (x ∷ xs) (y ∷ ys) count each = ap (λ z. z ∷ map f xs) (each 0 x y refl refl) ∙ ap (λ l. g y ∷ l) (mapped_alike f g xs ys (omega (arith, count)) (λ k. each (suc k)))
-mapped_alike f g [] [] count each = refl
-mapped_alike f g xs ys count each = absurd (omega (arith, count))
 
 -- a taking is given by the name of its scope
 foreign_use_stated : (files : List PackageFile) (s : Address) → is_foreign s ≡ true → (j : ℕ) (t : ForeignUse) → slice_get (first_foreign_uses files) j ≡ Some t → t.from ≡ s → (x : ScopeName) → Contains (scope files s) x → local_name x ≡ t.id.name.now → t.id.span ≡ (about_name x).span
@@ -97,53 +92,33 @@ module _ (files : List PackageFile) (p : UnresolvedPackage) (legal : IsLegal fil
     | inr other ↦ seen_ready (scope files) rest prefix m.seen (collects_after in_use rest [] prefix m.seen collects (foreign_uses_seen files)) ready n o at (elim other [ inl one ↦ omega (arith, one) | inr gt ↦ omega (arith, gt) ])
   ]
 
-  abbrev Stated : ℕ → Key → Span → Stability → TypeDef → Type 0
-  Stated n k span given e = IsEntryOf (scope files) (owner_at (interface_scopes files m.items) (world_scopes files m.items)) m.id (take n p.types) k span given e
+  abbrev Stated : (Key → ℕ) → ℕ → Key → Span → Stability → TypeDef → Type 0
+  Stated id n k span given e = IsEntryOf (scope files) (owner_at (interface_scopes files m.items) (world_scopes files m.items)) id (take n p.types) k span given e
 
-  types_at : (n : ℕ) (parts : Exprs) (ts : List Ty) → AllPresent (IsSeen (take n (keys m.seen))) parts → ts ≡ types_of m.id parts → AreAt (take n (keys m.seen)) parts ts
-  types_at n parts ts are_present are = subst (AreAt (take n (keys m.seen)) parts) (sym are) (types_of-at m.id (take n (keys m.seen)) (gives_used m.id (keys m.seen) made_places n) parts are_present)
+  types_at : (n : ℕ) (id : Key → ℕ) → GivesPlaces id (take n (keys m.seen)) → (parts : Exprs) → AllPresent (IsSeen (take n (keys m.seen))) parts → types_of m.id parts ≡ types_of id parts
+  types_at n id gives parts are_present = all_at-types_of id (take n (keys m.seen)) gives parts (types_of m.id parts) (types_of-at m.id (take n (keys m.seen)) (gives_used m.id (keys m.seen) made_places n) parts are_present)
 
-  entry_is : (n : ℕ) (k : Key) (span : Span) (given : Stability) (e : TypeDef) → PartsPresent (scope files) (IsSeen (take n (keys m.seen))) span k → Stated n k span given e → IsEntry (declarations files (interface_scopes files m.items) (world_scopes files m.items)) (take n (keys m.seen)) k e
-  entry_is n (Def s name) span given e are_present h =
+  -- the entry of what occurs does not depend on places of what occurs later
+  entry_is : (n : ℕ) (id : Key → ℕ) → GivesPlaces id (take n (keys m.seen)) → (k : Key) (span : Span) (given : Stability) (e : TypeDef) → PartsPresent (scope files) (IsSeen (take n (keys m.seen))) span k → Stated m.id n k span given e → Stated id n k span given e
+  entry_is n id gives (Def s name) span given e are_present h =
       let x = h.0 in
-      let q = at_contains (scope files s) x h.2 in
-      let it = are_present x h.2 h.3 in
-      let kind = ap (λ (y : TypeDef). kind_of y.kind) h.5 ∙ h.4 in (
-        q.0,
-        x,
-        q.1,
-        h.3,
-        ap (λ (y : TypeDef). y.name) h.5,
-        ap (λ (y : TypeDef). y.span) h.5 ∙ it.0,
-        ap (λ (y : TypeDef). y.owner) h.5,
-        ap (λ k. k.0) kind,
-        types_at n (name_exprs s x) (kind_of e.kind).1 it.1 (ap (λ k. k.1) kind),
-        record { docs = ap (λ (y : TypeDef). y.docs) h.5; stability = ap (λ (y : TypeDef). y.stability) h.5; external_id = ap (λ (y : TypeDef). y.external_id) h.5 },
-      )
-  entry_is n (Whole form parts) span given e are_present h =
-      let kind = ap (λ (y : TypeDef). kind_of y.kind) h.2 ∙ h.1 in
-      (ap (λ (y : TypeDef). y.name) h.2, ap (λ (y : TypeDef). y.owner) h.2, ap (λ k. k.0) kind, types_at n parts (kind_of e.kind).1 are_present (ap (λ k. k.1) kind), ap (λ (y : TypeDef). y.docs) h.2, ap (λ (y : TypeDef). y.external_id) h.2)
+      (x, h.1, h.2, h.3, h.4 ∙ ap (λ (ts : List Ty). ((about_name x).body.form, ts)) (types_at n id gives (name_exprs s x) (are_present x h.2 h.3).1), h.5)
+  entry_is n id gives (Whole form parts) span given e are_present h =
+      let types = types_at n id gives parts are_present in
+      (h.0, h.1 ∙ ap (λ (ts : List Ty). (form, ts)) types, h.2 ∙ ap (λ (ts : List Ty). entry None owner.None (record { docs = no_docs; stability = first_known (given ∷ map (stability_at (take n p.types)) ts); external_id = None }) span h.0) types)
 
-  span_is : (n : ℕ) (k : Key) (span : Span) (given : Stability) (e : TypeDef) → Stated n k span given e → e.span ≡ span
-  span_is n (Def s name) span given e h = ap (λ (y : TypeDef). y.span) h.5
-  span_is n (Whole form parts) span given e h = ap (λ (y : TypeDef). y.span) h.2
-
-  settled_is : (n : ℕ) (k : Key) (span : Span) (given : Stability) (e : TypeDef) → Stated n k span given e → e.name ≡ None → e.stability ≡ settled (take n p.types) given e.kind
-  settled_is n (Def s name) span given e h none = absurd (let named = ap (λ (y : TypeDef). y.name) h.5 in let both : Some name ≡ None = sym named ∙ none in let f : ⊥ = cc in f)
-  settled_is n (Whole form parts) span given e h none =
-      let kind = ap (λ (y : TypeDef). kind_of y.kind) h.2 ∙ h.1 in
-      ap (λ (y : TypeDef). y.stability) h.2 ∙ ap (λ (ts : List Ty). first_known (given ∷ map (stability_at (take n p.types)) ts)) (sym (ap (λ k. k.1) kind))
+  -- and a name occurs where it is
+  named_is : (n : ℕ) (o : Occurrence) (s : Address) (name : List ℕ) (e : TypeDef) → slice_get m.seen n ≡ Some o → slice_get p.types n ≡ Some e → o.key ≡ Def s name → (x : ScopeName) × Contains (scope files s) x × (local_name x ≡ name) × (o.span ≡ (about_name x).span)
+  named_is n o s name e at_o at_e is =
+      let h = subst (λ (k : Key). Stated m.id n k o.span o.given e) is (m.types n o e at_o at_e) in
+      let parts = subst (PartsPresent (scope files) (IsSeen (take n (keys m.seen))) o.span) is (parts_before n o at_o) in
+      (h.0, h.2, h.3, (parts h.0 h.2 h.3).0)
 
   -- so it is the list of first occurrences
   pub entries_made : IsOccurrence (declarations files (interface_scopes files m.items) (world_scopes files m.items)) m.seen p.types
   entries_made = record {
-    keyed = record {
-      count = m.count ∙ sym (length-map m.seen (λ (o : Occurrence). o.key));
-      once = once;
-      each = λ n k e at_k at_e. (
-          let o = map_at (λ (o : Occurrence). o.key) m.seen n k at_k in
-          subst (λ (q : Key). IsEntry (declarations files (interface_scopes files m.items) (world_scopes files m.items)) (take n (keys m.seen)) q e) o.2 (entry_is n o.0.key o.0.span o.0.given e (parts_before n o.0 o.1) (m.types n o.0 e o.1 at_e)));
-    };
-    spans = mapped_alike (λ (e : TypeDef). e.span) (λ (o : Occurrence). o.span) p.types m.seen m.count (λ n e o at_e at_o. span_is n o.key o.span o.given e (m.types n o e at_o at_e));
-    settled = λ n o e at_o at_e. settled_is n o.key o.span o.given e (m.types n o e at_o at_e);
+    count = m.count;
+    once = once;
+    named = λ n o s name at is. (let e = at_within p.types n (let lt = slice_get_within m.seen n o at in let count = m.count in omega (arith, lt, count)) in named_is n o s name e.0 at e.1 is);
+    each = λ n o e at_o at_e id gives. entry_is n id gives o.key o.span o.given e (parts_before n o at_o) (m.types n o e at_o at_e);
   }

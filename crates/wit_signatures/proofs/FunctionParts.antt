@@ -1,6 +1,6 @@
 -- Parameters and results over their types, one after the other.
 use Rattle.std.proofs.Common.{◌≡◌, ◌≤◌, ℕ, List, [], ◌∷◌, ◌++◌, length, map, Option, Some, None, refl, sym, ap, ◌∙◌, subst, arith, append_assoc}
-use Rattle.wit_arena.proofs.Common.{Address, AreShapes, Env, Id, IsInterned, Param, ResourceFunc, Shape, SourceParam, Span, TypeDef, Unknown, map-append, resource_function, self_param, shapes_append, shapes_none, written_param, «Type» as Written, length-map}
+use Rattle.wit_arena.proofs.Common.{Address, AreShapes, Env, Id, IsInterned, Param, ResourceFunc, Shape, SourceParam, Span, TypeDef, Unknown, map-append, resource_function, self_param, shapes_append, resolved_none, written_param, «Type» as Written, length-map}
 use Rattle.wit_arena.proofs.PlacingFunctions.{as_written, said}
 use Rattle.wit_walk.proofs.Common.{Param as WrittenParam}
 use Rattle.wit_type_tree.specs.declared.types.ResourceFunc.TheVariants as resource
@@ -16,7 +16,7 @@ use Rattle.wit_entries.proofs.Reading.{resolved_word, whole_present}
 use Rattle.wit_signatures.proofs.SignatureTypes.{result_shape}
 
 params_none : (es : List TypeDef) (env : Env) → AreParamsOver es es env [] []
-params_none es env = record { says = refl; types = λ s. shapes_none es s env }
+params_none es env = record { says = refl; types = λ s. resolved_none es s env Unknown }
 
 params_one : (old new : List TypeDef) (env : Env) (w : SourceParam) (p : Param) → p.name ≡ w.name → p.span ≡ w.span → ((s : Address) → AreShapes old new s env (w.shape ∷ []) (p.ty ∷ [])) → AreParamsOver old new env (w ∷ []) (p ∷ [])
 params_one old new env w p name span is = record { says = cc (name, span); types = is }

@@ -120,6 +120,11 @@ read_form-returns-in_ok-item-in-Stream t c =
     let o = c.in_ok-item-in-Stream.item in
     rw it.is (parts_read c.args.scope.now c.args.given.now (written.Stream it.span it.item) (kind.Stream o) it.span _ _ (boxed_types it.item) tt (stream_shape it.span it.item) (ap StreamForm c.in_ok-item-in-Stream.ensures.there) tt refl (types_of_borrowed it.item) refl refl c.in_ok-item-in-Stream.ensures.resolves)
 
+pub read_form-returns-in_ok-resource-in-Borrow : goal.read_form-returns-in_ok-resource-in-Borrow
+read_form-returns-in_ok-resource-in-Borrow t c =
+    let it = c.in_ok-resource-in-Borrow.ensures in
+    rw c.in-Borrow.is (record { made = (refl, refl, tt, resolved_word c.args.types.now (env_of c.args.scope.now.names.now) c.args.given.now c.in-Borrow.id c.in_ok-resource-in-Borrow.resource it.made); handled = it.handled; extended = it.extended; first = it.first })
+
 pub resolve_type-returns-in_err-reading : goal.resolve_type-returns-in_err-reading
 resolve_type-returns-in_err-reading t c =
     let p = err_from_is_err_and c.from_residual.result c.from_residual.ensures.1 in
