@@ -1,6 +1,6 @@
 -- The first fault of an interface: of its names, or, once they are resolved, of what comes after them.
 use Rattle.std.proofs.Common.{◌≡◌, ℕ, List, [], length, map, Option, None, sym, ap, ◌∙◌, subst, arith, ◌∷◌, ◌++◌, take, Some, refl, append_assoc, ◌<◌, ◌+◌, drop, get_or}
-use Rattle.wit_contents.proofs.Names.{AddsTurn, Defines, EndsInTurn, Env, Err, Fault, Finds, FindsInterface, Id, InOrder, Interfaces, IsLent, IsOutcome, IsRightOf, ItemScope, Names, Ok, Outcome, ParseError, Required, ResolvedScope, Result, ScopeName, TypeDef, TypeOwner, env_of, finds_same, in_turn, interface_fault, local_id, names_of, option_or, order_of, outcome_one, resolved_scopes_of, rest_fault, rows_of, scope_item, scope_names, take_all, AddsMembers, AreKeyed, AreNamesPlaced, AreRightMembers, Declared, IsLinkedTo, IsNext, IsRightMember, ItemWalk, Link, MemberTest, Reports, ResourceFunc, SideFunction, SideItem, SideLink, SourceFunction, Stage, TheInline, TheWorld, TopName, TypeBody, about, after-append, append-nil, declared_view, definition_functions, first_after, flat_map, flat_map-append, function_fault, function_member, inline_item, inline_member, inline_of, inline_side, inside_of, inside_view, item_function, item_inline, item_name, items_on, lead, length-map, link_member, linked_fault, lost_word, map-append, meaning, metadata_fault, name_view, names_at_top, next_place, none_both, option_map, option_map_or, or_none, part_items, parts_more, prefix_of, put_link_fault, reports_prefix, reports_same, resource_function, resource_items, seen_on, side_items, slice_get, slice_get_read, slice_get_within, stage, take_next, take_seam, top_at, word_fault, world_part, item_stability, names_fault, item_view}
+use Rattle.wit_contents.proofs.Names.{AddsTurn, Defines, EndsInTurn, Env, Err, Fault, Finds, FindsInterface, Id, InOrder, Interfaces, IsLent, IsOutcome, IsRightOf, ItemScope, Names, Ok, Outcome, ParseError, Required, ResolvedScope, Result, ScopeName, TypeDef, TypeOwner, env_of, finds_same, in_turn, interface_fault, local_id, names_of, option_or, order_of, outcome_one, resolved_scopes_of, rest_fault, rows_of, scope_item, scope_names, take_all, AddsMembers, AreKeyed, AreNamesPlaced, AreRightMembers, Declared, IsLinkedTo, IsNext, IsRightMember, ItemWalk, Link, Reports, ResourceFunc, SideFunction, SideItem, SideLink, SourceFunction, Stage, TheInline, TheWorld, TopName, TypeBody, about, after-append, append-nil, declared_view, definition_functions, first_after, flat_map, flat_map-append, function_fault, inline_item, inline_of, inline_side, inside_of, inside_view, item_function, item_inline, item_name, items_on, lead, length-map, linked_fault, lost_word, map-append, meaning, metadata_fault, name_view, names_at_top, next_place, none_both, option_map, option_map_or, or_none, part_items, parts_more, prefix_of, put_link_fault, reports_prefix, reports_same, resource_function, resource_items, seen_on, side_items, slice_get, slice_get_read, slice_get_within, stage, take_next, take_seam, top_at, word_fault, world_part, item_stability, names_fault, item_view, put_fault}
 use Rattle.wit_arena.proofs.Common.{Item}
 use Rattle.wit_entries.specs.EntryFaults.{IsExtended, written_fault}
 use Rattle.wit_externs.specs.Clash.{EndsIn, FindsIn, signed_by, words_in}
@@ -64,18 +64,18 @@ finds_right r test is old place w s lent right found = finds_same r (sym (right.
 -- The first fault of what is on the sides of a world: of one that comes next, and of more after some, part by part.
 -- by each test that is right of all, the first of them have no fault; and an error reports the first of all
 abbrev pub HaveNone : ItemWalk → (prefix all done : List SideItem) → Stage → Type 0
-HaveNone w prefix all done a = (wrong : MemberTest) → AreRightMembers wrong w prefix all a → first_after wrong prefix done ≡ None
+HaveNone w prefix all done a = (wrong : List SideItem → SideItem → Option Fault) → AreRightMembers wrong w prefix all a → first_after wrong prefix done ≡ None
 
 abbrev pub ReportFirst : ItemWalk → (prefix all : List SideItem) → Stage → ParseError → Type 0
-ReportFirst w prefix all a e = (wrong : MemberTest) → AreRightMembers wrong w prefix all a → Reports (first_after wrong prefix all) e
+ReportFirst w prefix all a e = (wrong : List SideItem → SideItem → Option Fault) → AreRightMembers wrong w prefix all a → Reports (first_after wrong prefix all) e
 
 module _ (w : ItemWalk) where
   -- a test that is right of one that comes next
-  right_one : (wrong : MemberTest) (prefix : List SideItem) (x : SideItem) (a : Stage) → AreKeyed a.walked.members → AreRightMembers wrong w prefix (x ∷ []) a → IsRightMember wrong w prefix x a
-  right_one wrong prefix x a keyed right = subst (λ (l : List SideItem). IsRightMember wrong w l x a) (append-nil prefix) (right [] [] x a refl (members_none w prefix a keyed))
+  right_one : (wrong : List SideItem → SideItem → Option Fault) (prefix : List SideItem) (x : SideItem) (a : Stage) → AreKeyed a.walked.members → AreRightMembers wrong w prefix (x ∷ []) a → IsRightMember (wrong prefix x) w prefix x a
+  right_one wrong prefix x a keyed right = subst (λ (l : List SideItem). IsRightMember (wrong l x) w l x a) (append-nil prefix) (right [] [] x a refl (members_none w prefix a keyed))
 
   -- what is found of it by each test that is right of it is the first of all
-  pub one_found : {T : Type 0} (r : Result T ParseError) (x : SideItem) (a : Stage) (n : IsNext w (x ∷ []) a.walked) → ((wrong : MemberTest) → IsRightMember wrong w n.prefix x a → Finds (wrong n.prefix x) r) → (wrong : MemberTest) → AreRightMembers wrong w n.prefix (x ∷ []) a → Finds (first_after wrong n.prefix (x ∷ [])) r
+  pub one_found : {T : Type 0} (r : Result T ParseError) (x : SideItem) (a : Stage) (n : IsNext w (x ∷ []) a.walked) → ((wrong : List SideItem → SideItem → Option Fault) → IsRightMember (wrong n.prefix x) w n.prefix x a → Finds (wrong n.prefix x) r) → (wrong : List SideItem → SideItem → Option Fault) → AreRightMembers wrong w n.prefix (x ∷ []) a → Finds (first_after wrong n.prefix (x ∷ [])) r
   one_found r x a n found wrong right = finds_same r (sym (or_none (wrong n.prefix x))) (found wrong (right_one wrong n.prefix x a n.keyed right))
 
   -- of all that come next these were added, and none of them has a fault
@@ -92,10 +92,10 @@ module _ (w : ItemWalk) where
     next_of n = next_then w all done ys rest a b n split (d.adds n)
 
     -- of which a test is right that is right of all
-    rights_next : (n : IsNext w all a.walked) (wrong : MemberTest) → AreRightMembers wrong w n.prefix all a → AreRightMembers wrong w (n.prefix ++ done) ys b
+    rights_next : (n : IsNext w all a.walked) (wrong : List SideItem → SideItem → Option Fault) → AreRightMembers wrong w n.prefix all a → AreRightMembers wrong w (n.prefix ++ done) ys b
     rights_next n wrong right early late x now is more =
         let whole : all ≡ (done ++ early) ++ (x ∷ (late ++ rest)) = split ∙ ap (λ (l : List SideItem). done ++ (l ++ rest)) is ∙ ap (λ (l : List SideItem). done ++ l) (append_assoc early (x ∷ late) rest) ∙ sym (append_assoc done early (x ∷ (late ++ rest))) in
-        subst (λ (l : List SideItem). IsRightMember wrong w l x now) (sym (append_assoc n.prefix done early)) (right (done ++ early) (late ++ rest) x now whole (members_then w n.prefix done early a b now (d.adds n) more))
+        subst (λ (l : List SideItem). IsRightMember (wrong l x) w l x now) (sym (append_assoc n.prefix done early)) (right (done ++ early) (late ++ rest) x now whole (members_then w n.prefix done early a b now (d.adds n) more))
 
     -- the first fault of these is the first of all
     pub first_later : (e : ParseError) → ((n : IsNext w ys b.walked) → ReportFirst w n.prefix ys b e) → (n : IsNext w all a.walked) → ReportFirst w n.prefix all a e
@@ -167,7 +167,7 @@ module _ {w : ItemWalk} {fn : SourceFunction} {m : Walked} (n : IsNext w (SideFu
   function_is es handle ends = function_same env es handle xs ends fns place fn function_next ∙ by_scope handle
 
 -- and so of all that is found of it
-pub function_found : {T : Type 0} (r : Result T ParseError) (w : ItemWalk) (fn : SourceFunction) (a : Stage) (n : IsNext w (SideFunction fn ∷ []) a.walked) → ((handle : Id → Option Fault) → ((more : List TypeDef) → EndsIn (env_of w.scope.names.types) (a.growing.types ++ more) handle) → Finds (function_member w n.prefix a.walked.members fn handle) r) → (wrong : MemberTest) → AreRightMembers wrong w n.prefix (SideFunction fn ∷ []) a → Finds (first_after wrong n.prefix (SideFunction fn ∷ [])) r
+pub function_found : {T : Type 0} (r : Result T ParseError) (w : ItemWalk) (fn : SourceFunction) (a : Stage) (n : IsNext w (SideFunction fn ∷ []) a.walked) → ((handle : Id → Option Fault) → ((more : List TypeDef) → EndsIn (env_of w.scope.names.types) (a.growing.types ++ more) handle) → Finds (option_or (function_fault (signed_by (word_fault (scope_names (item_view w.item))) handle (flat_map item_function n.prefix ++ fn ∷ [])) (scope_names (item_view w.item)) fn) (put_fault a.walked.members (SideFunction fn))) r) → (wrong : List SideItem → SideItem → Option Fault) → AreRightMembers wrong w n.prefix (SideFunction fn ∷ []) a → Finds (first_after wrong n.prefix (SideFunction fn ∷ [])) r
 function_found r w fn a n found = one_found w r (SideFunction fn) a n (λ wrong right. finds_same r (sym right.2) (found right.0 right.1))
 
 -- its test is right once it was resolved
@@ -192,20 +192,20 @@ module _ {w : ItemWalk} {link : Link} {m : Walked} (n : IsNext w (SideLink link 
   abbrev put : Option Fault
   put = option_map_or (put_link_fault m.members link) (lead w link.path) None
 
-  pub link_noted : (f : Fault) → metadata_fault link.attributes ≡ Some f → link_member w m.members link ≡ Some f
+  pub link_noted : (f : Fault) → metadata_fault link.attributes ≡ Some f → option_or (metadata_fault link.attributes) (option_or (linked_fault w.interfaces.files w.interfaces.by_name (item_view w.item).top link.path) (option_map_or (put_link_fault m.members link) (lead w link.path) None)) ≡ Some f
   link_noted f noted = ap (λ (o : Option Fault). option_or o (option_or (lost (item_view w.item).top) put)) noted
 
-  pub link_lost : (f : Fault) → metadata_fault link.attributes ≡ None → lost (top_at resolved.files w.item.place) ≡ Some f → link_member w m.members link ≡ Some f
+  pub link_lost : (f : Fault) → metadata_fault link.attributes ≡ None → lost (top_at resolved.files w.item.place) ≡ Some f → option_or (metadata_fault link.attributes) (option_or (linked_fault w.interfaces.files w.interfaces.by_name (item_view w.item).top link.path) (option_map_or (put_link_fault m.members link) (lead w link.path) None)) ≡ Some f
   link_lost f noted wrong = ap (λ (o : Option Fault). option_or o (option_or (lost (item_view w.item).top) put)) noted ∙ ap (λ (o : Option Fault). option_or o put) (sym (ap lost at_top) ∙ wrong)
 
-  pub link_put : (id : ℕ) (o : Option Fault) → metadata_fault link.attributes ≡ None → lost (top_at resolved.files w.item.place) ≡ None → lead w link.path ≡ Some id → put_link_fault m.members link id ≡ o → link_member w m.members link ≡ o
+  pub link_put : (id : ℕ) (o : Option Fault) → metadata_fault link.attributes ≡ None → lost (top_at resolved.files w.item.place) ≡ None → lead w link.path ≡ Some id → put_link_fault m.members link id ≡ o → option_or (metadata_fault link.attributes) (option_or (linked_fault w.interfaces.files w.interfaces.by_name (item_view w.item).top link.path) (option_map_or (put_link_fault m.members link) (lead w link.path) None)) ≡ o
   link_put id o noted leads there is =
       ap (λ (p : Option Fault). option_or p (option_or (lost (item_view w.item).top) put)) noted
       ∙ ap (λ (p : Option Fault). option_or p put) (sym (ap lost at_top) ∙ leads)
       ∙ ap (λ (p : Option ℕ). option_map_or (put_link_fault m.members link) p None) there
       ∙ is
 
-pub link_found : {T : Type 0} (r : Result T ParseError) (w : ItemWalk) (link : Link) (a : Stage) (n : IsNext w (SideLink link ∷ []) a.walked) → Finds (link_member w a.walked.members link) r → (wrong : MemberTest) → AreRightMembers wrong w n.prefix (SideLink link ∷ []) a → Finds (first_after wrong n.prefix (SideLink link ∷ [])) r
+pub link_found : {T : Type 0} (r : Result T ParseError) (w : ItemWalk) (link : Link) (a : Stage) (n : IsNext w (SideLink link ∷ []) a.walked) → Finds (option_or (metadata_fault link.attributes) (option_or (linked_fault w.interfaces.files w.interfaces.by_name (item_view w.item).top link.path) (option_map_or (put_link_fault a.walked.members link) (lead w link.path) None))) r → (wrong : List SideItem → SideItem → Option Fault) → AreRightMembers wrong w n.prefix (SideLink link ∷ []) a → Finds (first_after wrong n.prefix (SideLink link ∷ [])) r
 link_found r w link a n found = one_found w r (SideLink link) a n (λ wrong right. finds_same r (sym right) found)
 
 -- an inline interface that comes next, as it is lent
@@ -239,7 +239,7 @@ module _ {w : ItemWalk} {m : Walked} (x : InlineInterface) (n : IsNext w (inline
     inside_found q test right found = finds_right q test is old.types (next_place is old.inside) u s (record { item = item; named = names; placed = names_placed }) right found
 
     -- that, and then its name
-    pub inline_found : {T : Type 0} (r : Result T ParseError) → ((test : Item → Option Fault) → IsRight test → Finds (option_or (test u) (inline_member m.members n.prefix (inline_side x))) r) → (wrong : MemberTest) → AreRightMembers wrong w n.prefix (inline_side x ∷ []) (stage old m) → Finds (first_after wrong n.prefix (inline_side x ∷ [])) r
+    pub inline_found : {T : Type 0} (r : Result T ParseError) → ((test : Item → Option Fault) → IsRight test → Finds (option_or (test u) (option_or (metadata_fault x.written.now.attributes.items) (put_fault m.members (inline_side x)))) r) → (wrong : List SideItem → SideItem → Option Fault) → AreRightMembers wrong w n.prefix (inline_side x ∷ []) (stage old m) → Finds (first_after wrong n.prefix (inline_side x ∷ [])) r
     inline_found r found = one_found w r (inline_side x) (stage old m) n (λ wrong right. (
         let it = right.1 u (inline_here (item_view w.item) n.prefix x world (place ∙ n.seen.interfaces x.written.now.side)) in
         finds_same r (sym it.1) (found right.0 it.0)))

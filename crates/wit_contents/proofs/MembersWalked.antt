@@ -1,13 +1,13 @@
 -- The first fault of a link of a world, by the interfaces that are resolved, is that of the walk of files.
 use Rattle.std.proofs.Common.{◌≡◌, ℕ, ◌+◌, suc, Bool, true, false, not, ◌||◌, List, [], ◌∷◌, ◌++◌, nat_eq, Option, Some, None, IsSome, inl, inr, refl, sym, ap, ◌∙◌, arith, map, Contains, length}
-use Rattle.wit_contents.proofs.Names.{Address, Fault, Foreign, ForeignNamed, ForeignVisit, Id, InterfaceNamed, Link, Local, Names, PackageFile, PackageName, SideFunction, SideInline, SideItem, SideLink, Target, TopName, UsePath, again_linked, all_items, cases_Bool, env_of, find_at, find_passes, flat_map, foreign_at, foreign_interfaces, foreign_items, if◌then◌else◌, interface_place, interfaces_differ, is_none, is_same_link, is_world, is_world_at, item_link, item_named, item_word, items_on, kept_has, leads, link_fault, linked_fault, linked_twice, list_any, lost_fault, metadata_fault, missing_at, number_equal, option_map, option_map_or, option_or, option_to_list, or_assoc, path_id, path_place, path_scope, place_at, place_at-found, prefix_of, reached_fault, same_address, same_address-equal, same_address-from, slice_get, slice_get-map, some_of, target_scope, unresolved_fault, visited, world_there, ◌&&◌, AddsMembers, AreRightMembers, Called, Exported, Extern, Imported, InterfaceItem, Interfaces, IsRightOf, IsStart, ItemWalk, Known, Name, ScopeName, Sorted, SourceFunction, Stage, TheInline, TypeDef, WorldSide, about, address, called_fault, clash-made, contains_at, crossed, entry_sorted, external_fault, filter, first_in, function_fault, function_member, handle_fault, in-map, in_turn, inline_after, inline_item, inline_member, interfaces_at, is_extern, is_interface, item_called, item_function, item_name, item_side, item_sorted, kept_at, lead, link_member, local_id, local_names, map_map, member_fault, name_called, named_fault, names_in, names_on, next_place, or_none_both, own_fault, put_fault, put_link_fault, same_side, scope_names, side_items, side_sorted, signed_fault, sorted_on, stability_fault, stage, type_imports, item_view, crossed_same, sides_sorted, side_called, sorted_name, crossed_among}
+use Rattle.wit_contents.proofs.Names.{Address, Fault, Foreign, ForeignNamed, ForeignVisit, Id, InterfaceNamed, Link, Local, Names, PackageFile, PackageName, SideFunction, SideInline, SideItem, SideLink, Target, TopName, UsePath, all_items, cases_Bool, env_of, find_at, find_passes, flat_map, foreign_at, foreign_interfaces, foreign_items, if◌then◌else◌, interface_place, interfaces_differ, is_none, is_same_link, is_world, is_world_at, item_link, item_named, item_word, items_on, kept_has, leads, link_fault, linked_fault, linked_twice, list_any, lost_fault, metadata_fault, missing_at, number_equal, option_map, option_map_or, option_or, option_to_list, or_assoc, path_id, path_place, path_scope, place_at, place_at-found, prefix_of, reached_fault, same_address, same_address-equal, same_address-from, slice_get, slice_get-map, some_of, target_scope, unresolved_fault, visited, world_there, ◌&&◌, AddsMembers, AreRightMembers, Called, Exported, Extern, Imported, InterfaceItem, Interfaces, IsRightOf, IsStart, ItemWalk, Known, Name, ScopeName, Sorted, SourceFunction, Stage, TheInline, TypeDef, WorldSide, about, address, called_fault, clash-made, contains_at, crossed, entry_sorted, external_fault, filter, first_in, function_fault, handle_fault, in-map, in_turn, inline_after, inline_item, interfaces_at, is_extern, is_interface, item_called, item_function, item_name, item_side, item_sorted, kept_at, lead, local_id, local_names, map_map, member_fault, name_called, names_in, names_on, next_place, or_none_both, own_fault, put_fault, put_link_fault, same_side, scope_names, side_items, side_sorted, signed_fault, sorted_on, stability_fault, stage, type_imports, item_view, crossed_same, sides_sorted, side_called, sorted_name, crossed_among, repeat_of, word_fault}
 use Rattle.wit_arena.proofs.Common.{Item}
 use Rattle.wit_items.proofs.Common.{linked_fault as again_fault, ordered_fault}
 use Rattle.wit_contents.specs.declared.walk.Growing.{Growing}
 use Rattle.wit_contents.specs.declared.walk.Walked.{Walked}
 use Rattle.wit_signatures.specs.FunctionsOfScope.{name_key, name_of_id}
 use Rattle.wit_sides.specs.SideNames.{defined_on}
-use Rattle.wit_externs.specs.Clash.{again_fault as twice_fault, EndsIn, item_names, names_of_items, bare_places, linked_on, again as same_again}
+use Rattle.wit_externs.specs.Clash.{again_fault as twice_fault, EndsIn, item_names, names_of_items, bare_places, linked_on, again as same_again, signed_by}
 use Rattle.wit_item_entries.proofs.NameOrder.{all_used, bare_item, bare_name}
 use Rattle.wit_world_sides.specs.declared.members.Members.{Members}
 use Rattle.wit_contents.proofs.PathsWalked.{in_same}
@@ -127,7 +127,7 @@ module _ (top : List TopName) (lead : UsePath → Option ℕ) (link : Link) (id 
       of_link l.name l (bare_places lead xs) (list_any again (flat_map item_link xs)) own.0 refl own.1 own.2 (any_walked xs (record { each = λ k m there. have.each (suc k) m there }))
 
   -- it is one of them again
-  pub again_linked_walked : (before : List SideItem) → HaveOwnPlaces (items_on link.side before) → again_linked (bare_places lead (items_on link.side before)) link id ≡ again_fault top before link
+  pub again_linked_walked : (before : List SideItem) → HaveOwnPlaces (items_on link.side before) → (if is_none link.name && list_any (nat_eq id) (bare_places lead (items_on link.side before)) then Some (linked_twice link.side (path_id link.path).span) else None) ≡ again_fault top before link
   again_linked_walked before have = ap (λ (b : Bool). if b then Some (linked_twice link.side (path_id link.path).span) else None) (any_walked (items_on link.side before) have)
 
 -- a link, where this is what comes of its place and its name
@@ -175,7 +175,7 @@ module _ (files : List PackageFile) (by_name : Names) (top : List TopName) (befo
 
 -- The walk's fault of what is on the sides of a world is what is found of it, one after another: of its name, and of itself.
 -- one name after others
-named_walked : (extern : Bool) (side : WorldSide) (before : List Called) (c : Called) → named_fault extern (crossed_among side (map sorted_name before)) (map bare_name before) (bare_name c) ≡ called_fault extern (crossed side) before c
+named_walked : (extern : Bool) (side : WorldSide) (before : List Called) (c : Called) → option_or (if extern then repeat_of (λ (m : Name). m.0) (λ (m : Name). crossed_among side (map sorted_name before) m.0 m.1) (map bare_name before) (bare_name c) else None) (again_fault (map bare_name before) (bare_name c)) ≡ called_fault extern (crossed side) before c
 named_walked extern side before c =
     let as_crossed = crossed_among side (map sorted_name before) in
     ap (λ (o : Option Fault). option_or (if extern then o else None) (twice_fault (map bare_name before) (bare_name c))) (repeat-made (λ (m : Name). m.0) (λ (m : Name). as_crossed m.0 m.1) bare_name before c ∙ sym (crossed_same side before c))
@@ -202,9 +202,9 @@ put_walked m xs order ids before x are state sorts =
     let side = item_side x in
     let there = items_on side before in
     let all = side_called side xs there order in
-    let wrong = named_fault (is_extern x) (crossed_among side (map sorted_name all)) (map bare_name all) in
-    ap (λ (l : List Sorted). first_in (named_fault (is_extern x) (crossed_among side l) (defined_on side m.in_use)) (item_names x)) (sorts side ∙ sides_sorted side xs there order)
-    ∙ ap (λ (l : List Name). first_in (named_fault (is_extern x) (crossed_among side (map sorted_name all)) l) (item_names x)) (state side ∙ sym (all_used side xs there order ids are))
+    let wrong = (λ (n : Name). option_or (if is_extern x then repeat_of (λ (m : Name). m.0) (λ (m : Name). crossed_among side (map sorted_name all) m.0 m.1) (map bare_name all) n else None) (again_fault (map bare_name all) n)) in
+    ap (λ (l : List Sorted). first_in (λ (n : Name). option_or (if is_extern x then repeat_of (λ (m : Name). m.0) (λ (m : Name). crossed_among side l m.0 m.1) (defined_on side m.in_use) n else None) (again_fault (defined_on side m.in_use) n)) (item_names x)) (sorts side ∙ sides_sorted side xs there order)
+    ∙ ap (λ (l : List Name). first_in (λ (n : Name). option_or (if is_extern x then repeat_of (λ (m : Name). m.0) (λ (m : Name). crossed_among side (map sorted_name all) m.0 m.1) l n else None) (again_fault l n)) (item_names x)) (state side ∙ sym (all_used side xs there order ids are))
     ∙ ap (first_in wrong) (sym (bare_item x))
     ∙ in-map wrong bare_name (item_called x)
     ∙ in_same (λ (c : Called). wrong (bare_name c)) (called_fault (is_extern x) (crossed side) all) (item_called x) (λ k c at. named_walked (is_extern x) side all c)
@@ -256,7 +256,7 @@ module _ (wk : ItemWalk) (known : Known) (order : List ℕ) (turned : wk.scope.n
       linked s = adds.linked s ∙ ap (λ l. l ++ bare_places (lead wk) (items_on s done)) (begun.linked s)
 
       -- a function
-      function_walked : (fn : SourceFunction) → function_member wk done m fn handle ≡ member done (SideFunction fn)
+      function_walked : (fn : SourceFunction) → option_or (function_fault (signed_by (word_fault (scope_names (item_view wk.item))) handle (flat_map item_function done ++ fn ∷ [])) (scope_names (item_view wk.item)) fn) (put_fault m (SideFunction fn)) ≡ member done (SideFunction fn)
       function_walked fn = ap (option_or (function_fault (signed_fault xs (flat_map item_function done ++ fn ∷ []) handle) xs fn)) (put (SideFunction fn))
 
       -- a link
@@ -276,11 +276,11 @@ module _ (wk : ItemWalk) (known : Known) (order : List ℕ) (turned : wk.scope.n
                   let r = adds.leads l (contains_at done p.0 (SideLink l) p.1) in
                   (r.0, r.1, present l r.0 r.1));
             } in
-            ap (λ (ids : List ℕ). option_or (again_linked ids link id) (put_fault m (SideLink link))) (linked side)
+            ap (λ (ids : List ℕ). option_or (if is_none link.name && list_any (nat_eq id) ids then Some (linked_twice link.side (path_id link.path).span) else None) (put_fault m (SideLink link))) (linked side)
             ∙ ap (λ (o : Option Fault). option_or o (put_fault m (SideLink link))) (again_linked_walked item.top (lead wk) link id addresses (interface_place (prefix_of files) is.by_name) (λ path. refl) (present link id at) at done have)
             ∙ ap (option_or (again_fault item.top done link)) (put (SideLink link))
 
-        links_walked : Contains (side_items item) (SideLink link) → link_member wk m link ≡ member done (SideLink link)
+        links_walked : Contains (side_items item) (SideLink link) → option_or (metadata_fault link.attributes) (option_or (linked_fault wk.interfaces.files wk.interfaces.by_name (item_view wk.item).top link.path) (option_map_or (put_link_fault m link) (lead wk link.path) None)) ≡ member done (SideLink link)
         links_walked among = link_walked files is.by_name item.top done link (leading link among) (put_link_fault m link) (named done (SideLink link)) both
 
       -- an inline interface
@@ -300,7 +300,7 @@ module _ (wk : ItemWalk) (known : Known) (order : List ℕ) (turned : wk.scope.n
         wrong_inside : (f : Fault) → inner u ≡ Some f → member done own ≡ Some f
         wrong_inside f wrong = ap (λ (us : List Item). option_or (option_or (first_in inner us) (external_fault x.attributes.items)) (named done own)) written ∙ ap (λ (o : Option Fault). option_or (option_or (option_or o None) (external_fault x.attributes.items)) (named done own)) wrong
 
-        none_inside : inner u ≡ None → member done own ≡ inline_member m done own
+        none_inside : inner u ≡ None → member done own ≡ option_or (metadata_fault x.attributes.items) (put_fault m own)
         none_inside none =
             let stable : stability_fault x.attributes.items ≡ None = ap (λ (i : Item). stability_fault (about i.declared).attributes) is_written ∙ (or_none_both (stability_fault (about u.declared).attributes) _ none).0 in
             ap (λ (us : List Item). option_or (option_or (first_in inner us) (external_fault x.attributes.items)) (named done own)) written
@@ -308,12 +308,12 @@ module _ (wk : ItemWalk) (known : Known) (order : List ℕ) (turned : wk.scope.n
             ∙ ap (option_or (external_fault x.attributes.items)) (sym (put own))
             ∙ sym (ap (λ (o : Option Fault). option_or (option_or o (external_fault x.attributes.items)) (put_fault m own)) stable)
 
-        inside_is : member done own ≡ option_or (inner u) (inline_member m done own)
+        inside_is : member done own ≡ option_or (inner u) (option_or (metadata_fault x.attributes.items) (put_fault m own))
         inside_is = by (inner u) refl
           where
-            by : (o : Option Fault) → inner u ≡ o → member done own ≡ option_or (inner u) (inline_member m done own)
-            by None none = none_inside none ∙ ap (λ (o : Option Fault). option_or o (inline_member m done own)) (sym none)
-            by (Some f) wrong = wrong_inside f wrong ∙ ap (λ (o : Option Fault). option_or o (inline_member m done own)) (sym wrong)
+            by : (o : Option Fault) → inner u ≡ o → member done own ≡ option_or (inner u) (option_or (metadata_fault x.attributes.items) (put_fault m own))
+            by None none = none_inside none ∙ ap (λ (o : Option Fault). option_or o (option_or (metadata_fault x.attributes.items) (put_fault m own))) (sym none)
+            by (Some f) wrong = wrong_inside f wrong ∙ ap (λ (o : Option Fault). option_or o (option_or (metadata_fault x.attributes.items) (put_fault m own))) (sym wrong)
 
     -- the next one
     pub right_members : AreRightMembers member wk [] (side_items item) (stage old start)

@@ -6,7 +6,7 @@ use Rattle.wit_items.proofs.Common.{interface_fault}
 use Rattle.wit_arena.proofs.Placing.{gives_in, place_in}
 use Rattle.wit_arena.proofs.FreeNames.{free_of, AreStated, free_stated, stated_free, free_names}
 use Rattle.wit_scopes.specs.declared.scope_name.Source.TheVariants as borrowed_source
-use Rattle.wit_item_entries.specs.ReachedFaults.{asked_fault, interface_of, lost_name, used_fault}
+use Rattle.wit_item_entries.specs.ReachedFaults.{interface_of, lost_name, used_fault}
 use Rattle.wit_item_entries.proofs.ReachedFaults.{found_of, of_function, of_nothing, used_from}
 use Rattle.wit_contents.proofs.Walked.{AreAsWalked}
 use Rattle.wit_model.specs.declared.ast_item.AstItem.TheVariants as entry
@@ -40,7 +40,7 @@ record IsItemAt (files : List PackageFile) (from : Address) (name : List ℕ) (c
 abbrev said_at : UseName → Option Item → Option Fault
 said_at n o = option_map_or (λ (target : Item). if is_none (meaning (scope_names target) n.name.name.now) then Some (lost_use target n.name) else None) o None
 
-asked_same : (files : List PackageFile) (from : Address) (attributes : List Attribute) (n : UseName) (i : Interface) → IsItemAt files from n.name.name.now (resolved_scope_at from i) → asked_fault n.name i ≡ use_fault files (Used from attributes n)
+asked_same : (files : List PackageFile) (from : Address) (attributes : List Attribute) (n : UseName) (i : Interface) → IsItemAt files from n.name.name.now (resolved_scope_at from i) → (if is_none (env_of i.types n.name.name.now) then Some (lost_name (free_functions i) n.name) else None) ≡ use_fault files (Used from attributes n)
 asked_same files from attributes n i t = by (env_of i.types n.name.name.now) refl ∙ sym (ap (said_at n) t.found)
   where
     lost : lost_name (free_functions i) n.name ≡ lost_use t.item n.name
@@ -61,7 +61,7 @@ means_in : (xs ys : List ScopeName) (name : List ℕ) → xs ≡ ys → (x : Sco
 means_in xs ys name same m = (m.0, ap (λ (zs : List ScopeName). meaning zs name) same ∙ m.1)
 
 -- an interface that has a name has no fault of it
-asked_none : (id : Id) (i : Interface) → IsSome (env_of i.types id.name.now) → asked_fault id i ≡ None
+asked_none : (id : Id) (i : Interface) → IsSome (env_of i.types id.name.now) → (if is_none (env_of i.types id.name.now) then Some (lost_name (free_functions i) id) else None) ≡ None
 asked_none id i present = (let p = some_of (env_of i.types id.name.now) present in ap (λ (o : Option ℕ). if is_none o then Some (lost_name (free_functions i) id) else None) p.1)
 
 module _ (files : List PackageFile) (places : List ℕ) (order : IsOrder (item_rows files) places) (differ : AllDiffer (map item_name (all_items files))) (uses : AreUsableUses files (all_items files)) (es : List TypeDef) (prefix : List Interface) (wprefix : List World) (foreign : AddsForeign files es prefix wprefix) where
@@ -123,7 +123,7 @@ module _ (files : List PackageFile) (places : List ℕ) (order : IsOrder (item_r
         subst (λ m. IsSome (env_of i.types m)) called (used_listed files uses es prefix wprefix foreign t v.0 i v.1 there x.0 x.1 x.2 (scope ∙ same ∙ sym v.2))
 
     -- a name that an interface is asked for
-    asked_walked : (from : Address) (attributes : List Attribute) (n : UseName) (i : Interface) → IsFound (resolved_scopes ss (prefix ++ own)) from (resolved_scope_at from i) → IsResolvedUse files places order differ vs from ⊎ IsForeignUse files from n → asked_fault n.name i ≡ use_fault files (Used from attributes n)
+    asked_walked : (from : Address) (attributes : List Attribute) (n : UseName) (i : Interface) → IsFound (resolved_scopes ss (prefix ++ own)) from (resolved_scope_at from i) → IsResolvedUse files places order differ vs from ⊎ IsForeignUse files from n → (if is_none (env_of i.types n.name.name.now) then Some (lost_name (free_functions i) n.name) else None) ≡ use_fault files (Used from attributes n)
     asked_walked from attributes n i f earlier =
         let c = resolved_scope_at from i in
         elim (at_split (resolved_scopes ss prefix) (map resolved_scope own) f.place c (ap (λ (l : List ResolvedScope). slice_get l f.place) (sym (all_scopes_of own)) ∙ f.at)) [

@@ -1,6 +1,6 @@
 -- The walk's fault of each interface is what is found of it, where its uses are as walked and the walk's test of names in handles is right, as it is once those before it are resolved.
 use Rattle.std.proofs.Common.{◌≡◌, ◌⊎◌, ◌++◌, ℕ, false, List, map, take, Option, Some, Contains, inl, inr, sym, ap, ◌∙◌, subst, ◌+◌, Bool, true, not, length, None}
-use Rattle.wit_contents.proofs.Names.{Address, AddsForeign, AddsInterfaces, AllDiffer, AreNamesPlaced, AreUsableUses, Attribute, Borrowed, EndsInTurn, Fault, Id, Interface, InterfaceNamed, Interfaces, InterfacesDone, IsForeignUse, IsIndexed, IsLent, IsNameIndex, IsOrder, IsOutcome, IsResolvedUse, IsRightOf, Item as BorrowedItem, ItemScope, Known, Outcome, PackageFile, Required, ResolvedScope, Row, ScopeName, TypeDef, UseName, Used, UsedName, World, address, all_items, are_interfaces, are_worlds, at_seam, contains_at, contents_fault, earliest, filter, flat_map, foreign_interfaces, handle_fault, in_order, interface_fault, interfaces, interfaces_at, interfaces_done, interfaces_of, interfaces_sort, is_world, item_name, item_rows, item_view, kept_early, kept_next, kept_prefix, name_view, names_of, option_map, own_use, prefix_of, resolved_scopes, resolved_scopes_of, rows_of, scope_faults, scope_names, slice_get, slice_get-map, source_view, use_view, used, used_before, uses_viewed, visited, worlds, worlds_sort}
+use Rattle.wit_contents.proofs.Names.{Address, AddsForeign, AddsInterfaces, AllDiffer, AreNamesPlaced, AreRightOf, AreUsableUses, Attribute, Borrowed, EndsInTurn, Fault, Id, Interface, InterfaceNamed, Interfaces, InterfacesDone, IsForeignUse, IsIndexed, IsLent, IsNameIndex, IsOrder, IsOutcome, IsResolvedUse, IsRightOf, Item as BorrowedItem, ItemScope, Known, Outcome, PackageFile, Required, ResolvedScope, Row, ScopeName, TypeDef, UseName, Used, UsedName, World, address, all_items, are_interfaces, are_worlds, at_seam, contains_at, contents_fault, earliest, filter, flat_map, foreign_interfaces, handle_fault, in_order, interface_fault, interfaces, interfaces_at, interfaces_done, interfaces_of, interfaces_sort, is_world, item_name, item_rows, item_view, kept_early, kept_next, kept_prefix, name_view, names_of, option_map, own_use, prefix_of, resolved_scopes, resolved_scopes_of, rows_of, scope_faults, scope_names, slice_get, slice_get-map, source_view, use_view, used, used_before, uses_viewed, visited, worlds, worlds_sort}
 use Rattle.wit_arena.proofs.Common.{Item}
 use Rattle.wit_walk.proofs.Common.{used_at}
 use Rattle.wit_types.specs.declared.types.TypeOwner.TheVariants as owner
@@ -38,10 +38,6 @@ module _ (files : List PackageFile) (known : Known) (outcomes : (rs : List Row) 
   -- so a test by files is right of an interface
   pub right_interface : IsRightOf (ordered_fault files known inside) is old place w
   right_interface = record { outcome = outcome; handle = handle; right = outcomes (rows_of (scope_names w)); ends = ends; says = λ s lent. sym (by_files s lent) }
-
--- what `AreRightOf` says, by the files and the arena of the interfaces alone
-abbrev pub AreRightFrom : (Item → Option Fault) → List PackageFile → List Interface → List TypeDef → List BorrowedItem → List ℕ → Type 0
-AreRightFrom wrong fs arena old items places = (now : Interfaces) (mid : List TypeDef) (rs : List Required) (count place : ℕ) (w : Item) → now.files ≡ fs → slice_get places count ≡ Some place → slice_get (map item_view items) place ≡ Some w → is_world w ≡ false → AddsInterfaces (prefix_of fs) old mid arena now.arena rs (interfaces_of (in_order (map item_view items) (take count places))) → IsIndexed now → IsRightOf wrong now mid (length now.arena) w
 
 -- what comes next in an order comes after those kept before it
 pub next_kept : (test : Item → Bool) (all : List Item) (places : List ℕ) (k p : ℕ) (w : Item) → slice_get places k ≡ Some p → slice_get all p ≡ Some w → test w ≡ true → slice_get (filter test (in_order all places)) (length (filter test (in_order all (take k places)))) ≡ Some w
@@ -100,7 +96,7 @@ module _ (files : List PackageFile) (places : List ℕ) (order : IsOrder (item_r
     right_next = right_interface files known outcomes (ordered_fault files known (λ (v : Item). None)) now mid (length now.arena) w sort walked ends
 
   -- after those of other packages
-  pub interfaces_right : (known : Known) → ((rs : List Row) → IsOutcome rs (known.outcome rs)) → ((s : Address) → IsEnough files known.steps s) → (fs : List PackageFile) → fs ≡ files → (items : List BorrowedItem) → map item_view items ≡ all → AreRightFrom (contents_fault files known) fs prefix es items places
+  pub interfaces_right : (known : Known) → ((rs : List Row) → IsOutcome rs (known.outcome rs)) → ((s : Address) → IsEnough files known.steps s) → (fs : List PackageFile) → fs ≡ files → (items : List BorrowedItem) → map item_view items ≡ all → AreRightOf (contents_fault files known) fs prefix es items places
   interfaces_right known outcomes enough fs same items view now mid rs count place w kept next at sort added index =
       let by_files : AddsInterfaces fore es mid prefix now.arena rs (interfaces_of (in_order (map item_view items) (take count places))) = subst (λ (l : List PackageFile). AddsInterfaces (prefix_of l) es mid prefix now.arena rs (interfaces_of (in_order (map item_view items) (take count places)))) same added in
       let by_items : AddsInterfaces fore es mid prefix now.arena rs (interfaces_of (in_order all (take count places))) = subst (λ (l : List Item). AddsInterfaces fore es mid prefix now.arena rs (interfaces_of (in_order l (take count places)))) view by_files in

@@ -1,6 +1,6 @@
 -- The walk's fault of each world is what is found of it, once all interfaces and the worlds before it are resolved.
 use Rattle.std.proofs.Common.{◌≡◌, ◌⊎◌, ℕ, ◌+◌, true, false, List, [], ◌∷◌, ◌++◌, length, map, take, Option, Some, None, IsSome, inl, inr, refl, sym, ap, ◌∙◌, subst, Contains, arith}
-use Rattle.wit_contents.proofs.Names.{Address, AddsForeign, AddsInterfaces, AddsMembers, AddsScope, AddsSides, AddsWorlds, AllDiffer, AreIndexed, AreNamesPlaced, AreRightMembers, AreRightOfWorlds, AreUsableUses, AreWorldsDone, Attribute, Borrowed, EndsInTurn, Fault, Foreign, ForeignNamed, ForeignVisit, HasPart, Id, InOrder, Include, IncludePart, Interface, InterfaceNamed, Interfaces, InterfacesDone, IsBrokenNames, IsForeignUse, IsIndexed, IsItemOf, IsLent, IsNameIndex, IsOrder, IsOutcome, IsResolvedUse, IsRight, IsRightOf, IsRightOfWorld, IsStart, IsWalk, Item as BorrowedItem, ItemScope, ItemWalk, Known, Link, Names, Outcome, PackageFile, PackageName, ParseError, Reports, Required, ResolvedScope, Row, ScopeName, SideItem, SideLink, Stage, TopName, TypeDef, UseName, Used, World, WorldArenas, WorldNamed, Worlds, address, all_items, all_scopes, all_uses_fault, are_interfaces, are_worlds, at_contains, bytes_eq, contains_at, contents_fault, declared_view, distinct_items, env_of, fault_after, filed_item, find_at, find_passes, first_after, first_in, flat_map, foreign_at, foreign_interfaces, handle_fault, in_order, in_turn, include_fault, includes, includes_fault, inline_after, inline_after-append, inline_interface, inline_items, interface_at, interfaces, interfaces_at, interfaces_done, interfaces_in, interfaces_of, interfaces_sort, is_world, item_inline, item_name, item_named, item_rows, item_view, kept_prefix, leads, length-inline_after, local_id, member_fault, name_equal, name_view, names_at_top, next_place, option_cases, option_map, option_or, order_of, others_of, outcome_one, own_use, part_visited, parts, prefix_of, prefix_scopes, prefix_worlds, reports_same, resolved_scopes, resolved_scopes_of, rows_of, scope_names, scopes_declared, scopes_inline, setters_fault, side_items, slice_get, slice_get-map, source_view, stage, take_seam, used_interface, used_visited, uses_usable, visited, worlds, worlds_at, worlds_in, worlds_of, worlds_sort}
+use Rattle.wit_contents.proofs.Names.{Address, AddsForeign, AddsInterfaces, AddsMembers, AddsScope, AddsSides, AddsWorlds, AllDiffer, AreIndexed, AreNamesPlaced, AreRightMembers, AreRightOfWorlds, AreUsableUses, AreWorldsDone, Attribute, Borrowed, EndsInTurn, Fault, Foreign, ForeignNamed, ForeignVisit, HasPart, Id, InOrder, Include, IncludePart, Interface, InterfaceNamed, Interfaces, InterfacesDone, IsBrokenNames, IsForeignUse, IsIndexed, IsItemOf, IsLent, IsNameIndex, IsOrder, IsOutcome, IsResolvedUse, IsRight, IsRightOf, IsRightOfWorld, IsStart, IsWalk, Item as BorrowedItem, ItemScope, ItemWalk, Known, Link, Names, Outcome, PackageFile, PackageName, ParseError, Reports, Required, ResolvedScope, Row, ScopeName, SideItem, SideLink, Stage, TopName, TypeDef, UseName, Used, World, WorldArenas, WorldNamed, Worlds, address, all_items, all_scopes, all_uses_fault, are_interfaces, are_worlds, at_contains, bytes_eq, contains_at, contents_fault, declared_view, distinct_items, env_of, fault_after, filed_item, find_at, find_passes, first_after, first_in, flat_map, foreign_at, foreign_interfaces, handle_fault, in_order, in_turn, include_fault, includes, includes_fault, inline_after, inline_after-append, inline_interface, inline_items, interface_at, interfaces, interfaces_at, interfaces_done, interfaces_in, interfaces_of, interfaces_sort, is_world, item_inline, item_name, item_named, item_rows, item_view, kept_prefix, leads, length-inline_after, local_id, member_fault, name_equal, name_view, names_at_top, next_place, option_cases, option_map, option_or, order_of, others_of, outcome_one, own_use, part_visited, parts, prefix_of, prefix_scopes, prefix_worlds, reports_same, resolved_scopes, resolved_scopes_of, rows_of, scope_names, scopes_declared, scopes_inline, setters_fault, side_items, slice_get, slice_get-map, source_view, stage, take_seam, used_interface, used_visited, uses_usable, visited, worlds, worlds_at, worlds_of, worlds_sort}
 use Rattle.wit_contents.specs.declared.walk.Growing.{Growing}
 use Rattle.wit_contents.specs.declared.walk.Walked.{Walked}
 use Rattle.wit_contents.specs.declared.walk.WorldScope.{WorldScope}
@@ -16,7 +16,7 @@ use Rattle.wit_contents.proofs.Ends.{IsEnough, inline_ends, named_ends, world_en
 use Rattle.wit_contents.proofs.PathsWalked.{includes_walked, near_has, uses_as_walked}
 use Rattle.wit_contents.proofs.MembersWalked.{IsLeading, right_members}
 use Rattle.wit_contents.proofs.Members.{sides_count}
-use Rattle.wit_contents.proofs.RightInterfaces.{borrowed_uses, next_kept, right_interface, AreRightFrom, interfaces_right}
+use Rattle.wit_contents.proofs.RightInterfaces.{borrowed_uses, next_kept, right_interface, AreRightOf, interfaces_right}
 use Rattle.wit_contents.proofs.Walked.{AreAsWalked, head_walked, world_split}
 use Rattle.wit_contents.proofs.FileFaults.{interfaces_reported, none_after, worlds_reported}
 use Rattle.wit_walk.proofs.MemberFaults.{path_among}
@@ -239,13 +239,13 @@ module _ (files : List PackageFile) (places : List ℕ) (order : IsOrder (item_r
   usable : AreUsableUses files (all_items files)
   usable = uses_usable files sound
 
-  starts : AreRightFrom test fs prefix es items places
+  starts : AreRightOf test fs prefix es items places
   starts = interfaces_right files places order (distinct_items files legal) usable es prefix wprefix foreign known is.outcomes is.enough fs same items view
 
-  pub interfaces_first : (e : ParseError) → ((wrong : Item → Option Fault) → AreRightFrom wrong fs prefix es items places → Reports (first_in wrong (interfaces_in items places)) e) → Reports (fault_after 6 files known) e
+  pub interfaces_first : (e : ParseError) → ((wrong : Item → Option Fault) → AreRightOf wrong fs prefix es items places → Reports (first_in wrong (interfaces_in items places)) e) → Reports (fault_after 6 files known) e
   interfaces_first e found = interfaces_reported files known is places order e sound (reports_same (ap (λ (l : List Item). first_in test (interfaces_of (in_order l places))) view) (found test starts))
 
-  module _ (right : (wrong : Item → Option Fault) → AreRightFrom wrong fs prefix es items places → first_in wrong (interfaces_in items places) ≡ None) (now : Interfaces) (kept : now.files ≡ fs) (middle : List TypeDef) (rs : List Required) (added : AddsInterfaces (prefix_of fs) es middle prefix now.arena rs (interfaces_in items places)) (index : IsIndexed now) where
+  module _ (right : (wrong : Item → Option Fault) → AreRightOf wrong fs prefix es items places → first_in wrong (interfaces_in items places) ≡ None) (now : Interfaces) (kept : now.files ≡ fs) (middle : List TypeDef) (rs : List Required) (added : AddsInterfaces (prefix_of fs) es middle prefix now.arena rs (interfaces_in items places)) (index : IsIndexed now) where
     before_none : first_in test (interfaces_of (in_order (all_items files) places)) ≡ None
     before_none = ap (λ (l : List Item). first_in test (interfaces_of (in_order l places))) (sym view) ∙ right test starts
 
@@ -254,8 +254,8 @@ module _ (files : List PackageFile) (places : List ℕ) (order : IsOrder (item_r
         let own = subst (λ (l : List Item). AddsInterfaces (prefix_of files) es middle prefix now.arena rs (interfaces_of (in_order l places))) view (subst (λ (gs : List PackageFile). AddsInterfaces (prefix_of gs) es middle prefix now.arena rs (interfaces_in items places)) same added) in
         subst (λ (gs : List PackageFile). AreDeclared gs now.arena places es prefix wprefix middle rs → map item_view items ≡ all_items gs → ((s : Address) → IsEnough gs known.steps s) → AreRightOfWorlds (contents_fault gs known) now wprefix middle items places) (kept ∙ same) (λ declared all ends. worlds_right now places es prefix wprefix middle rs declared index items all known is.outcomes ends) (record { order = order; differ = distinct_items files legal; uses = usable; foreign = foreign; added = own }) view is.enough
 
-    pub worlds_first : (e : ParseError) → ((wrong : Item → Option Fault) → AreRightOfWorlds wrong now wprefix middle items places → Reports (first_in wrong (worlds_in items places)) e) → Reports (fault_after 6 files known) e
+    pub worlds_first : (e : ParseError) → ((wrong : Item → Option Fault) → AreRightOfWorlds wrong now wprefix middle items places → Reports (first_in wrong (worlds_of (in_order (map item_view items) places))) e) → Reports (fault_after 6 files known) e
     worlds_first e found = worlds_reported files known is places order e sound before_none (reports_same (ap (λ (l : List Item). first_in test (worlds_of (in_order l places))) view) (found test follow))
 
-    pub nothing_first : ((wrong : Item → Option Fault) → AreRightOfWorlds wrong now wprefix middle items places → first_in wrong (worlds_in items places) ≡ None) → fault_after 6 files known ≡ None
+    pub nothing_first : ((wrong : Item → Option Fault) → AreRightOfWorlds wrong now wprefix middle items places → first_in wrong (worlds_of (in_order (map item_view items) places)) ≡ None) → fault_after 6 files known ≡ None
     nothing_first found = none_after files known is places order sound before_none (ap (λ (l : List Item). first_in test (worlds_of (in_order l places))) (sym view) ∙ found test follow)

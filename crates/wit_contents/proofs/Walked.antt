@@ -1,12 +1,9 @@
 -- The first fault of an interface by tables, and that of a world before its members, is that of the walk of files, where the tables say what the files do.
 use Rattle.std.proofs.Common.{◌≡◌, ℕ, suc, Bool, true, false, List, [], ◌∷◌, ◌++◌, map, Option, Some, None, refl, sym, ap, ◌∙◌, length, ◌==◌}
-use Rattle.wit_contents.proofs.Names.{Called, Defined, Exported, Fault, ForeignName, Id, Imported, Include, Interfaces, Item as BorrowedItem, ItemScope, Name, Outcome, PackageFile, ScopeName, SideFunction, SideItem, SourceFunction, Used, UsedName, WorldSide, Worlds, about, address, after-append, after_kept, any-map, bytes_eq, called_fault, clash, clash-made, clash-map, codes, crossed, cyclic_at, defined, definition_fault, earliest, fault_in, first_after, first_in, flat_map, folded_fault, folded_key, function_fault, functions, functions_imported, handle_fault, if◌then◌else◌, in_order, in_turn, include_fault, includes, includes_fault, interface_fault, is_on_side, is_world, item_function, item_stability, item_view, items_on, kept_all, kept_none, local_id, local_name, local_names_fault, map-append, member_fault, missing_type_at, name_called, name_fault, name_twice, names_of, names_on, name_view, on_side, option_or, or_assoc, or_none, or_none_both, order_fault, order_of, ordered_fault, own_fault, own_use, repeat-map, repeat_of, role_side, same_side, scope_faults, scope_item, scope_names, setters_fault, side_called, side_items, side_items_functions, side_setters_fault, signed_fault, slice_get, stability_fault, turn_fault, type_word, use_fault, use_view, used, uses_viewed, word_fault, world_head, functions_free}
+use Rattle.wit_contents.proofs.Names.{Called, Defined, Exported, Fault, ForeignName, Id, Imported, Include, Interfaces, Item as BorrowedItem, ItemScope, Name, Outcome, PackageFile, ScopeName, SideFunction, SideItem, SourceFunction, Used, UsedName, WorldSide, Worlds, about, address, after-append, after_kept, any-map, bytes_eq, called_fault, clash, clash-made, clash-map, codes, crossed, cyclic_at, defined, definition_fault, earliest, fault_in, first_after, first_in, flat_map, folded_fault, folded_key, function_fault, functions, functions_imported, handle_fault, if◌then◌else◌, in_order, in_turn, include_fault, includes, includes_fault, interface_fault, is_on_side, is_world, item_function, item_stability, item_view, items_on, kept_all, kept_none, local_id, local_name, local_names_fault, map-append, member_fault, missing_type_at, name_called, name_fault, name_twice, names_of, names_on, name_view, on_side, option_or, or_assoc, or_none, or_none_both, order_fault, order_of, ordered_fault, own_fault, own_use, repeat-map, repeat_of, role_side, same_side, scope_faults, scope_item, scope_names, setters_fault, side_called, side_items, side_items_functions, side_setters_fault, signed_fault, slice_get, stability_fault, type_word, use_fault, use_view, used, uses_viewed, word_fault, functions_free, names_fault}
 use Rattle.wit_arena.proofs.Common.{Item}
-use Rattle.wit_type_tree.specs.declared.types.TypeBody.TheVariants as body
-use Rattle.wit_type_tree.specs.declared.types.ResourceFunc.TheVariants as resource
-use Rattle.wit_tree.specs.declared.tree.InterfaceItem.TheVariants as interface_item
 use Rattle.wit_signatures.specs.FunctionsOfScope.{name_key, name_of_function, name_of_id}
-use Rattle.wit_externs.specs.Clash.{again, again_fault, alone_fault, alone_faults, defined_fault, lone_setters, names_of_items}
+use Rattle.wit_externs.specs.Clash.{again, again_fault, alone_faults, defined_fault, lone_setters, names_of_items, signed_by}
 use Rattle.wit_item_entries.specs.ReachedFaults.{local_fault, used_fault, functions_fault}
 use Rattle.wit_item_entries.proofs.NameOrder.{all_used, bare_name}
 use Rattle.wit_syntax.proofs.Setters.{declared_includes}
@@ -85,7 +82,7 @@ module _ (files : List PackageFile) (steps : ℕ) (inside : Item → Option Faul
   member = member_fault files steps inside i order
 
   abbrev alone : List SourceFunction → SourceFunction → Option Fault
-  alone = alone_fault (word_fault xs) handle xs taken
+  alone = (λ (before : List SourceFunction) (fn : SourceFunction). option_or (function_fault (signed_by (word_fault xs) handle (before ++ fn ∷ [])) xs fn) (again_fault (taken (role_side fn.role) ++ names_of_items (items_on (role_side fn.role) (map SideFunction before))) (name_of_function fn)))
 
   called_free : (extern : Bool) (as_crossed : Called → Called → Fault) (before : List Called) (c : Called) → extern ≡ false → called_fault extern as_crossed before c ≡ folded_fault before c
   called_free true as_crossed before c own = absurd (cc)
@@ -191,14 +188,14 @@ module _ (files : List PackageFile) (steps : ℕ) (ws : Worlds) (i : BorrowedIte
   round = order_fault missing_type_at (cyclic_at 16 type_word) outcome
 
   abbrev after : Option Fault
-  after = option_or (includes_fault ws w) (turn_fault (map local_id (in_turn listed (order_of outcome))))
+  after = option_or (includes_fault ws w) (defined_fault [] (map name_of_id (map local_id (in_turn listed (order_of outcome)))))
 
   -- by tables, over the names of the scope
-  by_tables : (h : Id → Option Fault) → world_head ws i outcome h ≡ option_or stable (option_or (option_or uses (option_or twice (option_or round (first_in (definition_fault h) (defined (in_order listed (order_of outcome))))))) after)
+  by_tables : (h : Id → Option Fault) → option_or (item_stability (item_view i)) (option_or (names_fault ws.interfaces.now i.names.items outcome h) (option_or (includes_fault ws (item_view i)) (defined_fault [] (map name_of_id (map local_id (in_turn (scope_names (item_view i)) (order_of outcome))))))) ≡ option_or stable (option_or (option_or uses (option_or twice (option_or round (first_in (definition_fault h) (defined (in_order listed (order_of outcome))))))) after)
   by_tables h = ap (λ (ys : List ScopeName). option_or stable (option_or (option_or uses (ordered_fault ys outcome h)) after)) named
 
   module _ (say : AreAsWalked files ws.interfaces.now (flat_map own_use i.names.items)) (included : includes_fault ws w ≡ first_in (include_fault files w.top) (includes w)) where
-    pub head_walked : world_head ws i outcome test ≡ walked_head files steps w outcome
+    pub head_walked : option_or (item_stability (item_view i)) (option_or (names_fault ws.interfaces.now i.names.items outcome test) (option_or (includes_fault ws (item_view i)) (defined_fault [] (map name_of_id (map local_id (in_turn (scope_names (item_view i)) (order_of outcome))))))) ≡ walked_head files steps w outcome
     head_walked =
         let order = order_of outcome in
         let definitions = first_in (definition_fault test) (defined (in_order listed order)) in

@@ -1,12 +1,12 @@
 -- The first fault of a world: of its attributes, of its names, of its includes, or of what is on its sides.
 use Rattle.std.proofs.Common.{◌≡◌, ℕ, ◌+◌, Bool, false, true, List, [], ◌∷◌, ◌++◌, drop, length, map, take, Option, Some, None, refl, sym, ap, ◌∙◌, subst, All, ◌<◌, get_or, ◌==◌, arith}
-use Rattle.wit_contents.proofs.Names.{AddsTurn, AreKeyed, Declared, EndsInTurn, Exported, Fault, Finds, FindsNames, FindsSides, Id, Imported, Include, IsItemOf, IsNext, IsOutcome, IsRightOfWorld, IsSeen, IsWalk, Item as BorrowedItem, ItemWalk, Outcome, PackageFile, ParseError, Reports, ResolvedScope, Result, ScopeName, SourceFunction, TheInline, TheInterface, TheWorld, TopName, TypeDef, TypeOwner, Worlds, about, all_declared, all_items, append-nil, at_contains, declared_view, eqb-suc-zero, filter, filter-append, filter_map-append, finds_same, first_after, first_in, functions, if◌then◌else◌, in-append, in-more, in_order, in_turn, includes, includes_fault, is_inside, item_in, item_stability, item_view, kept_next, local_id, names_at_top, names_fault, name_view, option_map, option_or, order_of, reports_back, reports_prefix, reports_same, resolved_scopes_of, rows_of, scope_names, setters_fault, side_items, side_setters_fault, sides_fault, slice_get, slice_get-get_or, slice_get-map, take-append-drop, turn_fault, world_head, Address, AddsMembers, AddsSides, AddsWorld, AllDiffer, AreIncludes, AreSideItems, Borrowed, Entry, HavePlaces, Interface, Interfaces, IsStart, IsTurn, MemberTest, Name, Names, Required, SideItem, World, WorldSide, address, and_parts, arenas, at_back, at_prefix, declared_metadata, eqb-true, flat_map, function_of, in_turn_distinct, inline_items, interfaces_at, is_ascii_uppercase, item_function, list_all, list_any, names_on, nil_from_length, no_clashes, none_both, part_functions, part_items, prefix_of, puts_nothing, settled, stage, type_imports, world_part, worlds_at, functions_parts}
+use Rattle.wit_contents.proofs.Names.{AddsTurn, AreKeyed, Declared, EndsInTurn, Exported, Fault, Finds, FindsNames, FindsSides, Id, Imported, Include, IsItemOf, IsNext, IsOutcome, IsRightOfWorld, IsSeen, IsWalk, Item as BorrowedItem, ItemWalk, Outcome, PackageFile, ParseError, Reports, ResolvedScope, Result, ScopeName, SourceFunction, TheInline, TheInterface, TheWorld, TopName, TypeDef, TypeOwner, Worlds, about, all_declared, all_items, append-nil, at_contains, declared_view, eqb-suc-zero, filter, filter-append, filter_map-append, finds_same, first_after, first_in, functions, if◌then◌else◌, in-append, in-more, in_order, in_turn, includes, includes_fault, is_inside, item_in, item_stability, item_view, kept_next, local_id, names_at_top, names_fault, name_view, option_map, option_or, order_of, reports_back, reports_prefix, reports_same, resolved_scopes_of, rows_of, scope_names, setters_fault, side_items, side_setters_fault, slice_get, slice_get-get_or, slice_get-map, take-append-drop, Address, AddsMembers, AddsSides, AddsWorld, AllDiffer, AreIncludes, AreSideItems, Borrowed, Entry, HavePlaces, Interface, Interfaces, IsStart, IsTurn, Name, Names, Required, SideItem, World, WorldSide, address, and_parts, arenas, at_back, at_prefix, declared_metadata, eqb-true, flat_map, function_of, in_turn_distinct, inline_items, interfaces_at, is_ascii_uppercase, item_function, list_all, list_any, names_on, nil_from_length, no_clashes, none_both, part_functions, part_items, prefix_of, puts_nothing, settled, stage, type_imports, world_part, worlds_at, functions_parts}
 use Rattle.wit_arena.proofs.Common.{Item, world}
 use Rattle.wit_contents.specs.declared.walk.Growing.{Growing}
 use Rattle.wit_contents.specs.declared.walk.Walked.{Walked}
 use Rattle.wit_contents.specs.declared.walk.WorldScope.{WorldScope}
 use Rattle.wit_walk.proofs.Common.{World as Written, WorldItem}
-use Rattle.wit_externs.specs.Clash.{sides_setters, again}
+use Rattle.wit_externs.specs.Clash.{sides_setters, again, defined_fault}
 use Rattle.wit_item_entries.proofs.ReachedFaults.{done, failed, turn_texts}
 use Rattle.wit_item_entries.specs.declared.names.ResolvedNames.{ResolvedNames}
 use Rattle.wit_contents.proofs.MemberFaults.{turned, world_sides}
@@ -57,7 +57,7 @@ module _ (ws : Worlds) (i : BorrowedItem) (old : Growing) where
 
   -- what comes after the names, where these are they in turn
   abbrev after : List Id → Option Fault
-  after ids = option_or (includes_fault ws w) (turn_fault ids)
+  after ids = option_or (includes_fault ws w) (defined_fault [] (map name_of_id ids))
 
   abbrev turned_ids : Outcome → List Id
   turned_ids outcome = map local_id (in_turn xs (order_of outcome))
@@ -92,18 +92,18 @@ module _ (ws : Worlds) (i : BorrowedItem) (old : Growing) where
 
         -- so what comes after them is wrong
         pub includes_first : (e : ParseError) → Reports (includes_fault ws (item_view i)) e → Reports (wrong (item_view i)) e
-        includes_first e found = reports_same (sym test.says) (reports_prefix rest (reports_back stable (reports_back (names_found (done n) head) (reports_prefix (turn_fault (turned_ids test.outcome)) found))))
+        includes_first e found = reports_same (sym test.says) (reports_prefix rest (reports_back stable (reports_back (names_found (done n) head) (reports_prefix (defined_fault [] (map name_of_id (turned_ids test.outcome))) found))))
 
         -- or what is found of its sides is found of it
         module _ (included : includes_fault ws (item_view i) ≡ None) where
-          head_is : world_head ws i test.outcome test.handle ≡ turn_fault n.turn.items
+          head_is : option_or (item_stability (item_view i)) (option_or (names_fault ws.interfaces.now i.names.items test.outcome test.handle) (option_or (includes_fault ws (item_view i)) (defined_fault [] (map name_of_id (map local_id (in_turn (scope_names (item_view i)) (order_of test.outcome))))))) ≡ defined_fault [] (map name_of_id n.turn.items)
           head_is =
               ap (λ (x : Option Fault). option_or x (option_or (names_test test.outcome test.handle) last)) stable
               ∙ ap (λ (x : Option Fault). option_or x last) (names_found (done n) head)
-              ∙ ap (λ (x : Option Fault). option_or x (turn_fault (turned_ids test.outcome))) included
-              ∙ ap turn_fault (sym turned_is)
+              ∙ ap (λ (x : Option Fault). option_or x (defined_fault [] (map name_of_id (turned_ids test.outcome)))) included
+              ∙ ap (λ (ids : List Id). defined_fault [] (map name_of_id ids)) (sym turned_is)
 
-          pub world_alone : {T : Type 0} (r : Result T ParseError) → Finds (sides_fault (item_view i) n.turn.items test.member) r → Finds (wrong (item_view i)) r
+          pub world_alone : {T : Type 0} (r : Result T ParseError) → Finds (option_or (defined_fault [] (map name_of_id n.turn.items)) (option_or (first_after test.member [] (side_items (item_view i))) (setters_fault (item_view i)))) r → Finds (wrong (item_view i)) r
           world_alone r found = finds_same r (sym (test.says ∙ ap (λ (x : Option Fault). option_or x rest) head_is)) found
 
       -- what is found in its walk, too
@@ -255,7 +255,7 @@ module _ (xs : List ScopeName) (ids : List Id) (turn : IsTurn xs ids) (lower : l
 -- a world of the files that has nothing on its sides after its names
 module _ (item : Item) (empty : side_items item ≡ []) where
   -- nothing has a fault
-  pub alone_none : (ids : List Id) → IsTurn (scope_names item) ids → list_any (λ (id : Id). list_any is_ascii_uppercase id.name.now) ids ≡ false → (member : MemberTest) → sides_fault item ids member ≡ None
+  pub alone_none : (ids : List Id) → IsTurn (scope_names item) ids → list_any (λ (id : Id). list_any is_ascii_uppercase id.name.now) ids ≡ false → (member : List SideItem → SideItem → Option Fault) → option_or (defined_fault [] (map name_of_id ids)) (option_or (first_after member [] (side_items item)) (setters_fault item)) ≡ None
   alone_none ids turn lower member = none_both (no_clashes name_key again (map name_of_id ids) (keys_differ (scope_names item) ids turn lower Imported)) (none_both (ap (first_after member []) empty) (setters_none item empty))
 
   -- and only the names are added

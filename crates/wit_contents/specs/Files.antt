@@ -1,6 +1,6 @@
 -- What files make, and their first fault from a step of the walk on.
 use Rattle.std.specs.Prelude.{◌≡◌, List, Result, Some, ℕ, Option, drop}
-use Rattle.wit_contents.specs.Names.{Interface, IsLegal, Makes, PackageFile, TypeDef, UnresolvedPackage, World, first_docs, headers, last_header, package_of, Address, EndsAt, Fault, Id, ParseError, Row, Word, item_rows, shape_end}
+use Rattle.wit_contents.specs.Names.{Interface, IsLegal, Makes, PackageFile, TypeDef, World, first_docs, headers, last_header, package_of, Address, EndsAt, Fault, Id, ParseError, Row, Word, item_rows, shape_end}
 use Rattle.wit_tree.specs.declared.tree.PackageName.{PackageName as Header}
 use Rattle.wit_model.specs.Packages.{package_of_parts}
 use Rattle.wit_model.specs.declared.foreign.ForeignItems.{ForeignItems}
@@ -9,13 +9,9 @@ use Rattle.wit_first.specs.First.{Finds}
 use Rattle.wit_walk.specs.Orders.{IsOutcome}
 use Rattle.wit_walk.specs.Walk.{Known, earliest, walk_faults}
 
--- the package of files whose last header is this one, with these types, interfaces and worlds, and what it names of other packages
-abbrev pub package_with : List PackageFile → Header → List TypeDef → List Interface → List World → ForeignItems → UnresolvedPackage
-package_with files header es is ws foreign = package_of_parts (package_of header) (record { types = es; interfaces = is; worlds = ws }) (first_docs (headers files)) header.span foreign
-
 -- it is what they make, where they are legal
 pub record MakeContents (files : List PackageFile) (es : List TypeDef) (is : List Interface) (ws : List World) (foreign : ForeignItems) : Type 0 where
-  pub made : (header : Header) → last_header files ≡ Some header → IsLegal files → Makes files (package_with files header es is ws foreign)
+  pub made : (header : Header) → last_header files ≡ Some header → IsLegal files → Makes files (package_of_parts (package_of header) (record { types = es; interfaces = is; worlds = ws }) (first_docs (headers files)) header.span foreign)
 
 -- what is looked up is right: each table has its outcome, and each name that ends ends in so many steps
 pub record IsRight (files : List PackageFile) (known : Known) : Type 0 where

@@ -64,9 +64,9 @@ pub record IsRightOf (wrong : Item → Option Fault) (is : Interfaces) (old : Li
 abbrev pub FindsOne : {T : Type 0} → Interfaces → List TypeDef → Item → Result T ParseError → Type 0
 FindsOne is old w r = (wrong : Item → Option Fault) → IsRightOf wrong is old (length is.arena) w → Finds (wrong w) r
 
--- so of each of items, in the order of their places, once the interfaces before it are resolved
-abbrev pub AreRightOf : (Item → Option Fault) → Interfaces → List TypeDef → List BorrowedItem → List ℕ → Type 0
-AreRightOf wrong is old items places = (now : Interfaces) (mid : List TypeDef) (rs : List Required) (count place : ℕ) (w : Item) → now.files ≡ is.files → slice_get places count ≡ Some place → slice_get (map item_view items) place ≡ Some w → is_world w ≡ false → AddsInterfaces (prefix_of is.files) old mid is.arena now.arena rs (interfaces_of (in_order (map item_view items) (take count places))) → IsIndexed now → IsRightOf wrong now mid (length now.arena) w
+-- so of each of items of files, in the order of their places, once the interfaces before it are resolved, which come after these
+abbrev pub AreRightOf : (Item → Option Fault) → List PackageFile → List Interface → List TypeDef → List BorrowedItem → List ℕ → Type 0
+AreRightOf wrong files arena old items places = (now : Interfaces) (mid : List TypeDef) (rs : List Required) (count place : ℕ) (w : Item) → now.files ≡ files → slice_get places count ≡ Some place → slice_get (map item_view items) place ≡ Some w → is_world w ≡ false → AddsInterfaces (prefix_of files) old mid arena now.arena rs (interfaces_of (in_order (map item_view items) (take count places))) → IsIndexed now → IsRightOf wrong now mid (length now.arena) w
 
 abbrev pub FindsAmong : {T : Type 0} → Interfaces → List TypeDef → List BorrowedItem → List ℕ → Result T ParseError → Type 0
-FindsAmong is old items places r = (wrong : Item → Option Fault) → AreRightOf wrong is old items places → Finds (first_in wrong (interfaces_in items places)) r
+FindsAmong is old items places r = (wrong : Item → Option Fault) → AreRightOf wrong is.files is.arena old items places → Finds (first_in wrong (interfaces_in items places)) r

@@ -1,6 +1,6 @@
 -- What the imports and exports of a world add, one after another after its names, and their first fault.
 use Rattle.std.specs.Prelude.{◌≡◌, ◌+◌, ◌++◌, ◌∷◌, [], ℕ, Bool, Contains, List, Option, length, map, nat_eq, slice_get, Some, true, None, Result}
-use Rattle.wit_contents.specs.Names.{Address, AddsSides, Appends, AreSideItems, BorrowedItem, EndsIn, Fault, Function, Id, Interface, Interfaces, IsExtended, IsItemOf, Item, Link, ParseError, Required, ScopeName, SideFunction, SideInline, SideItem, SideLink, SourceFunction, TypeDef, UsePath, WorldSide, address, entries_of, env_of, flat_map, functions as the_functions, includes, inline_after, interfaces_at, is_world, item_function, item_view, items_on, linked_fault, local_id, name_of_id, names_on, none_of, option_map_or, option_or, part_items, path_place, prefix_of, resolved_scopes_of, resource_function, scope_names, side_items, signed_by, type_imports, world_part}
+use Rattle.wit_contents.specs.Names.{Address, AddsSides, Appends, AreSideItems, BorrowedItem, EndsIn, Fault, Function, Id, Interface, Interfaces, IsExtended, IsItemOf, Item, Link, ParseError, Required, ScopeName, SideFunction, SideInline, SideItem, SideLink, TypeDef, UsePath, WorldSide, address, entries_of, env_of, flat_map, functions as the_functions, includes, inline_after, interfaces_at, is_world, item_function, item_view, items_on, linked_fault, local_id, name_of_id, names_on, none_of, option_map_or, option_or, part_items, path_place, prefix_of, resolved_scopes_of, resource_function, scope_names, side_items, signed_by, type_imports, world_part}
 use Rattle.wit_type_tree.specs.declared.types.ResourceFunc.{ResourceFunc}
 use Rattle.wit_tree.specs.declared.tree.WorldItem.{WorldItem}
 use Rattle.wit_walk.specs.Sorts.{item_sorted}
@@ -18,7 +18,6 @@ use Rattle.wit_contents.specs.declared.walk.WorldScope.{WorldScope}
 use Rattle.wit_first.specs.AttributeFaults.{metadata_fault}
 use Rattle.wit_first.specs.First.{Finds, first_after}
 use Rattle.wit_walk.specs.Functions.{function_fault, word_fault}
-use Rattle.wit_world_sides.specs.declared.members.Members.{Members}
 
 -- whether a part of a world puts nothing on its sides, after the names of its types
 abbrev pub puts_nothing : WorldItem → Bool
@@ -114,35 +113,18 @@ AddsInside is old new inside now before after item = (added : Interface) × (now
 abbrev pub resource_items : Id → List ResourceFunc → List SideItem
 resource_items r fs = map SideFunction (map (resource_function r) fs)
 
--- a test of what is on the sides, after what comes before it
-abbrev pub MemberTest : Type 0
-MemberTest = List SideItem → SideItem → Option Fault
-
--- of a function after these: itself, and then its name
-abbrev pub function_member : ItemWalk → List SideItem → Members → SourceFunction → (Id → Option Fault) → Option Fault
-function_member w before m fn handle = option_or (function_fault (signed_by (word_fault (scope_names (item_view w.item))) handle (flat_map item_function before ++ fn ∷ [])) (scope_names (item_view w.item)) fn) (put_fault m (SideFunction fn))
-
--- of a link: its attributes, its path, and then the interface there with its name
-abbrev pub link_member : ItemWalk → Members → Link → Option Fault
-link_member w m link = option_or (metadata_fault link.attributes) (option_or (linked_fault w.interfaces.files w.interfaces.by_name (item_view w.item).top link.path) (option_map_or (put_link_fault m link) (lead w link.path) None))
-
--- of an inline interface after all that is in it: its attributes, and its name
-abbrev pub inline_member : Members → List SideItem → SideItem → Option Fault
-inline_member m before (SideInline x name items) = option_or (metadata_fault x.attributes.items) (put_fault m (SideInline x name items))
-inline_member m before x = None
-
--- A test says of the next one at a stage what is found of it: of a function by a test of names in handles that is right of the arena from there
--- on, of an inline interface by a test of items.
-abbrev pub IsRightMember : MemberTest → ItemWalk → List SideItem → SideItem → Stage → Type 0
-IsRightMember wrong w before (SideFunction fn) a = (handle : Id → Option Fault) × ((more : List TypeDef) → EndsIn (env_of w.scope.names.types) (a.growing.types ++ more) handle) × (wrong before (SideFunction fn) ≡ function_member w before a.walked.members fn handle)
-IsRightMember wrong w before (SideLink link) a = wrong before (SideLink link) ≡ link_member w a.walked.members link
-IsRightMember wrong w before (SideInline x name items) a = (inner : Item → Option Fault) × ((u : Item) → inline_after (item_view w.item) before (SideInline x name items ∷ []) ≡ u ∷ []
-    → IsRightOf inner w.interfaces a.growing.types (next_place w.interfaces a.growing.inside) u × (wrong before (SideInline x name items) ≡ option_or (inner u) (inline_member a.walked.members before (SideInline x name items))))
+-- This is the fault of the next one at a stage, and then of its name: of a function by a test of names in handles that is right of the arena
+-- from there on, of an inline interface by a test of items.
+abbrev pub IsRightMember : Option Fault → ItemWalk → List SideItem → SideItem → Stage → Type 0
+IsRightMember first w before (SideFunction fn) a = (handle : Id → Option Fault) × ((more : List TypeDef) → EndsIn (env_of w.scope.names.types) (a.growing.types ++ more) handle) × (first ≡ option_or (function_fault (signed_by (word_fault (scope_names (item_view w.item))) handle (flat_map item_function before ++ fn ∷ [])) (scope_names (item_view w.item)) fn) (put_fault a.walked.members (SideFunction fn)))
+IsRightMember first w before (SideLink link) a = first ≡ option_or (metadata_fault link.attributes) (option_or (linked_fault w.interfaces.files w.interfaces.by_name (item_view w.item).top link.path) (option_map_or (put_link_fault a.walked.members link) (lead w link.path) None))
+IsRightMember first w before (SideInline x name items) a = (inner : Item → Option Fault) × ((u : Item) → inline_after (item_view w.item) before (SideInline x name items ∷ []) ≡ u ∷ []
+    → IsRightOf inner w.interfaces a.growing.types (next_place w.interfaces a.growing.inside) u × (first ≡ option_or (inner u) (option_or (metadata_fault x.attributes.items) (put_fault a.walked.members (SideInline x name items)))))
 
 -- so of each of them, once those before it are on their sides
-abbrev pub AreRightMembers : MemberTest → ItemWalk → List SideItem → List SideItem → Stage → Type 0
-AreRightMembers wrong w prefix xs a = (done rest : List SideItem) (x : SideItem) (now : Stage) → xs ≡ done ++ (x ∷ rest) → AddsMembers w prefix done a now → IsRightMember wrong w (prefix ++ done) x now
+abbrev pub AreRightMembers : (List SideItem → SideItem → Option Fault) → ItemWalk → List SideItem → List SideItem → Stage → Type 0
+AreRightMembers wrong w prefix xs a = (done rest : List SideItem) (x : SideItem) (now : Stage) → xs ≡ done ++ (x ∷ rest) → AddsMembers w prefix done a now → IsRightMember (wrong (prefix ++ done) x) w (prefix ++ done) x now
 
 -- a call finds what each such test says of the next ones
 abbrev pub FindsMembers : {T : Type 0} → ItemWalk → List SideItem → Stage → Result T ParseError → Type 0
-FindsMembers w xs a r = (n : IsNext w xs a.walked) (wrong : MemberTest) → AreRightMembers wrong w n.prefix xs a → Finds (first_after wrong n.prefix xs) r
+FindsMembers w xs a r = (n : IsNext w xs a.walked) (wrong : List SideItem → SideItem → Option Fault) → AreRightMembers wrong w n.prefix xs a → Finds (first_after wrong n.prefix xs) r

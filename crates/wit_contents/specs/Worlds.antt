@@ -1,6 +1,6 @@
 -- What a world adds to the arenas, the walk of what it imports and exports, and its first fault.
 use Rattle.std.specs.Prelude.{◌≡◌, ℕ, List, ◌∷◌, [], ◌++◌, length, map, true, Option, Result, Some, slice_get, take}
-use Rattle.wit_contents.specs.Names.{Address, AddsScope, AddsWorld, AddsWorlds, Appends, BorrowedItem, EndsInTurn, Fault, Id, Interface, Interfaces, IsItemOf, IsNameIndex, Item, Metadata, ParseError, Required, ResolvedNames, TypeDef, World, WorldArenas, WorldNamed, about, address, declared_metadata, defined_fault, in_order, in_turn, includes, inline_items, is_world, item_stability, item_view, local_id, name_of_id, names_fault, option_or, others_of, prefix_of, prefix_worlds, resolved_scopes_of, rows_of, scope_names, side_items, worlds_at, worlds_of}
+use Rattle.wit_contents.specs.Names.{Address, AddsScope, AddsWorld, AddsWorlds, Appends, BorrowedItem, EndsInTurn, Fault, Id, Interface, Interfaces, IsItemOf, IsNameIndex, Item, Metadata, ParseError, Required, ResolvedNames, TypeDef, World, WorldArenas, WorldNamed, about, address, declared_metadata, defined_fault, in_order, in_turn, includes, inline_items, is_world, item_stability, item_view, local_id, name_of_id, names_fault, option_or, others_of, prefix_of, prefix_worlds, resolved_scopes_of, rows_of, scope_names, side_items, worlds_at, worlds_of, SideItem}
 use Rattle.wit_arena.specs.Made.{world}
 use Rattle.wit_types.specs.declared.types.TypeOwner.TheVariants as owner
 use Rattle.wit_links.specs.declared.worlds.Worlds.{Worlds}
@@ -15,11 +15,7 @@ use Rattle.wit_contents.specs.declared.world.WorldContent.{WorldContent}
 use Rattle.wit_contents.specs.declared.walk.Growing.{Growing}
 use Rattle.wit_contents.specs.declared.walk.Walked.{Walked}
 use Rattle.wit_contents.specs.declared.walk.WorldScope.{WorldScope}
-use Rattle.wit_contents.specs.Walk.{IsStart, IsWalk, ItemWalk, stage, AreRightMembers, MemberTest}
-
--- the worlds among items, in the order of their places
-abbrev pub worlds_in : List BorrowedItem → List ℕ → List Item
-worlds_in items places = worlds_of (in_order (map item_view items) places)
+use Rattle.wit_contents.specs.Walk.{IsStart, IsWalk, ItemWalk, stage, AreRightMembers}
 
 -- the worlds, and the interfaces that are written in them, at these addresses
 abbrev pub arenas : List World → List Interface → List Address → WorldArenas
@@ -31,7 +27,7 @@ AddsTo ws arena i old new = (ss : List Address) → length ss ≡ length old.gro
 
 -- after worlds of other packages these are the worlds, and these the interfaces that are written in them: items were added, as worlds
 abbrev pub AddsWorldsAmong : Interfaces → List World → List TypeDef → List TypeDef → List BorrowedItem → List ℕ → ResolvedWorlds → Type 0
-AddsWorldsAmong is prefix old new items places r = Appends [] r.required.items (λ rs. (ss : List Address) × AddsWorlds (prefix_of is.files) (others_of is.files) is.arena old new (prefix_worlds prefix) (arenas r.worlds r.inside ss) rs (worlds_in items places))
+AddsWorldsAmong is prefix old new items places r = Appends [] r.required.items (λ rs. (ss : List Address) × AddsWorlds (prefix_of is.files) (others_of is.files) is.arena old new (prefix_worlds prefix) (arenas r.worlds r.inside ss) rs (worlds_of (in_order (map item_view items) places)))
 
 -- the names of a world that comes next were added
 abbrev pub AddsNamesOf : Worlds → BorrowedItem → List TypeDef → List TypeDef → ResolvedNames → Type 0
@@ -52,34 +48,23 @@ AddsContent ws i old new c = (w : World) → HasContent (about (item_view i).dec
 abbrev pub AreIndexed : Worlds → Type 0
 AreIndexed ws = IsNameIndex WorldNamed (worlds_at (others_of ws.interfaces.now.files) ws.arena) ws.by_name
 
--- of these names in turn, which are imported: one has the key of an earlier one
-abbrev pub turn_fault : List Id → Option Fault
-turn_fault ids = defined_fault [] (map name_of_id ids)
-
--- of what comes after the names of a world, where these are the faults of its members: E17 of the names, the members, and E18
-abbrev pub sides_fault : Item → List Id → MemberTest → Option Fault
-sides_fault i ids member = option_or (turn_fault ids) (option_or (first_after member [] (side_items i)) (setters_fault i))
-
 -- a test is right of the members of a world after its names
-abbrev pub AreRightSides : MemberTest → ItemWalk → Growing → Type 0
+abbrev pub AreRightSides : (List SideItem → SideItem → Option Fault) → ItemWalk → Growing → Type 0
 AreRightSides member w old = (start : Walked) → IsStart w start → AreRightMembers member w [] (side_items (item_view w.item)) (stage old start)
 
--- a call finds what each such test says
+-- a call finds what each such test says of what comes after the names: E17 of these, the members, and E18
 abbrev pub FindsSides : {T : Type 0} → ItemWalk → Growing → Result T ParseError → Type 0
-FindsSides w old r = (member : MemberTest) → AreRightSides member w old → Finds (sides_fault (item_view w.item) w.scope.names.turn.items member) r
+FindsSides w old r = (member : List SideItem → SideItem → Option Fault) → AreRightSides member w old → Finds (option_or (defined_fault [] (map name_of_id w.scope.names.turn.items)) (option_or (first_after member [] (side_items (item_view w.item))) (setters_fault (item_view w.item)))) r
 
--- of a world before its members: its own attributes, its names, its includes, and E17 of the names
-abbrev pub world_head : Worlds → BorrowedItem → Outcome → (Id → Option Fault) → Option Fault
-world_head ws i outcome handle = option_or (item_stability (item_view i)) (option_or (names_fault ws.interfaces.now i.names.items outcome handle) (option_or (includes_fault ws (item_view i)) (turn_fault (map local_id (in_turn (scope_names (item_view i)) (order_of outcome))))))
-
--- a test of items says of a world that comes next what is found of it, by a test of names in handles that is right of the arena
+-- A test of items says of a world that comes next what is found of it, by a test of names in handles that is right of the arena: its own
+-- attributes, its names, its includes, E17 of the names, its members, and E18.
 pub record IsRightOfWorld (wrong : Item → Option Fault) (ws : Worlds) (old : Growing) (i : BorrowedItem) : Type 0 where
   pub outcome : Outcome
   pub handle : Id → Option Fault
-  pub member : MemberTest
+  pub member : List SideItem → SideItem → Option Fault
   pub right : IsOutcome (rows_of (scope_names (item_view i))) outcome
   pub ends : EndsInTurn (resolved_scopes_of ws.interfaces.now) (owner.World (length ws.arena)) old.types (scope_names (item_view i)) outcome handle
-  pub says : wrong (item_view i) ≡ option_or (world_head ws i outcome handle) (option_or (first_after member [] (side_items (item_view i))) (setters_fault (item_view i)))
+  pub says : wrong (item_view i) ≡ option_or (option_or (item_stability (item_view i)) (option_or (names_fault ws.interfaces.now i.names.items outcome handle) (option_or (includes_fault ws (item_view i)) (defined_fault [] (map name_of_id (map local_id (in_turn (scope_names (item_view i)) (order_of outcome)))))))) (option_or (first_after member [] (side_items (item_view i))) (setters_fault (item_view i)))
   pub members : (s : WorldScope) (es : List TypeDef) → IsWalk (record { item = i; scope = s; interfaces = ws.interfaces.now }) → AddsScope old.types es (resolved_scopes_of ws.interfaces.now) (owner.World (length ws.arena)) (scope_names (item_view i)) s.names.types
       → AreRightSides member (record { item = i; scope = s; interfaces = ws.interfaces.now }) (record { types = es; inside = old.inside })
 
@@ -93,4 +78,4 @@ pub record AreRightOfWorlds (wrong : Item → Option Fault) (is : Interfaces) (p
       → AddsWorlds (prefix_of is.files) (others_of is.files) is.arena old mid (prefix_worlds prefix) arenas rs (worlds_of (in_order (map item_view items) (take count places))) → arenas.worlds ≡ ws.arena → AreIndexed ws → IsRightOfWorld wrong ws (record { types = mid; inside = arenas.inside }) i
 
 abbrev pub FindsWorlds : {T : Type 0} → Interfaces → List World → List TypeDef → List BorrowedItem → List ℕ → Result T ParseError → Type 0
-FindsWorlds is prefix old items places r = (wrong : Item → Option Fault) → AreRightOfWorlds wrong is prefix old items places → Finds (first_in wrong (worlds_in items places)) r
+FindsWorlds is prefix old items places r = (wrong : Item → Option Fault) → AreRightOfWorlds wrong is prefix old items places → Finds (first_in wrong (worlds_of (in_order (map item_view items) places))) r

@@ -10,14 +10,14 @@ use Rattle.wit_arena.proofs.Occurrence.{only_anonymous}
 use Rattle.wit_arena.proofs.Resolving.{all_shapes-append, resolved_more, resolved_whole}
 use Rattle.wit_entries.specs.declared.types.Reading.{Reading}
 use Rattle.wit_entries.specs.declared.types.Reading.TheVariants as reading
-use Rattle.wit_entries.specs.ResolvedForms.{AreParts, AreTypes, IsKindOf, IsLeaf, IsForm, IsRead, named_kind}
+use Rattle.wit_entries.specs.ResolvedForms.{AreParts, AreTypes, IsKindOf, IsLeaf, IsRead, named_kind}
 
 -- the type of a name
 pub resolved_word : (es : List TypeDef) (env : Env) (given : Stability) (id : Name) (i : ℕ) → env id.name.now ≡ Some i → AreParts es es env given (one (Word id)) (Id i ∷ [])
 resolved_word es env given id i found s = record { from = λ decls ms m names. record { now = ms; collects = refl; occurrence = m; holds = λ at gives. ap (λ (n : ℕ). Id n ∷ []) (sym (gives.at i (Def s id.name.now) (names.present id.name.now i found))) } }
 
 -- the type of a form, once it is interned
-pub whole_present : (old mid new : List TypeDef) (env : Env) (given : Stability) (x : Shape) (k : TypeDefKind) (span : Span) (i : ℕ) → IsForm old mid env given x k span → IsInterned mid new k given span i → AreParts old new env given (one x) (Id i ∷ [])
+pub whole_present : (old mid new : List TypeDef) (env : Env) (given : Stability) (x : Shape) (k : TypeDefKind) (span : Span) (i : ℕ) → IsRead old mid env given x (reading.Form k span) → IsInterned mid new k given span i → AreParts old new env given (one x) (Id i ∷ [])
 whole_present old mid new env given (Prim p) k span i form interned s = absurd form
 whole_present old mid new env given (Word id) k span i form interned s = absurd form
 whole_present old mid new env given (Of at f parts) k span i form interned s =

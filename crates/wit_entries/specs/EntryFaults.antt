@@ -1,7 +1,7 @@
 -- Where entries of an arena end, the first fault of written types and of definitions, by what the names of a scope mean in it, E15 and E27, and calls that resolve them.
 use denote.Ref.{Bor}
 use Rattle.std.specs.Prelude.{ℕ, suc, List, Option, Some, None, map, is_none, if◌then◌else◌, ◌≡◌, length, slice_get, [], ◌∷◌, ◌++◌, MatchResult, Result, Vec}
-use Rattle.wit_arena.specs.Common.{Address, AreEnded, Defined, Defines, EntryEnd, Env, Fault, Global, Id, IsOther, IsResource, IsStored, IsUnknown, ParseError, Required, ResolvedScope, ScopeName, Stability, TypeBody, TypeDef, TypeDefKind, all_handles, body_types, entry_end, env_of, missing_type_at, no_resource, option_or, stability_at, «Type» as Ty}
+use Rattle.wit_arena.specs.Common.{Address, AreEnded, Defined, Defines, EntryEnd, Env, Fault, Global, Id, IsOther, IsResource, IsStored, IsUnknown, ParseError, Required, ResolvedScope, ScopeName, Stability, TypeDef, TypeDefKind, all_handles, body_types, entry_end, env_of, missing_type_at, no_resource, option_or, stability_at, «Type» as Ty, option_map_or}
 use Rattle.wit_type_tree.specs.declared.types.«Type».{«Type» as Written}
 use Rattle.wit_type_tree.specs.declared.types.TypeDef.{TypeDef as Definition}
 use Rattle.wit_first.specs.AttributeFaults.{metadata_fault}
@@ -32,32 +32,21 @@ abbrev pub end_fault : Id → Option EntryEnd → Option Fault
 end_fault id (Some IsOther) = Some (no_resource id)
 end_fault id end = None
 
-abbrev pub handled_fault : (Id → Fault) → List TypeDef → Id → Option ℕ → Option Fault
-handled_fault lost es id None = Some (lost id)
-handled_fault lost es id (Some place) = end_fault id (end_in es place)
-
 abbrev pub handle_fault : (Id → Fault) → Env → List TypeDef → Id → Option Fault
-handle_fault lost env es id = handled_fault lost es id (env id.name.now)
+handle_fault lost env es id = option_map_or (λ place. end_fault id (end_in es place)) (env id.name.now) (Some (lost id))
 
 -- of a written type, where `lost` is the fault of a name that means nothing, and of types one after another
 abbrev pub written_fault : (Id → Fault) → Env → List TypeDef → Written → Option Fault
 written_fault lost env es t = type_fault (name_fault lost env) (handle_fault lost env es) t
-
-abbrev pub types_fault : (Id → Fault) → Env → List TypeDef → List Written → Option Fault
-types_fault lost env es ts = first_in (written_fault lost env es) ts
 
 -- in the signature of the last of these functions that name is one of theirs, or of nothing; else it is none of a type
 abbrev pub lost_in : Option (Bor (List BorrowedFunction)) → Id → Fault
 lost_in None = missing_type_at
 lost_in (Some fns) = lost_word (map function_view fns.now)
 
--- of the body of a definition: its list first, and then the types in it
-abbrev pub body_fault : (Id → Fault) → Env → List TypeDef → TypeBody → Option Fault
-body_fault lost env es b = option_or (list_fault b) (types_fault lost env es (body_types b))
-
 -- of a definition: its attributes first
 abbrev pub definition_fault : Env → List TypeDef → Definition → Option Fault
-definition_fault env es d = option_or (metadata_fault d.attributes.items) (body_fault missing_type_at env es d.body)
+definition_fault env es d = option_or (metadata_fault d.attributes.items) (option_or (list_fault d.body) (first_in (written_fault missing_type_at env es) (body_types d.body)))
 
 -- what an end means
 abbrev pub end_means : End → EntryEnd

@@ -1,14 +1,15 @@
 -- What a written type is once its parts are resolved.
 use Rattle.std.specs.Prelude.{◌≡◌, List, [], ◌∷◌, Result, Vec}
-use Rattle.wit_arena.specs.Common.{Address, AreResolved, Body, Env, Global, Of, ParseError, Prim, Required, Shape, Shapes, Span, Stability, TypeDef, TypeDefKind, Type_, Word, all_handles, all_shapes, env_of, handles, kind_of, shape_of, «Type» as Ty}
+use Rattle.wit_arena.specs.Common.{Address, AreResolved, Body, Env, Global, Of, ParseError, Prim, Required, Shape, Shapes, Stability, TypeDef, TypeDefKind, Type_, Word, all_handles, all_shapes, env_of, handles, kind_of, shape_of, «Type» as Ty}
 use Rattle.wit_type_tree.specs.declared.types.«Type».{«Type» as Written}
 use Rattle.wit_type_tree.specs.declared.types.«Type».TheVariants as written
 use Rattle.wit_syntax.specs.Shape.{one}
 use Rattle.wit_arena.specs.Faithful.{IsAnonymousForm}
-use Rattle.wit_entries.specs.EntryFaults.{lost_in, types_fault, written_fault, Resolves}
+use Rattle.wit_entries.specs.EntryFaults.{lost_in, written_fault, Resolves}
 use Rattle.wit_entries.specs.declared.types.Reading.{Reading}
 use Rattle.wit_entries.specs.declared.types.Reading.TheVariants as reading
 use Rattle.wit_entries.specs.declared.names.TypeScope.{TypeScope}
+use Rattle.wit_first.specs.First.{first_in}
 
 -- from whatever occurred, the new arena is that with what occurs in the parts of a form, or in types, in a definition of this stability, and they mean these
 abbrev pub AreParts : List TypeDef → List TypeDef → Env → Stability → Shapes → List Ty → Type 0
@@ -33,16 +34,11 @@ abbrev pub IsList : Written → Type 0
 IsList (written.List' span p t) = Unit {0}
 IsList t = ⊥
 
--- a form with this span, and its kind over its resolved parts
-abbrev pub IsForm : List TypeDef → List TypeDef → Env → Stability → Shape → TypeDefKind → Span → Type 0
-IsForm old new env given (Prim p) kind span = ⊥
-IsForm old new env given (Word id) kind span = ⊥
-IsForm old new env given (Of at form parts) kind span = (at ≡ span) × ((kind_of kind).0 ≡ form) × IsAnonymousForm form × AreParts old new env given parts (kind_of kind).1
-
--- a primitive or a name is a type by now, and a form is a kind
+-- a primitive or a name is a type by now, and a form with a span is a kind over its resolved parts
 abbrev pub IsRead : List TypeDef → List TypeDef → Env → Stability → Shape → Reading → Type 0
 IsRead old new env given x (reading.Leaf ty) = IsLeaf x × AreParts old new env given (one x) (ty ∷ [])
-IsRead old new env given x (reading.Form kind span) = IsForm old new env given x kind span
+IsRead old new env given (Of at form parts) (reading.Form kind span) = (at ≡ span) × ((kind_of kind).0 ≡ form) × IsAnonymousForm form × AreParts old new env given parts (kind_of kind).1
+IsRead old new env given x (reading.Form kind span) = ⊥
 
 -- the kind that this is under a name by itself: another word for a type, or the kind
 abbrev pub named_kind : Reading → TypeDefKind
@@ -55,4 +51,4 @@ Reads s given old new before after t r = Resolves (env_of s.names.now) old new b
 
 -- a call resolves types, one after another, to those in what it makes
 abbrev pub ResolvesTypes : {T : Type 0} → TypeScope → Stability → (old new : List TypeDef) → (before after : Vec Required Global) → List Written → (T → List Ty) → Result T ParseError → Type 0
-ResolvesTypes s given old new before after ts types r = Resolves (env_of s.names.now) old new before.items after.items (all_handles ts) (types_fault (lost_in s.functions) (env_of s.names.now) new ts) (λ x. AreTypes old new (env_of s.names.now) given ts (types x)) r
+ResolvesTypes s given old new before after ts types r = Resolves (env_of s.names.now) old new before.items after.items (all_handles ts) (first_in (written_fault (lost_in s.functions) (env_of s.names.now) new) ts) (λ x. AreTypes old new (env_of s.names.now) given ts (types x)) r

@@ -1,11 +1,11 @@
 -- The first fault of functions where nothing else is on the sides of a scope: names again, and tests of names in handles in an arena that grows.
 use Rattle.std.proofs.Common.{◌≡◌, ℕ, true, false, List, [], ◌∷◌, ◌++◌, map, take, Option, Some, None, Result, Ok, Err, inl, inr, refl, sym, ap, ◌∙◌, ◌+◌}
-use Rattle.wit_arena.proofs.Common.{Env, Fault, Id, IfErr, OnOk, ParseError, Refused, ScopeName, SourceFunction, SourceParam, Span, TypeDef, any_found, bytes_eq, false_from_ne_true, find-only, folded_key, if◌then◌else◌, is_none, list_any, lower_case, missing_type_at, name_equal, name_itself, option_map, option_or, param_twice, result_ok, slice_get, take_next, written_param, «Type» as Written}
+use Rattle.wit_arena.proofs.Common.{Env, Fault, Id, IfErr, OnOk, ParseError, Refused, ScopeName, SourceFunction, SourceParam, Span, TypeDef, any_found, bytes_eq, false_from_ne_true, find-only, folded_key, if◌then◌else◌, is_none, list_any, lower_case, missing_type_at, name_equal, name_itself, option_map, option_or, param_twice, result_ok, slice_get, take_next, written_param, «Type» as Written, option_map_or}
 use Rattle.wit_walk.proofs.Common.{Finds, Param, Reports, after_kept, find_none, first_after, function_fault, given_fault, lost_word, metadata_fault, none_both, or_none_both, param_fault, repeat_of, result_fault, return_fault, type_fault, type_kept}
 use mathlib.Core.Path.{fun_ext}
 use Rattle.wit_type_tree.specs.declared.types.«Type».TheVariants as written
 use Rattle.wit_refusals.specs.NameScopes.{Name, AreUsed, IsDefinedAgain}
-use Rattle.wit_entries.specs.EntryFaults.{handle_fault, handled_fault, name_fault, written_fault, IsExtended}
+use Rattle.wit_entries.specs.EntryFaults.{handle_fault, name_fault, written_fault, IsExtended, end_fault, end_in}
 use Rattle.wit_entries.proofs.Faults.{written_extended}
 use Rattle.wit_signatures.specs.FunctionsOfScope.{name_key}
 use Rattle.wit_externs.specs.Clash.{EndsIn, IsSafe, again, again_fault, signed_by, words_in}
@@ -75,14 +75,14 @@ module _ (env : Env) (es : List TypeDef) (handle : Id → Option Fault) (xs : Li
   signed_handle : (lost : Id → Fault) → EndsIn env es handle → (id : Id) → handle_fault lost env es id ≡ option_or (name_fault lost env id) (handle id)
   signed_handle lost ends id = by (env id.name.now) refl
     where
-      by : (o : Option ℕ) → env id.name.now ≡ o → handled_fault lost es id o ≡ option_or (if is_none o then Some (lost id) else None) (handle id)
+      by : (o : Option ℕ) → env id.name.now ≡ o → option_map_or (λ (place : ℕ). end_fault id (end_in es place)) o (Some (lost id)) ≡ option_or (if is_none o then Some (lost id) else None) (handle id)
       by None free = refl
       by (Some place) present = sym (ends id place present)
 
   signed_safe : (lost : Id → Fault) → IsSafe env es handle → (id : Id) → handle_fault lost env es id ≡ None → option_or (name_fault lost env id) (handle id) ≡ None
   signed_safe lost safe id h = by (env id.name.now) refl h
     where
-      by : (o : Option ℕ) → env id.name.now ≡ o → handled_fault lost es id o ≡ None → option_or (if is_none o then Some (lost id) else None) (handle id) ≡ None
+      by : (o : Option ℕ) → env id.name.now ≡ o → option_map_or (λ (place : ℕ). end_fault id (end_in es place)) o (Some (lost id)) ≡ None → option_or (if is_none o then Some (lost id) else None) (handle id) ≡ None
       by None free none = none
       by (Some place) present none = safe id place present none
 

@@ -105,13 +105,9 @@ words_in env fns id = name_fault (lost_word fns) env id
 abbrev pub signed_by : (List SourceFunction → Id → Option Fault) → (Id → Option Fault) → List SourceFunction → Written → Option Fault
 signed_by word handle fns t = type_fault (word fns) (λ (id : Id). option_or (word fns id) (handle id)) t
 
--- of a function after others, on a side after these names: itself, and then its name
-abbrev pub alone_fault : (List SourceFunction → Id → Option Fault) → (Id → Option Fault) → List ScopeName → (WorldSide → List Name) → List SourceFunction → SourceFunction → Option Fault
-alone_fault word handle xs names before fn = option_or (function_fault (signed_by word handle (before ++ fn ∷ [])) xs fn) (again_fault (names (role_side fn.role) ++ names_of_items (items_on (role_side fn.role) (map SideFunction before))) (name_of_function fn))
-
 -- of functions, one after another
 abbrev pub alone_faults : (List SourceFunction → Id → Option Fault) → (Id → Option Fault) → List ScopeName → (WorldSide → List Name) → List SourceFunction → Option Fault
-alone_faults word handle xs names fns = first_after (alone_fault word handle xs names) [] fns
+alone_faults word handle xs names fns = first_after (λ (before : List SourceFunction) (fn : SourceFunction). option_or (function_fault (signed_by word handle (before ++ fn ∷ [])) xs fn) (again_fault (names (role_side fn.role) ++ names_of_items (items_on (role_side fn.role) (map SideFunction before))) (name_of_function fn))) [] fns
 
 -- of setters: the first of functions that has no getter among them
 abbrev pub lone_setters : List SourceFunction → Option Fault

@@ -7,7 +7,7 @@ use Rattle.wit_types.specs.declared.types.TypeDefKind.TheVariants as kind
 use Rattle.wit_types.specs.declared.types.TypeOwner.TheVariants as owner
 use Rattle.wit_model.specs.declared.ast_item.AstItem.TheVariants as entry
 use Rattle.wit_front.specs.declared.foreign.ForeignArenas.{ForeignArenas}
-use Rattle.wit_front.specs.ForeignPrefix.{interface_with, with_types, bare_world, interfaces_among, worlds_among, addresses_among, entry_after, entries_after, used_from, visited_interface, type_among, AreAdded, IsPrefix}
+use Rattle.wit_front.specs.ForeignPrefix.{interface_with, with_types, bare_world, interfaces_among, worlds_among, addresses_among, entries_after, used_from, visited_interface, AreAdded, IsPrefix}
 use Rattle.wit_front.proofs.Prefixes.{interfaces-more, interfaces-same, worlds-more, worlds-same, entries-more, in_use-more, names-used_from, used_from-at, used_from-has, insert_entry-last, slice_set-map, entries_after-among}
 
 module _ (vs : List ForeignVisit) (v : ForeignVisit) (a a' : ForeignArenas) (before : AreAdded vs [] [] a) (spans : a'.spans.items ≡ a.spans.items) where
@@ -17,7 +17,7 @@ module _ (vs : List ForeignVisit) (v : ForeignVisit) (a a' : ForeignArenas) (bef
       let bare = λ (u : ForeignVisit). bare_world u.id.span in
       let is = interfaces-same vs v world in
       let count : length a.worlds ≡ 0 + length (worlds_among vs) = ap length before.worlds ∙ length-map (worlds_among vs) bare ∙ sym (zero-add (length (worlds_among vs))) in
-      let last : entry.World (length a.worlds) ≡ entry_after (0 + length (interfaces_among vs)) (0 + length (worlds_among vs)) v = rw world (ap entry.World count) in
+      let last : entry.World (length a.worlds) ≡ (if v.wants_world then entry.World (0 + length (worlds_among vs)) else entry.Interface (0 + length (interfaces_among vs))) = rw world (ap entry.World count) in
       record {
         types = refl;
         interfaces = interfaces ∙ before.interfaces ∙ ap (map (visited_interface [])) (sym is);
@@ -31,7 +31,7 @@ module _ (vs : List ForeignVisit) (v : ForeignVisit) (a a' : ForeignArenas) (bef
   arenas-interface world interfaces worlds entries =
       let is = interfaces-more vs v world in
       let count : length a.interfaces ≡ 0 + length (interfaces_among vs) = ap length before.interfaces ∙ length-map (interfaces_among vs) (visited_interface []) ∙ sym (zero-add (length (interfaces_among vs))) in
-      let last : entry.Interface (length a.interfaces) ≡ entry_after (0 + length (interfaces_among vs)) (0 + length (worlds_among vs)) v = rw world (ap entry.Interface count) in
+      let last : entry.Interface (length a.interfaces) ≡ (if v.wants_world then entry.World (0 + length (worlds_among vs)) else entry.Interface (0 + length (interfaces_among vs))) = rw world (ap entry.Interface count) in
       record {
         types = refl;
         interfaces = interfaces ∙ ap (λ (l : List Interface). l ++ visited_interface [] v ∷ []) before.interfaces ∙ sym (map-append (visited_interface []) (interfaces_among vs) (v ∷ [])) ∙ ap (map (visited_interface [])) (sym is);
@@ -98,7 +98,7 @@ module _ (vs : List ForeignVisit) (ts : List ForeignUse) (s : Address) (attribut
       let key : foreign_use_key u.t ≡ foreign_use_key t = ap (λ (x : Address). Def x u.t.id.name.now) (u.from ∙ visit.2) ∙ ap (Def s) u.name in
       let same : fs ≡ firsts same_foreign_use (ts ++ t ∷ []) = sym (firsts-known ts t it.0 u.t u.at key) in
       record {
-        types = before.types ∙ ap (map (type_among vs)) same;
+        types = before.types ∙ ap (map (λ (t : ForeignUse). named (owner_at (addresses_among vs) (map visited (worlds_among vs)) t.from) t.id.name.now kind.Unknown (metadata no_docs t.attributes) t.id.span)) same;
         interfaces = before.interfaces ∙ ap (λ (l : List ForeignUse). map (visited_interface l) xs) same;
         worlds = before.worlds;
         entries = before.entries;
@@ -123,7 +123,7 @@ module _ (vs : List ForeignVisit) (ts : List ForeignUse) (s : Address) (attribut
 
     -- there are as many types as names
     count : length es ≡ length fs
-    count = ap length before.types ∙ length-map fs (type_among vs)
+    count = ap length before.types ∙ length-map fs (λ (t : ForeignUse). named (owner_at (addresses_among vs) (map visited (worlds_among vs)) t.from) t.id.name.now kind.Unknown (metadata no_docs t.attributes) t.id.span)
 
     -- the interface with the name
     with_name : with_types i (insert_entry (pointwise nat_eq) i.types q (length es)) ≡ visited_interface (fs ++ t ∷ []) visit.0
@@ -148,7 +148,7 @@ module _ (vs : List ForeignVisit) (ts : List ForeignUse) (s : Address) (attribut
     -- a name that the interface has not
     pub in_use-fresh : (es' : List TypeDef) (a' : ForeignArenas) → es' ≡ es ++ named (owner.Interface id) q kind.Unknown (metadata no_docs attributes) n.name.span ∷ [] → a'.interfaces ≡ slice_set a.interfaces id (with_types i (insert_entry (pointwise nat_eq) i.types q (length es))) → a'.worlds ≡ a.worlds → a'.entries.items ≡ a.entries.items → a'.spans.items ≡ a.spans.items ++ n.name.span ∷ [] → AreAdded vs (ts ++ t ∷ []) es' a'
     in_use-fresh es' a' types interfaces worlds entries spans = record {
-      types = types ∙ ap (λ (l : List TypeDef). l ++ named (owner.Interface id) q kind.Unknown (metadata no_docs attributes) n.name.span ∷ []) before.types ∙ ap (λ (o : TypeOwner). map (type_among vs) fs ++ named o q kind.Unknown (metadata no_docs attributes) n.name.span ∷ []) (sym owner_is) ∙ sym (map-append (type_among vs) fs (t ∷ [])) ∙ ap (map (type_among vs)) (sym fresh);
+      types = types ∙ ap (λ (l : List TypeDef). l ++ named (owner.Interface id) q kind.Unknown (metadata no_docs attributes) n.name.span ∷ []) before.types ∙ ap (λ (o : TypeOwner). map (λ (t : ForeignUse). named (owner_at (addresses_among vs) (map visited (worlds_among vs)) t.from) t.id.name.now kind.Unknown (metadata no_docs t.attributes) t.id.span) fs ++ named o q kind.Unknown (metadata no_docs attributes) n.name.span ∷ []) (sym owner_is) ∙ sym (map-append (λ (t : ForeignUse). named (owner_at (addresses_among vs) (map visited (worlds_among vs)) t.from) t.id.name.now kind.Unknown (metadata no_docs t.attributes) t.id.span) fs (t ∷ [])) ∙ ap (map (λ (t : ForeignUse). named (owner_at (addresses_among vs) (map visited (worlds_among vs)) t.from) t.id.name.now kind.Unknown (metadata no_docs t.attributes) t.id.span)) (sym fresh);
       interfaces = interfaces ∙ ap (λ (x : Interface). slice_set a.interfaces id x) with_name ∙ ap (λ (l : List Interface). slice_set l id (visited_interface (fs ++ t ∷ []) visit.0)) before.interfaces ∙ slice_set-map (visited_interface fs) (visited_interface (fs ++ t ∷ [])) xs id visit.0 visit.1 others ∙ ap (λ (l : List ForeignUse). map (visited_interface l) xs) (sym fresh);
       worlds = worlds ∙ before.worlds;
       entries = entries ∙ before.entries;

@@ -3,7 +3,7 @@ use Rattle.std.proofs.Common.{◌≡◌, ℕ, zero, suc, ◌+◌, ◌<◌, Bool,
 use Rattle.wit_items.proofs.Common.{Address, AllDiffer, AstItem, ForeignUse, ForeignVisit, Names, after_one, append-nil, at_prefix, cases_Bool, differ_at, filter, filter-append, insert_entry, kept_at, lookup, map, name_itself, pointwise, same_address, same_address-equal, same_address-from, same_address-itself, same_item, slice_get, slice_get_within, slice_set, visited, position_or_len}
 use Rattle.wit_arena.proofs.OneMade.{map_same}
 use Rattle.wit_model.specs.declared.ast_item.AstItem.TheVariants as entry
-use Rattle.wit_front.specs.ForeignPrefix.{interfaces_among, worlds_among, entry_after, entries_after, used_from}
+use Rattle.wit_front.specs.ForeignPrefix.{interfaces_among, worlds_among, entries_after, used_from}
 
 -- one is moved from what comes before to what is counted
 move : (n m : ℕ) → suc n + m ≡ n + suc m
@@ -23,12 +23,12 @@ next-worlds w u us = elim (cases_Bool u.wants_world) [
 ]
 
 -- the entry of one item more
-pub entries-more : (i w : ℕ) (vs : List ForeignVisit) (v : ForeignVisit) → entries_after i w (vs ++ v ∷ []) ≡ entries_after i w vs ++ entry_after (i + length (interfaces_among vs)) (w + length (worlds_among vs)) v ∷ []
-entries-more i w [] v = ap (λ (n : ℕ). entry_after n w v ∷ []) (sym (add-zero i)) ∙ ap (λ (n : ℕ). entry_after (i + 0) n v ∷ []) (sym (add-zero w))
+pub entries-more : (i w : ℕ) (vs : List ForeignVisit) (v : ForeignVisit) → entries_after i w (vs ++ v ∷ []) ≡ entries_after i w vs ++ (if v.wants_world then entry.World (w + length (worlds_among vs)) else entry.Interface (i + length (interfaces_among vs))) ∷ []
+entries-more i w [] v = ap (λ (n : ℕ). (if v.wants_world then entry.World w else entry.Interface n) ∷ []) (sym (add-zero i)) ∙ ap (λ (n : ℕ). (if v.wants_world then entry.World n else entry.Interface (i + 0)) ∷ []) (sym (add-zero w))
 entries-more i w (u ∷ us) v =
     let j = if u.wants_world then i else suc i in
     let x = if u.wants_world then suc w else w in
-    ap (λ (l : List AstItem). entry_after i w u ∷ l) (entries-more j x us v ∙ ap (λ (n : ℕ). entries_after j x us ++ entry_after n (x + length (worlds_among us)) v ∷ []) (next-interfaces i u us) ∙ ap (λ (n : ℕ). entries_after j x us ++ entry_after (i + length (interfaces_among (u ∷ us))) n v ∷ []) (next-worlds w u us))
+    ap (λ (l : List AstItem). (if u.wants_world then entry.World w else entry.Interface i) ∷ l) (entries-more j x us v ∙ ap (λ (n : ℕ). entries_after j x us ++ (if v.wants_world then entry.World (x + length (worlds_among us)) else entry.Interface n) ∷ []) (next-interfaces i u us) ∙ ap (λ (n : ℕ). entries_after j x us ++ (if v.wants_world then entry.World n else entry.Interface (i + length (interfaces_among (u ∷ us)))) ∷ []) (next-worlds w u us))
 
 -- one interface more
 pub interfaces-more : (vs : List ForeignVisit) (v : ForeignVisit) → v.wants_world ≡ false → interfaces_among (vs ++ v ∷ []) ≡ interfaces_among vs ++ v ∷ []
@@ -155,7 +155,7 @@ module _ (us : List ForeignVisit) (v : ForeignVisit) (vs : List ForeignVisit) (d
       at_after (u ∷ us) = at_after us
 
   -- its entry, after those before it
-  entry_among-seam : entry_after (length (interfaces_among us)) (length (worlds_among us)) v ≡ entry_among (us ++ v ∷ vs) v
+  entry_among-seam : (if v.wants_world then entry.World (length (worlds_among us)) else entry.Interface (length (interfaces_among us))) ≡ entry_among (us ++ v ∷ vs) v
   entry_among-seam =
       let i = length (interfaces_among us) in
       let w = length (worlds_among us) in

@@ -31,14 +31,10 @@ worlds_among vs = filter (λ (v : ForeignVisit). v.wants_world) vs
 abbrev pub addresses_among : List ForeignVisit → List Address
 addresses_among vs = map visited (interfaces_among vs)
 
--- the entry of an item, where so many interfaces and so many worlds come before it
-abbrev pub entry_after : ℕ → ℕ → ForeignVisit → AstItem
-entry_after i w v = if v.wants_world then entry.World w else entry.Interface i
-
 -- the entries of items
 abbrev pub entries_after : ℕ → ℕ → List ForeignVisit → List AstItem
 entries_after i w [] = []
-entries_after i w (v ∷ vs) = entry_after i w v ∷ entries_after (if v.wants_world then i else suc i) (if v.wants_world then suc w else w) vs
+entries_after i w (v ∷ vs) = (if v.wants_world then entry.World w else entry.Interface i) ∷ entries_after (if v.wants_world then i else suc i) (if v.wants_world then suc w else w) vs
 
 -- the names of a scope that are used, each with its place, counted from n
 abbrev pub used_from : ℕ → Address → List ForeignUse → Names
@@ -49,13 +45,9 @@ used_from n s (t ∷ ts) = if same_address t.from s then (t.id.name.now, n) ∷ 
 abbrev pub visited_interface : List ForeignUse → ForeignVisit → Interface
 visited_interface ts v = interface_with v.id.span (used_from 0 (visited v) ts)
 
--- the type that is used, where these are the items
-abbrev pub type_among : List ForeignVisit → ForeignUse → TypeDef
-type_among vs t = named (owner_at (addresses_among vs) (map visited (worlds_among vs)) t.from) t.id.name.now kind.Unknown (metadata no_docs t.attributes) t.id.span
-
 -- the arenas of these items, once these names were used from them
 pub record AreAdded (vs : List ForeignVisit) (ts : List ForeignUse) (es : List TypeDef) (a : ForeignArenas) : Type 0 where
-  pub types : es ≡ map (type_among vs) (firsts same_foreign_use ts)
+  pub types : es ≡ map (λ (t : ForeignUse). named (owner_at (addresses_among vs) (map visited (worlds_among vs)) t.from) t.id.name.now kind.Unknown (metadata no_docs t.attributes) t.id.span) (firsts same_foreign_use ts)
   pub interfaces : a.interfaces ≡ map (visited_interface (firsts same_foreign_use ts)) (interfaces_among vs)
   pub worlds : a.worlds ≡ map (λ v. bare_world v.id.span) (worlds_among vs)
   pub entries : a.entries.items ≡ entries_after 0 0 vs

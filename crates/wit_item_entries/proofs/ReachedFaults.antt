@@ -2,16 +2,16 @@
 use Rattle.std.proofs.Common.{◌≡◌, ℕ, true, List, [], ◌++◌, map, Option, Some, None, refl, sym, ap, ◌∙◌, is_none, zero, suc, ◌∷◌, length, Bool, false, ◌||◌, nat_eq, inl, inr, Contains, ◌+◌, cond, take, subst, arith, append_assoc, zero-add, suc-add, ◌⊎◌}
 use mathlib.Core.Path.{fun_ext}
 use Rattle.std.specs.Prelude.{is_some}
-use Rattle.wit_items.proofs.Common.{Id, Name, Names, Required, ResolvedScope, ScopeName, SourceFunction, TypeDef, TypeOwner, WorldSide, bytes_eq, env_of, find_some, if◌then◌else◌, in_turn, in_turn_among, local_id, local_name, local_names, lookup-place, lost_word, map_at, map_map, meaning, name_itself, names_in, names_on, option_map, slice_get, slice_get-map, word_fault, Address, AreFound, Interface, InterfaceNamed, IsFound, found_resolved_scope, interface_name, resolved_scope_at, resolved_scopes, Fault, IsPlaced, Source as BorrowedSource, UsedName, any_found, any_some, at_contains, contains_at, false_from_ne_true, function_used, list_any, missing_at, name_cases, name_equal, name_twice, name_word, option_and_then, option_map_or, option_or, pointwise, prefix_of, resolved_scopes_of, source_target, source_view, unresolved_fault, use_view, AllDiffer, AreEnded, Defined, ForeignName, IsStored, Used, all_handles, all_handles-append, append-nil, at_back, at_prefix, at_split, at_take, body_types, defined, ended_append, ended_more, flat_map, flat_map-append, in_order, lookup-insert_entry, map-append, name_types, names-insert_entry, slice_get_within, used, AreDistinct, AtCycle, AtMissing, Defines, Env, Err, Finds, HasNames, InOrder, IsAllocationFailure, IsOrder, IsOutcome, Ok, Outcome, ParseError, Plain, Record, Reports, Result, TypeBody, Variant, all_shapes, all_words, body_of, cyclic_at, defines_more, definition_fault as scope_definition_fault, fault_of, finds_same, first_in, list_fault, local_names_fault, metadata_fault, missing_type_at, none_both, or_none_both, order_fault, order_of, outcome_one, rows_of, shape_of, type_fault, type_kept, type_word, words, words-head, «Type» as Written}
+use Rattle.wit_items.proofs.Common.{Id, Name, Names, Required, ResolvedScope, ScopeName, SourceFunction, TypeDef, TypeOwner, WorldSide, bytes_eq, env_of, find_some, if◌then◌else◌, in_turn, in_turn_among, local_id, local_name, local_names, lookup-place, lost_word, map_at, map_map, meaning, name_itself, names_in, names_on, option_map, slice_get, slice_get-map, word_fault, Address, AreFound, Interface, InterfaceNamed, IsFound, found_resolved_scope, resolved_scope_at, resolved_scopes, Fault, IsPlaced, Source as BorrowedSource, UsedName, any_found, any_some, at_contains, contains_at, false_from_ne_true, function_used, list_any, missing_at, name_cases, name_equal, name_twice, name_word, option_and_then, option_map_or, option_or, pointwise, prefix_of, resolved_scopes_of, source_target, source_view, unresolved_fault, use_view, AllDiffer, AreEnded, Defined, ForeignName, IsStored, Used, all_handles, all_handles-append, append-nil, at_back, at_prefix, at_split, at_take, body_types, defined, ended_append, ended_more, flat_map, flat_map-append, in_order, lookup-insert_entry, map-append, name_types, names-insert_entry, slice_get_within, used, AreDistinct, AtCycle, AtMissing, Defines, Env, Err, Finds, HasNames, InOrder, IsAllocationFailure, IsOrder, IsOutcome, Ok, Outcome, ParseError, Plain, Record, Reports, Result, TypeBody, Variant, all_shapes, all_words, body_of, cyclic_at, defines_more, definition_fault as scope_definition_fault, fault_of, finds_same, first_in, list_fault, local_names_fault, metadata_fault, missing_type_at, none_both, or_none_both, order_fault, order_of, outcome_one, rows_of, shape_of, type_fault, type_kept, type_word, words, words-head, «Type» as Written}
 use Rattle.wit_arena.proofs.Meant.{free_unmeant}
 use Rattle.wit_sides.specs.SideNames.{defined_on}
 use Rattle.wit_sides.specs.declared.sides.Sides.{Sides}
-use Rattle.wit_entries.specs.EntryFaults.{name_fault, handled_fault, handle_fault, written_fault, types_fault, body_fault, definition_fault, IsExtended, Requires}
+use Rattle.wit_entries.specs.EntryFaults.{name_fault, handle_fault, written_fault, definition_fault, IsExtended, Requires, end_fault, end_in}
 use Rattle.wit_signatures.specs.FunctionsOfScope.{name_of_id}
 use Rattle.wit_externs.specs.Clash.{words_in, EndsIn, IsSafe}
 use Rattle.wit_item_entries.specs.AddedNames.{AddsTurn, IsTurn}
 use Rattle.wit_items.specs.declared.interfaces.Interfaces.{Interfaces}
-use Rattle.wit_item_entries.specs.ReachedFaults.{interface_of, lost_name, asked_fault, used_fault, spelled_fault, local_fault, ordered_fault, EndsAlong, EndsInTurn, FindsDefinitions}
+use Rattle.wit_item_entries.specs.ReachedFaults.{interface_of, lost_name, used_fault, spelled_fault, local_fault, ordered_fault, EndsAlong, EndsInTurn, FindsDefinitions}
 use Rattle.wit_type_tree.specs.declared.types.TypeDef.{TypeDef as Definition}
 use Rattle.wit_first.specs.OrderFaults.{IsTypeOrderFault}
 use Rattle.wit_walk.proofs.SameTypes.{Agree, types_same}
@@ -20,6 +20,7 @@ use Rattle.wit_scopes.specs.DefinitionOrder.{AreInTurn}
 use Rattle.wit_scopes.proofs.Placed.{none_unknown}
 use Rattle.wit_scopes.specs.declared.scope_name.Source.TheVariants as borrowed_source
 use Rattle.wit_type_tree.specs.declared.types.«Type».TheVariants as written
+use Rattle.wit_arena.proofs.Common.{free_functions}
 
 -- once the names of a scope are defined where nothing was, they are on their side
 pub used_before : (side : WorldSide) (old new : Sides) (borrowed ids : List Id) → ((s : WorldSide) → defined_on s old ≡ []) → ((s : WorldSide) → defined_on s new ≡ defined_on s old ++ names_on s (map name_of_id borrowed)) → borrowed ≡ ids → defined_on side new ≡ names_on side (map name_of_id ids)
@@ -67,7 +68,7 @@ prefix_at (r ∷ ss) (j ∷ is) zero s i at there =
 prefix_at (r ∷ ss) (j ∷ is) (suc t) s i at there = prefix_at ss is t s i at there
 
 -- an interface that goes by a name is found
-pub named_found : (ss : List Address) (is : List Interface) (by_name : Names) (name : List ℕ) (t : ℕ) (i : Interface) → AreFound interface_name (length ss) is by_name → env_of by_name name ≡ Some t → slice_get is t ≡ Some i → IsFound (resolved_scopes ss is) (InterfaceNamed name) (resolved_scope_at (InterfaceNamed name) i)
+pub named_found : (ss : List Address) (is : List Interface) (by_name : Names) (name : List ℕ) (t : ℕ) (i : Interface) → AreFound (λ (i : Interface). i.name) (length ss) is by_name → env_of by_name name ≡ Some t → slice_get is t ≡ Some i → IsFound (resolved_scopes ss is) (InterfaceNamed name) (resolved_scope_at (InterfaceNamed name) i)
 named_found ss is by_name name t i found here there =
     let says = found name t here in
     let j = found_resolved_scope ss is t name says.0 says.1 in
@@ -98,8 +99,8 @@ of_nothing fns id none =
     rw miss refl
 
 -- a used name from an interface that is resolved
-pub used_from : (is : Interfaces) (u : UsedName) (i : Interface) → unresolved_fault is.by_name (source_target u.from) ≡ None → interface_of is u.from ≡ Some i → used_fault is u ≡ asked_fault u.name.now.name i
-used_from is u i none at = ap (λ (o : Option Fault). option_or o (option_map_or (asked_fault u.name.now.name) (interface_of is u.from) None)) none ∙ ap (λ (o : Option Interface). option_map_or (asked_fault u.name.now.name) o None) at
+pub used_from : (is : Interfaces) (u : UsedName) (i : Interface) → unresolved_fault is.by_name (source_target u.from) ≡ None → interface_of is u.from ≡ Some i → used_fault is u ≡ (if is_none (env_of i.types u.name.now.name.name.now) then Some (lost_name (free_functions i) u.name.now.name) else None)
+used_from is u i none at = ap (λ (o : Option Fault). option_or o (option_map_or (λ (i : Interface). if is_none (env_of i.types u.name.now.name.name.now) then Some (lost_name (free_functions i) u.name.now.name) else None) (interface_of is u.from) None)) none ∙ ap (λ (o : Option Interface). option_map_or (λ (i : Interface). if is_none (env_of i.types u.name.now.name.name.now) then Some (lost_name (free_functions i) u.name.now.name) else None) o None) at
 
 -- a name is in a table where one of the names there is spelled alike
 any_in : (names : Names) (name : List ℕ) → list_any (λ (k : List ℕ). bytes_eq k name) (names_in names) ≡ is_some (env_of names name)
@@ -218,21 +219,21 @@ module _ (env : Env) (es : List TypeDef) (handle : Id → Option Fault) where
   handle_safe : IsSafe env es handle → (id : Id) → handle_fault missing_type_at env es id ≡ None → handle id ≡ None
   handle_safe safe id h = by (env id.name.now) refl h
     where
-      by : (o : Option ℕ) → env id.name.now ≡ o → handled_fault missing_type_at es id o ≡ None → handle id ≡ None
+      by : (o : Option ℕ) → env id.name.now ≡ o → option_map_or (λ (place : ℕ). end_fault id (end_in es place)) o (Some (missing_type_at id)) ≡ None → handle id ≡ None
       by None free none = absurd (let f : ⊥ = cc in f)
       by (Some place) present none = safe id place present none
 
-  types_safe : IsSafe env es handle → (ts : List Written) → types_fault missing_type_at env es ts ≡ None → first_in (type_fault (λ id. None) handle) ts ≡ None
+  types_safe : IsSafe env es handle → (ts : List Written) → first_in (written_fault missing_type_at env es) ts ≡ None → first_in (type_fault (λ id. None) handle) ts ≡ None
   types_safe safe [] h = refl
   types_safe safe (t ∷ ts) h =
-      let all = or_none_both (written_fault missing_type_at env es t) (types_fault missing_type_at env es ts) h in
+      let all = or_none_both (written_fault missing_type_at env es t) (first_in (written_fault missing_type_at env es) ts) h in
       none_both (type_kept (name_fault missing_type_at env) (handle_fault missing_type_at env es) (λ id. None) handle (λ id none. refl) (handle_safe safe) t all.0) (types_safe safe ts all.1)
 
   -- a definition without a fault in the arena
   pub definition_safe : IsSafe env es handle → (d : Definition) → definition_fault env es d ≡ None → scope_definition_fault handle (Defined d) ≡ None
   definition_safe safe d h =
-      let all = or_none_both (metadata_fault d.attributes.items) (body_fault missing_type_at env es d.body) h in
-      let own = or_none_both (list_fault d.body) (types_fault missing_type_at env es (body_types d.body)) all.1 in
+      let all = or_none_both (metadata_fault d.attributes.items) (option_or (list_fault d.body) (first_in (written_fault missing_type_at env es) (body_types d.body))) h in
+      let own = or_none_both (list_fault d.body) (first_in (written_fault missing_type_at env es) (body_types d.body)) all.1 in
       none_both all.0 (none_both own.0 (types_safe safe (body_types d.body) own.1))
 
   -- these names mean something
@@ -255,7 +256,7 @@ module _ (env : Env) (es : List TypeDef) (handle : Id → Option Fault) where
       let here : AreMeant (all_words (all_shapes (body_types d.body))) = subst AreMeant (sym (body_words d.body)) meant in
       let agree : Agree (name_fault missing_type_at env) (handle_fault missing_type_at env es) (λ id. None) handle (all_words (all_shapes (body_types d.body))) = record {
         words = λ id among. ap (λ (o : Option ℕ). if is_none o then Some (missing_type_at id) else None) (here id among).1;
-        handles = λ id among. (let it = here id among in ap (handled_fault missing_type_at es id) it.1 ∙ sym (ends id it.0 it.1));
+        handles = λ id among. (let it = here id among in ap (λ (o : Option ℕ). option_map_or (λ (place : ℕ). end_fault id (end_in es place)) o (Some (missing_type_at id))) it.1 ∙ sym (ends id it.0 it.1));
       } in
       ap (λ (o : Option Fault). option_or (metadata_fault d.attributes.items) (option_or (list_fault d.body) o)) (types_same (name_fault missing_type_at env) (handle_fault missing_type_at env es) (λ id. None) handle (body_types d.body) agree)
 

@@ -26,12 +26,9 @@ interface_of is from = option_and_then (slice_get is.arena) (source_place is.by_
 abbrev pub lost_name : List (List ℕ) → Id → Fault
 lost_name fns id = if list_any (bytes_eq id.name.now) fns then function_used id else missing_at 12 name_word id
 
-abbrev pub asked_fault : Id → Interface → Option Fault
-asked_fault id i = if is_none (env_of i.types id.name.now) then Some (lost_name (free_functions i) id) else None
-
 -- of a used name by itself: its interface, and then what it means there
 abbrev pub used_fault : Interfaces → UsedName → Option Fault
-used_fault is u = option_or (unresolved_fault is.by_name (source_target u.from)) (option_map_or (asked_fault u.name.now.name) (interface_of is u.from) None)
+used_fault is u = option_or (unresolved_fault is.by_name (source_target u.from)) (option_map_or (λ (i : Interface). if is_none (env_of i.types u.name.now.name.name.now) then Some (lost_name (free_functions i) u.name.now.name) else None) (interface_of is u.from) None)
 
 -- a name of a scope is spelled alike
 abbrev pub spelled_fault : Names → UsedName → Option Fault

@@ -13,20 +13,9 @@ use Rattle.wit_scopes.specs.declared.scope_name.Source.TheVariants as source
 abbrev pub prefix_of : List PackageFile → List Address
 prefix_of files = map visited (foreign_interfaces files)
 
--- the name of an interface, if it has one, and that of a world
-abbrev pub interface_name : Interface → Option (List ℕ)
-interface_name i = i.name
-
-abbrev pub world_name : World → Option (List ℕ)
-world_name w = Some w.name
-
--- the name of what is at a place, if there is one
-abbrev pub name_at : {X : Type 0} → (X → Option (List ℕ)) → List X → ℕ → Option (List ℕ)
-name_at called xs place = option_and_then called (slice_get xs place)
-
 -- each name that is found is the name of what is at its place, after so many others
 abbrev pub AreFound : {X : Type 0} → (X → Option (List ℕ)) → ℕ → List X → Names → Type 0
-AreFound called count xs by_name = (name : List ℕ) (place : ℕ) → env_of by_name name ≡ Some place → (count ≤ place) × (name_at called xs place ≡ Some name)
+AreFound called count xs by_name = (name : List ℕ) (place : ℕ) → env_of by_name name ≡ Some place → (count ≤ place) × (option_and_then called (slice_get xs place) ≡ Some name)
 
 -- none, where there is no such place or the file has none
 abbrev pub header_at : List PackageFile → ℕ → Option Header

@@ -1,6 +1,6 @@
 //! The interfaces that are resolved, of this package and of other ones.
 ghost use Rattle.std.specs.Prelude.{◌≤◌, length};
-ghost use Rattle.wit_items.specs.ItemPaths.{prefix_of, AreFound, interface_name};
+ghost use Rattle.wit_items.specs.ItemPaths.{prefix_of, AreFound};
 
 use crate::files::Files;
 use wit_maps::TextTable;
@@ -16,5 +16,5 @@ pub struct Interfaces<'f, 'a, 'n, 'e> {
     pub arena: Arena<Interface, InterfacePlace>,
     pub by_name: TextTable<InterfaceId>,
     pub ghost prefix: { length (prefix_of files) ≤ length arena },
-    pub ghost found: { AreFound interface_name (length (prefix_of files)) arena by_name },
+    pub ghost found: { AreFound (λ i. i.name) (length (prefix_of files)) arena by_name },
 }

@@ -1,6 +1,6 @@
 //! The worlds that are resolved, of this package and of other ones.
 ghost use Rattle.std.specs.Prelude.{◌≤◌, length};
-ghost use Rattle.wit_items.specs.ItemPaths.{AreFound, world_name};
+ghost use Rattle.wit_items.specs.ItemPaths.{AreFound};
 ghost use Rattle.wit_items.specs.BorrowedItems.{others_of};
 
 use wit_items::interfaces::Interfaces;
@@ -17,5 +17,5 @@ pub struct Worlds<'f, 'a, 'i, 'n, 'e> {
     pub arena: Arena<World, WorldPlace>,
     pub by_name: TextTable<WorldId>,
     pub ghost prefix: { length (others_of interfaces.now.files) ≤ length arena },
-    pub ghost found: { AreFound world_name (length (others_of interfaces.now.files)) arena by_name },
+    pub ghost found: { AreFound (λ w. Some w.name) (length (others_of interfaces.now.files)) arena by_name },
 }

@@ -11,7 +11,7 @@ use Rattle.wit_parser.proofs.PartsSeen.{entries_made, made_places}
 use Rattle.wit_parser.proofs.PartsOrders.{ItemPresent, interface_seen, world_seen, foreign_seen}
 use Rattle.wit_parser.proofs.PartsTurns.{FunctionPresent, RolePresent, name_places-are, seen_at, signature_at}
 use Rattle.wit_parser.proofs.PartsScopes.{has_places, HasPlaces}
-use Rattle.wit_parser.specs.Ids.{IsFunctionWithin, IsKeyWithin, IsItemWithin, IsOwnerWithin, IsTypeWithin, IsInterfaceWithin, IsWorldWithin, IsForeignWithin, AreIdsWithin, AreTypesWithin, AreNamesWithin}
+use Rattle.wit_parser.specs.Ids.{IsFunctionWithin, IsKeyWithin, IsItemWithin, IsOwnerWithin, IsTypeWithin, IsInterfaceWithin, IsWorldWithin, IsForeignWithin, AreIdsWithin, AreTypesWithin}
 use Rattle.wit_types.specs.declared.types.«Type».{«Type» as Ty}
 use Rattle.wit_functions.specs.FunctionKinds.{resource_of}
 use Rattle.wit_arena.proofs.OneKind.{primitive_below}
@@ -58,7 +58,7 @@ module _ (p : UnresolvedPackage) (ks : List Key) (count : length p.types ≡ len
   parts_within _ tys are k ty at = absurd are
 
   -- the names of a scope mean places of types
-  pub names_within : (t : Turned) (names : List (List ℕ × ℕ)) → HasTypes ks t names → AreNamesWithin p names
+  pub names_within : (t : Turned) (names : List (List ℕ × ℕ)) → HasTypes ks t names → ((k : ℕ) (name : List ℕ) (id : ℕ) → slice_get names k ≡ Some (name, id) → id < length p.types)
   names_within t names has k name id at = key_within id (Def t.address name) (has.places k name id at)
 
   module _ (id : Key → ℕ) (gives : GivesPlaces id ks) (s : Address) where

@@ -20,12 +20,8 @@ source_view (borrowed_source.Foreign id of name) = ForeignNamed (package_of of.n
 abbrev pub use_view : UsedName → ScopeName
 use_view u = Used (source_view u.from) u.attributes.now u.name.now
 
--- a borrowed definition
-abbrev pub DefinedName : Type 0
-DefinedName = Lent (Bor TypeDef)
-
 -- the definition that is borrowed
-abbrev pub definition_view : DefinedName → ScopeName
+abbrev pub definition_view : Lent (Bor TypeDef) → ScopeName
 definition_view d = Defined d.definition.now
 
 -- the names of a turn: the used ones, and then those of its definitions
@@ -34,7 +30,7 @@ AreIdsOf uses t = t.ids.items ≡ map local_id (map use_view uses ++ map definit
 
 -- a borrowed name of a scope
 abbrev pub Borrowed : Type 0
-Borrowed = Named UsedName DefinedName
+Borrowed = Named UsedName (Lent (Bor TypeDef))
 
 -- the name of a scope that is borrowed
 abbrev pub name_view : Borrowed → ScopeName

@@ -5,7 +5,6 @@ use Rattle.wit_walk.proofs.Common.{IsFirstRepeat, Param, Reports, after_kept, fi
 use Rattle.wit_entries.specs.EntryFaults.{IsExtended, written_fault}
 use Rattle.wit_entries.proofs.Faults.{written_extended}
 use Rattle.wit_walk.proofs.FunctionFaults.{param_at, params_before}
-use Rattle.wit_signatures.specs.FunctionsOfScope.{params_fault}
 
 -- a parameter by its name, and the fault of a later one
 abbrev key : SourceParam → List ℕ
@@ -57,13 +56,13 @@ module _ (wrong : Written → Option Fault) (xs : List ScopeName) (fn : SourceFu
   returns = return_fault wrong xs fn fn.func.result
 
   pub given_first : {e : ParseError} → Reports (given_fault fn) e → Reports (function_fault wrong xs fn) e
-  given_first report = reports_back meta (reports_prefix (option_or (params_fault wrong fn) returns) report)
+  given_first report = reports_back meta (reports_prefix (option_or (first_after (param_fault wrong fn) [] fn.func.params.items) returns) report)
 
-  pub params_first : {e : ParseError} → given_fault fn ≡ None → Reports (params_fault wrong fn) e → Reports (function_fault wrong xs fn) e
+  pub params_first : {e : ParseError} → given_fault fn ≡ None → Reports (first_after (param_fault wrong fn) [] fn.func.params.items) e → Reports (function_fault wrong xs fn) e
   params_first given report = reports_back meta (reports_back given (reports_prefix returns report))
 
-  pub returns_first : {e : ParseError} → given_fault fn ≡ None → params_fault wrong fn ≡ None → Reports returns e → Reports (function_fault wrong xs fn) e
+  pub returns_first : {e : ParseError} → given_fault fn ≡ None → first_after (param_fault wrong fn) [] fn.func.params.items ≡ None → Reports returns e → Reports (function_fault wrong xs fn) e
   returns_first given params report = reports_back meta (reports_back given (reports_back params report))
 
-  pub none_first : given_fault fn ≡ None → params_fault wrong fn ≡ None → returns ≡ None → function_fault wrong xs fn ≡ None
+  pub none_first : given_fault fn ≡ None → first_after (param_fault wrong fn) [] fn.func.params.items ≡ None → returns ≡ None → function_fault wrong xs fn ≡ None
   none_first given params none = none_both meta (none_both given (none_both params none))

@@ -30,16 +30,12 @@ name_key n = folded_key n.0
 abbrev pub fault_at : FunctionScope → List TypeDef → ℕ → Written → Option Fault
 fault_at s es place = written_fault (lost_word (take (place + 1) (functions_view s))) (env_of s.names.now) es
 
--- and of parameters
-abbrev pub params_fault : (Written → Option Fault) → SourceFunction → Option Fault
-params_fault wrong fn = first_after (param_fault wrong fn) [] fn.func.params.items
-
 -- a call resolves a type in it, and all parameters
 abbrev pub ResolvesSigned : FunctionScope → ℕ → (old new : List TypeDef) → (before after : Vec Required Global) → Written → Result Ty ParseError → Type 0
 ResolvesSigned s place old new before after t r = Resolves (env_of s.names.now) old new before.items after.items (all_handles (t ∷ [])) (fault_at s new place t) (λ ty. AreTypes old new (env_of s.names.now) Unknown (t ∷ []) (ty ∷ [])) r
 
 abbrev pub ResolvesParams : FunctionScope → ℕ → (old new : List TypeDef) → (before after : Vec Required Global) → SourceFunction → Result (List Param) ParseError → Type 0
-ResolvesParams s place old new before after fn r = Resolves (env_of s.names.now) old new before.items after.items (all_handles (map (λ (p : WrittenParam). p.ty) fn.func.params.items)) (params_fault (fault_at s new place) fn) (AreParamsOver old new (env_of s.names.now) (all_params fn)) r
+ResolvesParams s place old new before after fn r = Resolves (env_of s.names.now) old new before.items after.items (all_handles (map (λ (p : WrittenParam). p.ty) fn.func.params.items)) (first_after (param_fault (fault_at s new place) fn) [] fn.func.params.items) (AreParamsOver old new (env_of s.names.now) (all_params fn)) r
 
 -- this is the type of its result, and what is found of that
 abbrev pub AddsResult : FunctionScope → (old new : List TypeDef) → (before after : Vec Required Global) → SourceFunction → Option Ty → Type 0

@@ -11,7 +11,7 @@ use Rattle.wit_externs.specs.Clash.{again_fault, item_names, IsLinked, linked_on
 use Rattle.wit_externs.proofs.AloneFaults.{again_free, again_report}
 use Rattle.wit_world_sides.specs.declared.members.Members.{Members}
 use Rattle.wit_world_sides.specs.declared.sides.WorldSides.{WorldSides}
-use Rattle.wit_world_sides.specs.Members.{again_linked, clash_fault, named_fault, put_fault, put_link_fault, side_fault}
+use Rattle.wit_world_sides.specs.Members.{clash_fault, put_fault, put_link_fault, side_fault}
 use Rattle.wit_world_sides.proofs.Putting.{names_itself, names_under}
 
 -- a name that is spelled like one of these, and one that is not
@@ -29,16 +29,16 @@ crossed_free as_crossed names name span free =
     ap (λ (b : Bool). if b then Some (as_crossed name span) else None) miss
 
 -- of the name of an import or an export: its key is new on its side; or the name is there, or it is not, and something is wrong
-pub named_free : (as_crossed : List ℕ → Span → Fault) (names : List Name) (name : List ℕ) (span : Span) → (AreUsed names name → ⊥) → named_fault true as_crossed names (name, span) ≡ None
+pub named_free : (as_crossed : List ℕ → Span → Fault) (names : List Name) (name : List ℕ) (span : Span) → (AreUsed names name → ⊥) → option_or (if true then repeat_of (λ (m : Name). m.0) (λ (m : Name). as_crossed m.0 m.1) names (name, span) else None) (again_fault names (name, span)) ≡ None
 named_free as_crossed names name span free = none_both (crossed_free as_crossed names name span (λ has. free (record { place = has.place; earlier = (name, has.span); at = has.at; same = refl }))) (again_free names name span free)
 
-pub named_has : (as_crossed : List ℕ → Span → Fault) (names : List Name) (name : List ℕ) (span : Span) (e : ParseError) → HasName names name → IsAllocationFailure e ⊎ (fault_of e ≡ as_crossed name span) → Reports (named_fault true as_crossed names (name, span)) e
+pub named_has : (as_crossed : List ℕ → Span → Fault) (names : List Name) (name : List ℕ) (span : Span) (e : ParseError) → HasName names name → IsAllocationFailure e ⊎ (fault_of e ≡ as_crossed name span) → Reports (option_or (if true then repeat_of (λ (m : Name). m.0) (λ (m : Name). as_crossed m.0 m.1) names (name, span) else None) (again_fault names (name, span))) e
 named_has as_crossed names name span e has h = elim h [
   | inl memory ↦ inl memory
   | inr is ↦ inr (ap (λ (o : Option Fault). option_or o (again_fault names (name, span))) (crossed_has as_crossed names name span has) ∙ ap Some (sym is))
 ]
 
-pub named_other : (as_crossed : List ℕ → Span → Fault) (names : List Name) (name : List ℕ) (span : Span) (e : ParseError) → (HasName names name → ⊥) → Refused (IsDefinedAgain names name span) e → Reports (named_fault true as_crossed names (name, span)) e
+pub named_other : (as_crossed : List ℕ → Span → Fault) (names : List Name) (name : List ℕ) (span : Span) (e : ParseError) → (HasName names name → ⊥) → Refused (IsDefinedAgain names name span) e → Reports (option_or (if true then repeat_of (λ (m : Name). m.0) (λ (m : Name). as_crossed m.0 m.1) names (name, span) else None) (again_fault names (name, span))) e
 named_other as_crossed names name span e other h = reports_back (crossed_free as_crossed names name span other) (again_report names name span e h)
 
 -- what is no import and no export
@@ -61,7 +61,7 @@ clash_none : (names : Sides) (sides : WorldSides) (x : SideItem) → item_names 
 clash_none names sides x none = ap (first_in (side_fault names sides (item_side x) (is_extern x))) none
 
 -- of a link under a name of its own
-linked_named : (ids : List ℕ) (link : Link) (id : ℕ) (own : Id) → link.name ≡ Some own → again_linked ids link id ≡ None
+linked_named : (ids : List ℕ) (link : Link) (id : ℕ) (own : Id) → link.name ≡ Some own → (if is_none link.name && list_any (nat_eq id) ids then Some (linked_twice link.side (path_id link.path).span) else None) ≡ None
 linked_named ids link id own named = ap (λ (n : Option Id). if is_none n && list_any (nat_eq id) ids then Some (linked_twice link.side (path_id link.path).span) else None) named
 
 pub put_link_named : (m : Members) (link : Link) (id : ℕ) (own : Id) → link.name ≡ Some own → put_link_fault m link id ≡ side_fault m.in_use m.sides link.side true (name_of_id own)
@@ -70,14 +70,14 @@ put_link_named m link id own named =
     ∙ clash_one m.in_use m.sides (SideLink link) link.side true (name_of_id own) refl refl (names_under link own named)
 
 -- and of one without: its interface is there, or it is not
-linked_bare : (ids : List ℕ) (link : Link) (id : ℕ) (found : Bool) → link.name ≡ None → list_any (nat_eq id) ids ≡ found → again_linked ids link id ≡ (if found then Some (linked_twice link.side (path_id link.path).span) else None)
+linked_bare : (ids : List ℕ) (link : Link) (id : ℕ) (found : Bool) → link.name ≡ None → list_any (nat_eq id) ids ≡ found → (if is_none link.name && list_any (nat_eq id) ids then Some (linked_twice link.side (path_id link.path).span) else None) ≡ (if found then Some (linked_twice link.side (path_id link.path).span) else None)
 linked_bare ids link id found bare is =
     ap (λ (n : Option Id). if is_none n && list_any (nat_eq id) ids then Some (linked_twice link.side (path_id link.path).span) else None) bare
     ∙ ap (λ (b : Bool). if b then Some (linked_twice link.side (path_id link.path).span) else None) is
 
-put_link_bare : (m : Members) (link : Link) (id : ℕ) → link.name ≡ None → put_link_fault m link id ≡ again_linked (linked_on link.side m.links) link id
+put_link_bare : (m : Members) (link : Link) (id : ℕ) → link.name ≡ None → put_link_fault m link id ≡ (if is_none link.name && list_any (nat_eq id) (linked_on link.side m.links) then Some (linked_twice link.side (path_id link.path).span) else None)
 put_link_bare m link id bare =
-    let first = again_linked (linked_on link.side m.links) link id in
+    let first = (if is_none link.name && list_any (nat_eq id) (linked_on link.side m.links) then Some (linked_twice link.side (path_id link.path).span) else None) in
     ap (option_or first) (clash_none m.in_use m.sides (SideLink link) (names_itself link bare)) ∙ or_none first
 
 pub linked_free : (m : Members) (link : Link) (id : ℕ) → link.name ≡ None → (Contains (linked_on link.side m.links) id → ⊥) → put_link_fault m link id ≡ None

@@ -1,6 +1,6 @@
 -- What a world has on its sides, with the names and the interfaces there, while one after another is put there, and its first fault: E43, E44 and E17.
-use Rattle.std.specs.Prelude.{◌≡◌, Bool, List, if◌then◌else◌, ℕ, true, false, [], ◌∷◌, Some, slice_get, ◌++◌, Option, codes, map, ◌&&◌, nat_eq, None, is_none, unwrap_or}
-use Rattle.wit_arena.specs.Common.{AllDiffer, Exported, Fault, Function, Id, Imported, Include, Link, SideItem, SideLink, Span, WorldItem, WorldKey, WorldSide, extern_link, flat_map, function_of, insert_entry, item_side, items_on, link_item, linked_twice, list_any, option_map_or, option_or, path_id, put_on, same_side, settled, UsePath}
+use Rattle.std.specs.Prelude.{◌≡◌, Bool, List, if◌then◌else◌, ℕ, true, false, [], ◌∷◌, Some, slice_get, ◌++◌, Option, codes, map, ◌&&◌, nat_eq, None, is_none}
+use Rattle.wit_arena.specs.Common.{AllDiffer, Exported, Fault, Function, Id, Imported, Include, Link, SideItem, SideLink, WorldItem, WorldKey, WorldSide, extern_link, flat_map, function_of, insert_entry, item_side, items_on, link_item, linked_twice, list_any, option_map_or, option_or, path_id, put_on, same_side, settled}
 use Rattle.wit_model.specs.contracts.world.WorldKeyPartialEq.TheImpl.{eq-value as key_test}
 use Rattle.wit_world_sides.specs.declared.sides.WorldSides.{WorldSides}
 use Rattle.wit_walk.specs.Members.{is_extern}
@@ -15,10 +15,6 @@ use Rattle.wit_first.specs.First.{first_in, repeat_of}
 use Rattle.wit_sides.specs.declared.sides.Sides.{Sides}
 use Rattle.wit_model.specs.declared.world.WorldKey.TheVariants as key
 use Rattle.wit_model.specs.declared.world.WorldItem.TheVariants as item
-
--- where an interface is: where the name of its own is, or else its path
-abbrev pub link_span : Option Id → UsePath → Span
-link_span name path = (unwrap_or name (path_id path)).span
 
 -- whether there is no include
 abbrev pub none_of : List Include → Bool
@@ -106,13 +102,9 @@ bare_id name id = option_map_or (λ own. []) name (id ∷ [])
 abbrev pub PutsLink : Members → Members → PathExtern → ℕ → Type 0
 PutsLink m m' p id = PutsOn m m' (SideLink (path_link p)) (bare_id p.name id) (link_item (path_link p) id)
 
--- of a name after these of its side: one of them is spelled alike, where it is that of an import or an export (`as_crossed` says E44 of that), and then one has its key
-abbrev pub named_fault : Bool → (List ℕ → Span → Fault) → List Name → Name → Option Fault
-named_fault extern as_crossed before n = option_or (if extern then repeat_of (λ (m : Name). m.0) (λ (m : Name). as_crossed m.0 m.1) before n else None) (again_fault before n)
-
 -- of a name that is defined on a side after those there
 abbrev pub side_fault : Sides → WorldSides → WorldSide → Bool → Name → Option Fault
-side_fault names sides side extern n = named_fault extern (crossed_among side (sorted_on side sides)) (defined_on side names) n
+side_fault names sides side extern n = option_or (if extern then repeat_of (λ (m : Name). m.0) (λ (m : Name). crossed_among side (sorted_on side sides) m.0 m.1) (defined_on side names) n else None) (again_fault (defined_on side names) n)
 
 -- of the name of what is put on its side after those there, where it has one
 abbrev pub clash_fault : Sides → WorldSides → SideItem → Option Fault
@@ -121,10 +113,6 @@ clash_fault names sides x = first_in (side_fault names sides (item_side x) (is_e
 abbrev pub put_fault : Members → SideItem → Option Fault
 put_fault m x = clash_fault m.in_use m.sides x
 
--- an interface without a name of its own is one of those at these places
-abbrev pub again_linked : List ℕ → Link → ℕ → Option Fault
-again_linked ids link id = if is_none link.name && list_any (nat_eq id) ids then Some (linked_twice link.side (path_id link.path).span) else None
-
 -- of an interface at a place that is put on its side
 abbrev pub put_link_fault : Members → Link → ℕ → Option Fault
-put_link_fault m link id = option_or (again_linked (linked_on link.side m.links) link id) (put_fault m (SideLink link))
+put_link_fault m link id = option_or (if is_none link.name && list_any (nat_eq id) (linked_on link.side m.links) then Some (linked_twice link.side (path_id link.path).span) else None) (put_fault m (SideLink link))

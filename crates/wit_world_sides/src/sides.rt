@@ -1,5 +1,5 @@
 //! What a world has on its sides: the names of its scope as imports, and what is put there.
-ghost use Rattle.std.specs.Prelude.{◌≡◌, ◌<◌, [], IfOk, OnOk, map};
+ghost use Rattle.std.specs.Prelude.{◌≡◌, ◌<◌, [], IfOk, OnOk, map, unwrap_or};
 ghost use Rattle.indexmap.specs.IndexMap.{insert_entry};
 ghost use Rattle.wit_type_tree.specs.Attributes.{stated_text};
 ghost use Rattle.wit_type_tree.specs.declared.attribute_kind.AttributeKind.TheVariants.{ExternalId};
@@ -8,10 +8,10 @@ ghost use Rattle.wit_model.specs.declared.world.WorldItem.TheVariants.{Interface
 ghost use Rattle.wit_model.specs.contracts.world.WorldKeyPartialEq.TheImpl.{eq-value as key_test};
 ghost use Rattle.wit_syntax.specs.Metadata.{stability_of};
 ghost use Rattle.wit_syntax.specs.Repeats.{AllDiffer};
-ghost use Rattle.wit_syntax.specs.Source.{local_id};
+ghost use Rattle.wit_syntax.specs.Source.{local_id, path_id};
 ghost use Rattle.wit_arena.specs.SourceFunctions.{inline_entry, link_item};
 ghost use Rattle.wit_arena.specs.Whole.{type_imports as the_imports};
-ghost use Rattle.wit_world_sides.specs.Members.{path_link, entries_of, inserted_on, link_span as the_link_span};
+ghost use Rattle.wit_world_sides.specs.Members.{path_link, entries_of, inserted_on};
 
 use crate::members::PathExtern;
 use std::alloc::{AllocError, Global};
@@ -111,7 +111,7 @@ pub(crate) fn add_item(
 
 /// Where an interface is: where the name of its own does, or else its path.
 fn link_span(name: Option<Id<'_>>, path: &UsePath<'_>) -> Span
-    ensures { result ≡ the_link_span name.entry path.now }
+    ensures { result ≡ (unwrap_or name.entry (path_id path.now)).span }
 {
     match name {
         Some(name) => name.span,

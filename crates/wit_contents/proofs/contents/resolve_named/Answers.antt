@@ -1,5 +1,5 @@
 use Rattle.std.proofs.Common.{◌≡◌, List, ◌++◌, length, map, ap, ◌∙◌, [], inl}
-use Rattle.wit_contents.proofs.Names.{Address, AddsInterfaces, AddsWorlds, Appends, IfOk-at_ok, Required, all_items, arenas, err_from_is_err_and, found_none, in_order, interface_name, interfaces_of, item_view, others_of, prefix_of, prefix_worlds, uses_usable, worlds_of}
+use Rattle.wit_contents.proofs.Names.{Address, AddsInterfaces, AddsWorlds, Appends, IfOk-at_ok, Required, all_items, arenas, err_from_is_err_and, found_none, in_order, interfaces_of, item_view, others_of, prefix_of, prefix_worlds, uses_usable, worlds_of, Interface}
 use Rattle.wit_foreign.specs.Growing.{AreDepsOf, AreDepSpansOf}
 use Rattle.wit_front.specs.ForeignPrefix.{IsPrefix}
 use Rattle.wit_contents.proofs.Files.{borrowed_within, contents_made, interfaces_enough, prefix_entries, prefix_index, prefix_started, prefix_used, prefix_worlds_index, worlds_enough}
@@ -46,7 +46,7 @@ invariant_of-interfaces c =
     let prefix : IsPrefix c.args.names.now c.add_used_by_items.new.types c.add_used_by_items.new.self = prefix_used c.args.names.now c.foreign.result.now c.args.types.now c.in_ok-prefix.prefix c.foreign.ensures c.requires.empty c.in_ok-prefix.ensures c.in_ok-items.items.items c.deref_mut-lent.result.now c.deref_mut-lent.ensures.value e.each c.add_used_by_items.new.types c.add_used_by_items.new.self e.items c.in_ok-add_used_by_items.ensures in
     record {
       prefix = rw c.of-named.ensures (interfaces_enough _ _ _ _ prefix.adds);
-      found = found_none interface_name (length (prefix_of c.of-named.result)) c.add_used_by_items.new.self.interfaces c.new.result c.new.ensures;
+      found = found_none (λ (i : Interface). i.name) (length (prefix_of c.of-named.result)) c.add_used_by_items.new.self.interfaces c.new.result c.new.ensures;
     }
 
 pub resolve_worlds-requires-clause-within : goal.resolve_worlds-requires-clause-within

@@ -1,5 +1,5 @@
 use Rattle.std.proofs.Common.{[], ◌∷◌, length}
-use Rattle.wit_contents.proofs.Names.{found_put, found_wider, index_interface, interface_name, prefix_of, prefix_wider}
+use Rattle.wit_contents.proofs.Names.{found_put, found_wider, index_interface, prefix_of, prefix_wider, Interface}
 use Rattle.wit_contents.proofs.declared.add_interface.Goals as goal
 
 pub invariant_of-interfaces : goal.invariant_of-interfaces
@@ -12,7 +12,7 @@ invariant_of-interfaces-in-Break-branch-2 c =
     let is = c.args.interfaces.now in
     rw c.in_ok-place.ensures.ok (record {
       prefix = prefix_wider (length (prefix_of is.files)) is.arena (c.args.interface ∷ []) is.prefix;
-      found = found_wider interface_name (length (prefix_of is.files)) is.arena (c.args.interface ∷ []) is.by_name is.found;
+      found = found_wider (λ (i : Interface). i.name) (length (prefix_of is.files)) is.arena (c.args.interface ∷ []) is.by_name is.found;
     })
 
 pub invariant_of-interfaces-2 : goal.invariant_of-interfaces-2
@@ -21,7 +21,7 @@ invariant_of-interfaces-2 c =
     let put = rw (c.in_ok-name.ensures.ok, c.in_ok-place.ensures.id) at c.put.ensures.ok in
     rw c.in_ok-place.ensures.ok (record {
       prefix = prefix_wider (length (prefix_of is.files)) is.arena (c.args.interface ∷ []) is.prefix;
-      found = found_put interface_name c.put.result (length (prefix_of is.files)) is.arena is.by_name _ c.args.interface c.args.name.now is.prefix is.found c.requires.named put c.put.ensures.err;
+      found = found_put (λ (i : Interface). i.name) c.put.result (length (prefix_of is.files)) is.arena is.by_name _ c.args.interface c.args.name.now is.prefix is.found c.requires.named put c.put.ensures.err;
     })
 
 pub returns-clause-added : goal.returns-clause-added

@@ -8,5 +8,5 @@ invariant-loop-place l = record {
   files : l.interfaces.files ≡ l.fn.interfaces.files;
   added : Appends l.fn.required.items l.required.items (λ rs. AddsInterfaces (prefix_of l.fn.interfaces.files) l.fn.types l.types l.fn.interfaces.arena l.interfaces.arena rs (interfaces_of (in_order (map item_view l.items) (take l.place-index l.places))));
   index : IsNameIndex InterfaceNamed (interfaces_at (prefix_of l.fn.interfaces.files) l.interfaces.arena) l.interfaces.by_name;
-  first : (wrong : Item → Option Fault) → AreRightOf wrong l.fn.interfaces l.fn.types l.items l.places → first_in wrong (interfaces_of (in_order (map item_view l.items) (take l.place-index l.places))) ≡ None;
+  first : (wrong : Item → Option Fault) → AreRightOf wrong l.fn.interfaces.files l.fn.interfaces.arena l.fn.types l.items l.places → first_in wrong (interfaces_of (in_order (map item_view l.items) (take l.place-index l.places))) ≡ None;
 }

@@ -1,6 +1,7 @@
 use Rattle.std.proofs.Common.{[], ◌∷◌, length, Some, ap}
-use Rattle.wit_contents.proofs.Names.{found_put, found_wider, index_world, others_of, prefix_wider, world_name}
+use Rattle.wit_contents.proofs.Names.{found_put, found_wider, index_world, others_of, prefix_wider}
 use Rattle.wit_contents.proofs.world.add_world.Goals as goal
+use Rattle.wit_arena.proofs.Common.{World}
 
 pub invariant_of-worlds : goal.invariant_of-worlds
 invariant_of-worlds c =
@@ -12,7 +13,7 @@ invariant_of-worlds-in-Break-branch-2 c =
     let ws = c.args.worlds.now in
     rw c.in_ok-place.ensures.ok (record {
       prefix = prefix_wider (length (others_of ws.interfaces.now.files)) ws.arena (c.args.world ∷ []) ws.prefix;
-      found = found_wider world_name (length (others_of ws.interfaces.now.files)) ws.arena (c.args.world ∷ []) ws.by_name ws.found;
+      found = found_wider (λ (w : World). Some w.name) (length (others_of ws.interfaces.now.files)) ws.arena (c.args.world ∷ []) ws.by_name ws.found;
     })
 
 pub invariant_of-worlds-2 : goal.invariant_of-worlds-2
@@ -21,7 +22,7 @@ invariant_of-worlds-2 c =
     let put = rw (c.in_ok-name.ensures.ok, c.in_ok-place.ensures.id) at c.put.ensures.ok in
     rw c.in_ok-place.ensures.ok (record {
       prefix = prefix_wider (length (others_of ws.interfaces.now.files)) ws.arena (c.args.world ∷ []) ws.prefix;
-      found = found_put world_name c.put.result (length (others_of ws.interfaces.now.files)) ws.arena ws.by_name _ c.args.world c.args.name.now ws.prefix ws.found (ap Some c.requires.named) put c.put.ensures.err;
+      found = found_put (λ (w : World). Some w.name) c.put.result (length (others_of ws.interfaces.now.files)) ws.arena ws.by_name _ c.args.world c.args.name.now ws.prefix ws.found (ap Some c.requires.named) put c.put.ensures.err;
     })
 
 pub returns-clause-added : goal.returns-clause-added

@@ -3,13 +3,14 @@ use Rattle.wit_arena.proofs.Common.{Case as WrittenCase, case_types, env_of, err
 use Rattle.wit_types.specs.declared.types.Case.{Case}
 use Rattle.wit_first.proofs.First.{reports-in, reports_same}
 use Rattle.wit_first.proofs.Pushed.{pushed_next}
-use Rattle.wit_entries.specs.EntryFaults.{lost_in, types_fault}
+use Rattle.wit_entries.specs.EntryFaults.{lost_in, written_fault}
 use Rattle.wit_entries.proofs.Faults.{types_extended}
 use Rattle.wit_entries.proofs.Requiring.{extended_then}
 use Rattle.wit_entries.proofs.Resolves.{memory_stopped, types_more, types_none}
 use Rattle.wit_definitions.specs.Bodies.{case_member}
 use Rattle.wit_definitions.proofs.Payloads.{cases_first}
 use Rattle.wit_definitions.proofs.bodies.resolve_cases.Goals as goal
+use Rattle.wit_first.specs.First.{first_in}
 
 pub loop-written-init : goal.loop-written-init
 loop-written-init c = rw c.in_ok-resolved.ensures.items (record { members = refl; types = types_none c.args.scope.now c.args.given.now c.args.types.now c.args.required.now.items })
@@ -54,7 +55,7 @@ returns-in_err-case-clause-resolves c =
     let none = types_extended lost env _ new (case_types (take i cs)) more c.loop-written.invariant.types.first in
     rw (p.1, p.2) (record {
       extended = extended_then _ _ _ c.loop-written.invariant.types.extended more;
-      first = reports_same (sym (cases_first lost env new cs)) (reports-in (λ (x : WrittenCase). types_fault lost env new (option_to_list x.ty)) cs i case _ at (sym (cases_first lost env new (take i cs)) ∙ none) c.in_err-case.ensures.resolves.first);
+      first = reports_same (sym (cases_first lost env new cs)) (reports-in (λ (x : WrittenCase). first_in (written_fault lost env new) (option_to_list x.ty)) cs i case _ at (sym (cases_first lost env new (take i cs)) ∙ none) c.in_err-case.ensures.resolves.first);
     })
 
 pub returns-in_err-push-clause-resolves : goal.returns-in_err-push-clause-resolves

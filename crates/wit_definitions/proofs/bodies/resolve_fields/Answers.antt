@@ -3,7 +3,7 @@ use Rattle.wit_types.specs.declared.types.Field.{Field}
 use Rattle.wit_arena.proofs.Common.{Field as WrittenField, env_of, err_from_is_err_and, field_types, map-append, member, option_map, slice_get, slice_get-get_or, slice_get-map, take-map, take_all, take_more}
 use Rattle.wit_first.proofs.First.{reports-in, or_none, reports_same}
 use Rattle.wit_first.proofs.Pushed.{pushed_next}
-use Rattle.wit_entries.specs.EntryFaults.{lost_in, types_fault, written_fault}
+use Rattle.wit_entries.specs.EntryFaults.{lost_in, written_fault}
 use Rattle.wit_entries.proofs.Faults.{types_extended}
 use Rattle.wit_entries.proofs.Requiring.{extended_then}
 use Rattle.wit_entries.proofs.Resolves.{memory_stopped, types_more, types_none}
@@ -49,7 +49,7 @@ returns-in_err-ty-clause-resolves c =
     let i = c.loop-written.written-index in
     let f = c.written-item.result in
     let at : slice_get (field_types fs) i ≡ Some f.ty = slice_get-map (λ (x : WrittenField). x.ty) fs i ∙ ap (option_map (λ (x : WrittenField). x.ty)) (slice_get-get_or fs i f c.loop-written-test.true ∙ ap Some (sym c.written-item.is)) in
-    let none : types_fault lost env new (take i (field_types fs)) ≡ None = ap (types_fault lost env new) (take-map (λ (x : WrittenField). x.ty) i fs) ∙ types_extended lost env _ new (field_types (take i fs)) c.in_err-ty.ensures.extended c.loop-written.invariant.types.first in
+    let none : first_in (written_fault lost env new) (take i (field_types fs)) ≡ None = ap (first_in (written_fault lost env new)) (take-map (λ (x : WrittenField). x.ty) i fs) ∙ types_extended lost env _ new (field_types (take i fs)) c.in_err-ty.ensures.extended c.loop-written.invariant.types.first in
     rw (p.1, p.2) (record {
       extended = extended_then _ _ _ c.loop-written.invariant.types.extended c.in_err-ty.ensures.extended;
       first = reports-in (written_fault lost env new) (field_types fs) i f.ty _ at none (reports_same (or_none (written_fault lost env new f.ty)) c.in_err-ty.ensures.first);

@@ -2,8 +2,8 @@ use Rattle.std.proofs.Common.{◌≡◌, [], ◌∷◌, ◌++◌, ◌+◌, Some,
 use Rattle.wit_arena.proofs.Common.{FutureForm, ResultForm, StreamForm, append-nil, boxed_types, env_of, err_from_is_err_and, is_some, ok_type, result_shape, result_types, slice_get, slice_get-get_or, take_all, take_more, tuple_inner, tuple_types, types_of_borrowed}
 use Rattle.wit_type_tree.specs.declared.types.«Type».TheVariants as written
 use Rattle.wit_types.specs.declared.types.TypeDefKind.TheVariants as kind
-use Rattle.wit_walk.proofs.Common.{empty_fault, or_none, reports-in, reports_prefix, reports_same}
-use Rattle.wit_entries.specs.EntryFaults.{lost_in, types_fault, written_fault}
+use Rattle.wit_walk.proofs.Common.{empty_fault, or_none, reports-in, reports_prefix, reports_same, first_in}
+use Rattle.wit_entries.specs.EntryFaults.{lost_in, written_fault}
 use Rattle.wit_entries.proofs.Faults.{tuple_first, types_extended}
 use Rattle.wit_entries.proofs.Reading.{resolved_word}
 use Rattle.wit_entries.proofs.Requiring.{extended_then, requires_none}
@@ -89,7 +89,7 @@ read_form-returns-in_err-check_tuple-in-Tuple t c =
     let env = env_of c.args.scope.now.names.now in
     let es = c.args.types.now in
     let it = c.in-Tuple in
-    rw (it.is, p.1, p.2) (record { extended = extended_same es; first = reports_same (sym (tuple_first (lost_in c.args.scope.now.functions) env es it.span it.parts)) (reports_prefix (types_fault (lost_in c.args.scope.now.functions) env es it.parts.items) (rw c.deref-in-Tuple.ensures.value at c.in_err-check_tuple-in-Tuple.ensures)) })
+    rw (it.is, p.1, p.2) (record { extended = extended_same es; first = reports_same (sym (tuple_first (lost_in c.args.scope.now.functions) env es it.span it.parts)) (reports_prefix (first_in (written_fault (lost_in c.args.scope.now.functions) env es) it.parts.items) (rw c.deref-in-Tuple.ensures.value at c.in_err-check_tuple-in-Tuple.ensures)) })
 
 pub read_form-returns-in_err-types-in-Tuple : goal.read_form-returns-in_err-types-in-Tuple
 read_form-returns-in_err-types-in-Tuple t c =

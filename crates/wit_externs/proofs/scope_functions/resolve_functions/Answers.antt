@@ -6,7 +6,7 @@ use Rattle.wit_rules.specs.Signatures.{function_view, functions_view}
 use Rattle.wit_walk.proofs.Common.{after-at, after-more, function_fault, none_both}
 use Rattle.wit_signatures.specs.FunctionsOfScope.{name_of_function}
 use Rattle.wit_entries.proofs.Requiring.{extended_then}
-use Rattle.wit_externs.specs.Clash.{again_fault, alone_fault, alone_faults, signed_by, words_in, names_of_items}
+use Rattle.wit_externs.specs.Clash.{again_fault, alone_faults, signed_by, words_in, names_of_items}
 use Rattle.wit_externs.proofs.AloneFaults.{function_safe, function_same, safe_arena, safe_of}
 use Rattle.wit_externs.proofs.Clashing.{sides_more}
 use Rattle.wit_externs.proofs.DoneFunctions.{next_place, item_next, place_within, done_more, done_all, same_name}
@@ -40,7 +40,7 @@ returns-in_err-function-clause-first c =
           let none = c.loop-borrowed.invariant.first xs scope handle (safe_arena env c.loop-borrowed.types new handle c.in_err-function.ensures.finds.extended (safe_of env new handle ends)) in
           let own = function_same env new handle xs ends fns c.len.result fn next.2 ∙ ap (λ (n : ℕ). function_fault (signed_by (words_in env) handle (take n fns ++ fn ∷ [])) xs fn) next.0 in
           let again = again_fault (old (role_side fn.role) ++ names_of_items (items_on (role_side fn.role) (map SideFunction (take i fns)))) (name_of_function fn) in
-          after-at (alone_fault (words_in env) handle xs old) fns i fn _ next.1 none (ap (λ (o : Option Fault). option_or o again) (sym own ∙ wrong))))
+          after-at (λ (before : List SourceFunction) (fn : SourceFunction). option_or (function_fault (signed_by (words_in env) handle (before ++ fn ∷ [])) xs fn) (again_fault (old (role_side fn.role) ++ names_of_items (items_on (role_side fn.role) (map SideFunction before))) (name_of_function fn))) fns i fn _ next.1 none (ap (λ (o : Option Fault). option_or o again) (sym own ∙ wrong))))
     ])
 
 pub define_alone-requires-clause-mangled : goal.define_alone-requires-clause-mangled
@@ -82,7 +82,7 @@ returns-in_err-define_alone-clause-first c =
           let none = c.loop-borrowed.invariant.first xs scope handle (safe_arena env c.loop-borrowed.types new handle c.in_ok-function.ensures.finds.extended safe) in
           let own = ap (λ (n : ℕ). function_fault (signed_by (words_in env) handle (take n fns ++ fn ∷ [])) xs fn) (sym next.0) ∙ function_safe env new handle xs safe fns c.len.result fn next.2 (c.in_ok-function.ensures.finds.first xs scope fn next.2) in
           let again = again_fault (old side ++ names_of_items (items_on side (map SideFunction (take i fns)))) (name_of_function fn) in
-          after-at (alone_fault (words_in env) handle xs old) fns i fn _ next.1 none (ap (λ (o : Option Fault). option_or o again) own ∙ sym named ∙ wrong)))
+          after-at (λ (before : List SourceFunction) (fn : SourceFunction). option_or (function_fault (signed_by (words_in env) handle (before ++ fn ∷ [])) xs fn) (again_fault (old (role_side fn.role) ++ names_of_items (items_on (role_side fn.role) (map SideFunction before))) (name_of_function fn))) fns i fn _ next.1 none (ap (λ (o : Option Fault). option_or o again) own ∙ sym named ∙ wrong)))
     ])
 
 pub returns-in_err-reserve-clause-extended : goal.returns-in_err-reserve-clause-extended
@@ -117,7 +117,7 @@ loop-borrowed-preserved c =
           let none = was.first zs scope_is handle (safe_arena env c.loop-borrowed.types new handle says.finds.extended safe) in
           let own = ap (λ (n : ℕ). function_fault (signed_by (words_in env) handle (take n fns ++ fn ∷ [])) zs fn) (sym next.0) ∙ function_safe env new handle zs safe fns c.len.result fn next.2 (says.finds.first zs scope_is fn next.2) in
           let named = ap (λ (l : List Name). again_fault l (name_of_function fn)) (names_before old (λ s. defined_on s c.loop-borrowed.in_use) fns i was.defined side) in
-          ap (alone_faults (words_in env) handle zs old) (take_next fns i fn next.1) ∙ after-more (alone_fault (words_in env) handle zs old) (take i fns) fn none ∙ none_both own (sym named ∙ c.in_ok-define_alone.ensures.first));
+          ap (alone_faults (words_in env) handle zs old) (take_next fns i fn next.1) ∙ after-more (λ (before : List SourceFunction) (fn : SourceFunction). option_or (function_fault (signed_by (words_in env) handle (before ++ fn ∷ [])) zs fn) (again_fault (old (role_side fn.role) ++ names_of_items (items_on (role_side fn.role) (map SideFunction before))) (name_of_function fn))) (take i fns) fn none ∙ none_both own (sym named ∙ c.in_ok-define_alone.ensures.first));
     }
 
 pub returns-clause-adds : goal.returns-clause-adds

@@ -1,9 +1,9 @@
 use Rattle.std.proofs.Common.{◌≡◌, true, None, Some, inl, inr, refl, sym, ap, ◌∙◌, rules, ℕ, Option}
 use Rattle.wit_items.proofs.Common.{Fault, Id, codes, defined_twice, env_of, err_from_is_err_and, free_functions, if◌then◌else◌, is_none, name_twice, option_and_then, option_map_or, reports_back, reports_prefix, reports_same, resolved_scope_at, slice_get, source_view, source_within}
 use Rattle.std.specs.Prelude.{is_some}
-use Rattle.wit_item_entries.specs.ReachedFaults.{interface_of, asked_fault, lost_name, used_fault, spelled_fault}
+use Rattle.wit_item_entries.specs.ReachedFaults.{interface_of, lost_name, used_fault, spelled_fault}
 use Rattle.wit_item_entries.proofs.ReachedFaults.{found_of, used_from}
-use Rattle.wit_arena.proofs.Common.{used_adds}
+use Rattle.wit_arena.proofs.Common.{used_adds, Interface}
 use Rattle.wit_item_entries.proofs.uses.resolve_use.Goals as goal
 
 pub returns-in_err-id-clause-first : goal.returns-in_err-id-clause-first
@@ -11,7 +11,7 @@ returns-in_err-id-clause-first c =
     let p = err_from_is_err_and c.from_residual.result c.from_residual.ensures.1 in
     let is = c.args.interfaces.now in
     let u = c.args.used.now in
-    rw (p.1, p.2) (reports_prefix (spelled_fault c.args.scope.now.names u) (reports_prefix (option_map_or (asked_fault u.name.now.name) (interface_of is u.from) None) c.in_err-id.ensures.first))
+    rw (p.1, p.2) (reports_prefix (spelled_fault c.args.scope.now.names u) (reports_prefix (option_map_or (λ (i : Interface). if is_none (env_of i.types u.name.now.name.name.now) then Some (lost_name (free_functions i) u.name.now.name) else None) (interface_of is u.from) None) c.in_err-id.ensures.first))
 
 pub returns-in-None-clause-first : goal.returns-in-None-clause-first
 returns-in-None-clause-first c =

@@ -1,9 +1,11 @@
 use Rattle.std.proofs.Common.{◌≡◌, ◌+◌, ◌++◌, List, ◌∷◌, [], map, take, sym, ap, ◌∙◌, append_assoc}
-use Rattle.wit_arena.proofs.Common.{Id, local_id, map-append, take_all, take_more}
-use Rattle.wit_scopes.specs.BorrowedNames.{DefinedName, definition_view}
+use Rattle.wit_arena.proofs.Common.{Id, local_id, map-append, take_all, take_more, TypeDef}
+use Rattle.wit_scopes.specs.BorrowedNames.{definition_view}
 use Rattle.wit_scopes.proofs.distinct.add_definition_ids.Goals as goal
+use denote.Ref.{Bor}
+use Rattle.wit_scopes.specs.declared.scope_name.Lent.{Lent}
 
-abbrev ids_of : List DefinedName → List Id
+abbrev ids_of : List (Lent (Bor TypeDef)) → List Id
 ids_of ds = map local_id (map definition_view ds)
 
 pub loop-defined-preserved : goal.loop-defined-preserved
