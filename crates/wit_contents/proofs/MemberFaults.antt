@@ -1,6 +1,6 @@
 -- The first fault of an interface: of its names, or, once they are resolved, of what comes after them.
 use Rattle.std.proofs.Common.{◌≡◌, ℕ, List, [], length, map, Option, None, sym, ap, ◌∙◌, subst, arith, ◌∷◌, ◌++◌, take, Some, refl, append_assoc, ◌<◌, ◌+◌, drop, get_or}
-use Rattle.wit_contents.proofs.Names.{AddsTurn, Defines, EndsInTurn, Env, Err, Fault, Finds, FindsInterface, Id, InOrder, Interfaces, IsLent, IsOutcome, IsRightOf, ItemScope, Names, Ok, Outcome, ParseError, Required, ResolvedScope, Result, ScopeName, TypeDef, TypeOwner, env_of, finds_same, in_turn, interface_fault, local_id, names_of, option_or, order_of, outcome_one, resolved_scopes_of, rest_fault, rows_of, scope_item, scope_names, take_all, AddsMembers, AreKeyed, AreNamesPlaced, AreRightMembers, Declared, IsLinkedTo, IsNext, IsRightMember, ItemWalk, Link, Reports, ResourceFunc, SideFunction, SideItem, SideLink, SourceFunction, Stage, TheInline, TheWorld, TopName, TypeBody, about, after-append, append-nil, declared_view, definition_functions, first_after, flat_map, flat_map-append, function_fault, inline_item, inline_of, inline_side, inside_of, inside_view, item_function, item_inline, item_name, items_on, lead, length-map, linked_fault, lost_word, map-append, meaning, metadata_fault, name_view, names_at_top, next_place, none_both, option_map, option_map_or, or_none, part_items, parts_more, prefix_of, put_link_fault, reports_prefix, reports_same, resource_function, resource_items, seen_on, side_items, slice_get, slice_get_read, slice_get_within, stage, take_next, take_seam, top_at, word_fault, world_part, item_stability, names_fault, item_view, put_fault}
+use Rattle.wit_contents.proofs.Names.{AddsTurn, Defines, EndsInTurn, Env, Err, Fault, Finds, FindsInterface, Id, InOrder, Interfaces, IsLent, IsOutcome, IsRightOf, ItemScope, Names, Ok, Outcome, ParseError, Required, ResolvedScope, Result, ScopeName, TypeDef, TypeOwner, env_of, finds_same, in_turn, interface_fault, local_id, names_of, option_or, order_of, outcome_one, resolved_scopes_of, rest_fault, rows_of, scope_item, scope_names, take_all, AddsMembers, AreKeyed, AreNamesPlaced, AreRightMembers, Declared, IsLinkedTo, IsNext, IsRightMember, ItemWalk, Link, Reports, ResourceFunc, SideFunction, SideItem, SideLink, SourceFunction, Stage, TheInline, TheWorld, TopName, TypeBody, about, after-append, append-nil, declared_view, definition_functions, first_after, flat_map, flat_map-append, function_fault, inline_item, inline_of, inline_side, inside_of, inside_view, item_function, item_inline, item_name, items_on, lead, length-map, linked_fault, lost_word, map-append, meaning, metadata_fault, name_view, names_at_top, next_place, none_both, option_map, option_map_or, or_none, part_items, parts_more, prefix_of, put_link_fault, reports_prefix, reports_same, resource_function, seen_on, side_items, slice_get, slice_get_read, slice_get_within, stage, take_next, take_seam, top_at, word_fault, world_part, item_stability, names_fault, item_view, put_fault}
 use Rattle.wit_arena.proofs.Common.{Item}
 use Rattle.wit_entries.specs.EntryFaults.{IsExtended, written_fault}
 use Rattle.wit_externs.specs.Clash.{EndsIn, FindsIn, signed_by, words_in}
@@ -287,19 +287,19 @@ module _ (w : ItemWalk) (world : World) (xs : List WorldItem) (k : ℕ) (x y : W
   part_first e own n = first_later w (side_items (item_view w.item)) (world_sides (take k xs)) one (world_sides (drop (k + 1) xs)) a b split was e own n
 
 -- the same of the functions of a resource
-pub resource_split : (r : Id) (fs : List ResourceFunc) (k : ℕ) (f : ResourceFunc) → slice_get fs k ≡ Some f → resource_items r fs ≡ resource_items r (take k fs) ++ (SideFunction (resource_function r f) ∷ [] ++ resource_items r (drop (k + 1) fs))
+pub resource_split : (r : Id) (fs : List ResourceFunc) (k : ℕ) (f : ResourceFunc) → slice_get fs k ≡ Some f → map SideFunction (map (resource_function r) fs) ≡ map SideFunction (map (resource_function r) (take k fs)) ++ (SideFunction (resource_function r f) ∷ [] ++ map SideFunction (map (resource_function r) (drop (k + 1) fs)))
 resource_split r fs k f at =
     let prefix = take k fs in
     let back = drop (k + 1) fs in
-    ap (resource_items r) (split_at fs k f at)
+    ap (λ (fs : List ResourceFunc). map SideFunction (map (resource_function r) fs)) (split_at fs k f at)
     ∙ ap (map SideFunction) (map-append (resource_function r) prefix (f ∷ back))
     ∙ map-append SideFunction (map (resource_function r) prefix) (map (resource_function r) (f ∷ back))
 
-pub resource_more : (r : Id) (fs : List ResourceFunc) (k : ℕ) (f : ResourceFunc) → slice_get fs k ≡ Some f → resource_items r (take k fs) ++ SideFunction (resource_function r f) ∷ [] ≡ resource_items r (take (k + 1) fs)
+pub resource_more : (r : Id) (fs : List ResourceFunc) (k : ℕ) (f : ResourceFunc) → slice_get fs k ≡ Some f → map SideFunction (map (resource_function r) (take k fs)) ++ SideFunction (resource_function r f) ∷ [] ≡ map SideFunction (map (resource_function r) (take (k + 1) fs))
 resource_more r fs k f at =
     let prefix = take k fs in
     sym (
-    ap (resource_items r) (take_next fs k f at)
+    ap (λ (fs : List ResourceFunc). map SideFunction (map (resource_function r) fs)) (take_next fs k f at)
     ∙ ap (map SideFunction) (map-append (resource_function r) prefix (f ∷ []))
     ∙ map-append SideFunction (map (resource_function r) prefix) (map (resource_function r) (f ∷ [])))
 

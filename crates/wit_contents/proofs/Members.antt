@@ -1,12 +1,12 @@
 -- What is on the sides of a world, resolved one after another: nothing, more after some, and a function, an interface by its path, or an inline one.
-use Rattle.std.proofs.Common.{◌≡◌, ℕ, ◌+◌, List, [], ◌∷◌, ◌++◌, length, refl, sym, ap, ◌∙◌, subst, append_assoc, arith, Bool, true, false, if◌then◌else◌, map, Some, inl, inr, add-zero, Option, suc}
-use Rattle.wit_contents.proofs.Names.{Address, AddsFunctions, AddsInside, AddsInterface, AddsMembers, AddsSides, AreEnded, AreKeyed, AreSideItems, Contains-append_cases, Entry, Extern, Function, HavePlaces, Id, Interface, InterfaceItem, IsNext, IsSeen, ItemWalk, Link, Name, Names, Puts, Required, ResolvedScope, SideFunction, SideInline, SideItem, SideLink, Sorted, SourceFunction, Stage, TheInline, TopName, TypeDef, WorldSide, address, all_handles, append-nil, at_back, at_prefix, bare_id, contains_one, entry_sorted, env_of, filter-append, flat_map, flat_map-append, function_item, functions, inline_after, inline_after-append, inline_entry, inline_of, inline_side, interfaces_at, interfaces_on, item_function, item_inline, item_name, item_side, item_sorted, items_on, lead, length-append, length-inline_after, length-map, link_item, map-append, next_place, option_map_or, option_to_list, path_scope, prefix_of, put_on, resolved_scopes_of, role_side, same_side, side_items, slice_get, sorted_on, stage, written_types, AddsWorld, AddsWorlds, Appends, World, adds_append, adds_one, arenas, inline_items, prefix_worlds, resolved_scopes, item_view}
+use Rattle.std.proofs.Common.{◌≡◌, ℕ, ◌+◌, List, [], ◌∷◌, ◌++◌, length, refl, sym, ap, ◌∙◌, subst, append_assoc, arith, Bool, true, false, if◌then◌else◌, map, Some, inl, inr, add-zero, Option, suc, None}
+use Rattle.wit_contents.proofs.Names.{Address, AddsFunctions, AddsInside, AddsInterface, AddsMembers, AddsSides, AreEnded, AreKeyed, AreSideItems, Contains-append_cases, Entry, Extern, Function, HavePlaces, Id, Interface, InterfaceItem, IsNext, IsSeen, ItemWalk, Link, Name, Names, Puts, Required, ResolvedScope, SideFunction, SideInline, SideItem, SideLink, Sorted, SourceFunction, Stage, TheInline, TopName, TypeDef, WorldSide, address, all_handles, append-nil, at_back, at_prefix, contains_one, entry_sorted, env_of, filter-append, flat_map, flat_map-append, function_item, functions, inline_after, inline_after-append, inline_entry, inline_of, inline_side, interfaces_at, interfaces_on, item_function, item_inline, item_name, item_side, item_sorted, items_on, lead, length-append, length-inline_after, length-map, link_item, map-append, next_place, option_map_or, option_to_list, path_scope, prefix_of, put_on, resolved_scopes_of, role_side, same_side, side_items, slice_get, sorted_on, stage, written_types, AddsWorld, AddsWorlds, Appends, World, adds_append, adds_one, arenas, inline_items, prefix_worlds, resolved_scopes, item_view}
 use Rattle.wit_contents.specs.declared.walk.Walked.{Walked}
-use Rattle.wit_arena.proofs.Common.{Item}
+use Rattle.wit_arena.proofs.Common.{Item, link_key}
 use Rattle.wit_entries.proofs.Requiring.{extended_then}
 use Rattle.wit_sides.specs.SideNames.{defined_on}
 use Rattle.wit_externs.specs.Clash.{item_names, names_of_items, bare_place, bare_places, linked_on}
-use Rattle.wit_world_sides.specs.Members.{entries_of}
+use Rattle.wit_world_sides.specs.Members.{entries_of, key_places}
 use Rattle.wit_entries.specs.EntryFaults.{IsExtended, Requires}
 use Rattle.wit_externs.proofs.Steps.{at_middle, kept_nothing, kept_one}
 use Rattle.wit_items.specs.declared.items.InlineInterface.{InlineInterface}
@@ -232,11 +232,15 @@ sorted_one : (b : Bool) (x : SideItem) (e : Entry) → entry_sorted e ≡ item_s
 sorted_one true x e same = append-nil (entry_sorted e) ∙ same ∙ sym (append-nil (item_sorted x))
 sorted_one false x e same = refl
 
-sorted_put : (m m' : Members) (x : SideItem) (ids : List ℕ) (e : Entry) → Puts m m' x ids e → (s : WorldSide) → sorted_on s m'.sides ≡ sorted_on s m.sides ++ flat_map item_sorted (items_on s (x ∷ []))
-sorted_put m m' x ids e put s =
+sorted_put : (m m' : Members) (x : SideItem) (e : Entry) → Puts m m' x e → (s : WorldSide) → sorted_on s m'.sides ≡ sorted_on s m.sides ++ flat_map item_sorted (items_on s (x ∷ []))
+sorted_put m m' x e put s =
     ap (flat_map entry_sorted) (put.put s)
     ∙ flat_map-append entry_sorted (entries_of s m.sides) (put_on s (item_side x) e [])
     ∙ ap (λ (l : List Sorted). sorted_on s m.sides ++ l) (sorted_one (same_side s (item_side x)) x e put.sorted)
+
+bare_key : (o : Option Id) (id : ℕ) → option_map_or (λ (own : Id). []) o (id ∷ []) ≡ key_places (link_key o id)
+bare_key None id = refl
+bare_key (Some own) id = refl
 
 -- the function that comes next is the one at its place
 pub function_there : (i : Item) (prefix rest : List SideItem) (fn : SourceFunction) (place : ℕ) → side_items i ≡ prefix ++ (SideFunction fn ∷ rest) → place ≡ length (flat_map item_function prefix) → slice_get (functions i) place ≡ Some fn
@@ -254,7 +258,7 @@ inline_here i prefix x world place =
 
 module _ (w : ItemWalk) (prefix : List SideItem) (a : Stage) where
   -- a function
-  pub member_function : (fn : SourceFunction) (made : Function) (types : List TypeDef) (m : Walked) → ((s : Address) → AddsFunctions a.growing.types types s w.scope.names.types (fn ∷ []) (made ∷ [])) → Requires (env_of w.scope.names.types) types (all_handles (written_types fn)) a.walked.required.items m.required.items → IsExtended a.growing.types types → Puts a.walked.members m.members (SideFunction fn) [] (function_item made) → ((ys : List SideItem) → IsSeen ys a.walked.seen → IsSeen (ys ++ SideFunction fn ∷ []) m.seen) → AddsMembers w prefix (SideFunction fn ∷ []) a (stage (record { types = types; inside = a.growing.inside }) m)
+  pub member_function : (fn : SourceFunction) (made : Function) (types : List TypeDef) (m : Walked) → ((s : Address) → AddsFunctions a.growing.types types s w.scope.names.types (fn ∷ []) (made ∷ [])) → Requires (env_of w.scope.names.types) types (all_handles (written_types fn)) a.walked.required.items m.required.items → IsExtended a.growing.types types → Puts a.walked.members m.members (SideFunction fn) (function_item made) → ((ys : List SideItem) → IsSeen ys a.walked.seen → IsSeen (ys ++ SideFunction fn ∷ []) m.seen) → AddsMembers w prefix (SideFunction fn ∷ []) a (stage (record { types = types; inside = a.growing.inside }) m)
   member_function fn made types m adds handled extended put seen = record {
     functions = made ∷ [];
     adds = record { own = handled.list; list = handled.added; holds = λ s. sides_function (resolved_scopes_of w.interfaces) (length w.interfaces.arena) s w.scope.names.types a.growing.types types a.growing.inside fn made handled.list (adds s) handled.ended };
@@ -262,29 +266,29 @@ module _ (w : ItemWalk) (prefix : List SideItem) (a : Stage) where
     seen = seen;
     in_use = put.in_use;
     linked = λ s. put.linked s ∙ ap (λ (l : List ℕ). linked_on s a.walked.members.links ++ l) (none_either [] (same_side s (item_side (SideFunction fn))) ∙ kept_nothing (bare_place (lead w)) (λ y. same_side s (item_side y)) (SideFunction fn) refl);
-    sorted = sorted_put a.walked.members m.members (SideFunction fn) [] (function_item made) put;
+    sorted = sorted_put a.walked.members m.members (SideFunction fn) (function_item made) put;
     keyed = put.keyed;
     are_present = λ all places s. (put_on s (item_side (SideFunction fn)) (function_item made) [], put.put s, ([], refl, refl));
     leads = λ link among. absurd (let same : SideFunction fn ≡ SideLink link = contains_one (SideFunction fn) (SideLink link) among in let wrong : ⊥ = cc in wrong);
   }
 
   -- an interface by its path
-  pub member_link : (link : Link) (id : ℕ) (m : Walked) → lead w link.path ≡ Some id → slice_get (interfaces_at (prefix_of w.interfaces.files) w.interfaces.arena) id ≡ Some (path_scope (item_view w.item).top link.path) → m.required.items ≡ a.walked.required.items → Puts a.walked.members m.members (SideLink link) (bare_id link.name id) (link_item link id) → ((ys : List SideItem) → IsSeen ys a.walked.seen → IsSeen (ys ++ SideLink link ∷ []) m.seen) → AddsMembers w prefix (SideLink link ∷ []) a (stage a.growing m)
+  pub member_link : (link : Link) (id : ℕ) (m : Walked) → lead w link.path ≡ Some id → slice_get (interfaces_at (prefix_of w.interfaces.files) w.interfaces.arena) id ≡ Some (path_scope (item_view w.item).top link.path) → m.required.items ≡ a.walked.required.items → Puts a.walked.members m.members (SideLink link) (link_item link id) → ((ys : List SideItem) → IsSeen ys a.walked.seen → IsSeen (ys ++ SideLink link ∷ []) m.seen) → AddsMembers w prefix (SideLink link ∷ []) a (stage a.growing m)
   member_link link id m leads present required put seen = record {
     functions = [];
     adds = record { own = []; list = required ∙ sym (append-nil a.walked.required.items); holds = λ s. sides_link (resolved_scopes_of w.interfaces) (length w.interfaces.arena) s w.scope.names.types a.growing.types a.growing.inside link };
     extended = record { more = []; is = sym (append-nil a.growing.types) };
     seen = seen;
     in_use = put.in_use;
-    linked = λ s. put.linked s ∙ ap (λ (l : List ℕ). linked_on s a.walked.members.links ++ l) (kept_one (bare_place (lead w)) (λ y. same_side s (item_side y)) (SideLink link) (bare_id link.name id) (ap (λ (o : Option ℕ). option_map_or (λ (own : Id). []) link.name (option_to_list o)) leads));
-    sorted = sorted_put a.walked.members m.members (SideLink link) (bare_id link.name id) (link_item link id) put;
+    linked = λ s. put.linked s ∙ ap (λ (l : List ℕ). linked_on s a.walked.members.links ++ l) (kept_one (bare_place (lead w)) (λ y. same_side s (item_side y)) (SideLink link) (key_places (link_item link id).0) (ap (λ (o : Option ℕ). option_map_or (λ (own : Id). []) link.name (option_to_list o)) leads ∙ bare_key link.name id));
+    sorted = sorted_put a.walked.members m.members (SideLink link) (link_item link id) put;
     keyed = put.keyed;
     are_present = λ all places s. (put_on s link.side (link_item link id) [], put.put s, (id, [], places.interfaces id _ present, refl, refl));
     leads = λ l among. (id, subst (λ (k : Link). lead w k.path ≡ Some id) (let both : SideLink link ≡ SideLink l = contains_one (SideLink link) (SideLink l) among in let same : link ≡ l = cc in same) leads);
   }
 
   -- an inline interface
-  pub member_inline : (x : InlineInterface) (u : Item) (types : List TypeDef) (inside : List Interface) (m : Walked) → inline_after (item_view w.item) prefix (inline_side x ∷ []) ≡ u ∷ [] → AddsInside w.interfaces a.growing.types types a.growing.inside inside a.walked.required.items m.required.items u → Puts a.walked.members m.members (inline_side x) [] (inline_entry x.written.now x.name (next_place w.interfaces a.growing.inside)) → ((ys : List SideItem) → IsSeen ys a.walked.seen → IsSeen (ys ++ inline_side x ∷ []) m.seen) → AddsMembers w prefix (inline_side x ∷ []) a (stage (record { types = types; inside = inside }) m)
+  pub member_inline : (x : InlineInterface) (u : Item) (types : List TypeDef) (inside : List Interface) (m : Walked) → inline_after (item_view w.item) prefix (inline_side x ∷ []) ≡ u ∷ [] → AddsInside w.interfaces a.growing.types types a.growing.inside inside a.walked.required.items m.required.items u → Puts a.walked.members m.members (inline_side x) (inline_entry x.written.now x.name (next_place w.interfaces a.growing.inside)) → ((ys : List SideItem) → IsSeen ys a.walked.seen → IsSeen (ys ++ inline_side x ∷ []) m.seen) → AddsMembers w prefix (inline_side x ∷ []) a (stage (record { types = types; inside = inside }) m)
   member_inline x u types inside m own step put seen = record {
     functions = [];
     adds = record {
@@ -302,7 +306,7 @@ module _ (w : ItemWalk) (prefix : List SideItem) (a : Stage) where
     seen = seen;
     in_use = put.in_use;
     linked = λ s. put.linked s ∙ ap (λ (l : List ℕ). linked_on s a.walked.members.links ++ l) (none_either [] (same_side s (item_side (inline_side x))) ∙ kept_nothing (bare_place (lead w)) (λ y. same_side s (item_side y)) (inline_side x) refl);
-    sorted = sorted_put a.walked.members m.members (inline_side x) [] (inline_entry x.written.now x.name (next_place w.interfaces a.growing.inside)) put;
+    sorted = sorted_put a.walked.members m.members (inline_side x) (inline_entry x.written.now x.name (next_place w.interfaces a.growing.inside)) put;
     keyed = put.keyed;
     are_present = λ all places s.
         let id = next_place w.interfaces a.growing.inside in

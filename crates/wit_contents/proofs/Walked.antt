@@ -2,12 +2,12 @@
 use Rattle.std.proofs.Common.{◌≡◌, ℕ, suc, Bool, true, false, List, [], ◌∷◌, ◌++◌, map, Option, Some, None, refl, sym, ap, ◌∙◌, length, ◌==◌}
 use Rattle.wit_contents.proofs.Names.{Called, Defined, Exported, Fault, ForeignName, Id, Imported, Include, Interfaces, Item as BorrowedItem, ItemScope, Name, Outcome, PackageFile, ScopeName, SideFunction, SideItem, SourceFunction, Used, UsedName, WorldSide, Worlds, about, address, after-append, after_kept, any-map, bytes_eq, called_fault, clash, clash-made, clash-map, codes, crossed, cyclic_at, defined, definition_fault, earliest, fault_in, first_after, first_in, flat_map, folded_fault, folded_key, function_fault, functions, functions_imported, handle_fault, if◌then◌else◌, in_order, in_turn, include_fault, includes, includes_fault, interface_fault, is_on_side, is_world, item_function, item_stability, item_view, items_on, kept_all, kept_none, local_id, local_name, local_names_fault, map-append, member_fault, missing_type_at, name_called, name_fault, name_twice, names_of, names_on, name_view, on_side, option_or, or_assoc, or_none, or_none_both, order_fault, order_of, ordered_fault, own_fault, own_use, repeat-map, repeat_of, role_side, same_side, scope_faults, scope_item, scope_names, setters_fault, side_called, side_items, side_items_functions, side_setters_fault, signed_fault, slice_get, stability_fault, type_word, use_fault, use_view, used, uses_viewed, word_fault, functions_free, names_fault}
 use Rattle.wit_arena.proofs.Common.{Item}
+use Rattle.wit_items.proofs.Common.{resource_items}
 use Rattle.wit_signatures.specs.FunctionsOfScope.{name_key, name_of_function, name_of_id}
 use Rattle.wit_externs.specs.Clash.{again, again_fault, alone_faults, defined_fault, lone_setters, names_of_items, signed_by}
 use Rattle.wit_item_entries.specs.ReachedFaults.{local_fault, used_fault, functions_fault}
 use Rattle.wit_item_entries.proofs.NameOrder.{all_used, bare_name}
 use Rattle.wit_syntax.proofs.Setters.{declared_includes}
-use Rattle.wit_items.proofs.Common.{resource_items}
 
 pub repeat-made : {X Y : Type 0} (key : Y → List ℕ) (as_fault : Y → Fault) (f : X → Y) (before : List X) (x : X) → repeat_of key as_fault (map f before) (f x) ≡ repeat_of (λ (y : X). key (f y)) (λ (y : X). as_fault (f y)) before x
 repeat-made key as_fault f before x = ap (λ (b : Bool). if b then Some (as_fault (f x)) else None) (any-map (λ y. bytes_eq (key y) (key (f x))) f before)

@@ -1,7 +1,6 @@
 -- What the imports and exports of a world add, one after another after its names, and their first fault.
 use Rattle.std.specs.Prelude.{◌≡◌, ◌+◌, ◌++◌, ◌∷◌, [], ℕ, Bool, Contains, List, Option, length, map, nat_eq, slice_get, Some, true, None, Result}
-use Rattle.wit_contents.specs.Names.{Address, AddsSides, Appends, AreSideItems, BorrowedItem, EndsIn, Fault, Function, Id, Interface, Interfaces, IsExtended, IsItemOf, Item, Link, ParseError, Required, ScopeName, SideFunction, SideInline, SideItem, SideLink, TypeDef, UsePath, WorldSide, address, entries_of, env_of, flat_map, functions as the_functions, includes, inline_after, interfaces_at, is_world, item_function, item_view, items_on, linked_fault, local_id, name_of_id, names_on, none_of, option_map_or, option_or, part_items, path_place, prefix_of, resolved_scopes_of, resource_function, scope_names, side_items, signed_by, type_imports, world_part}
-use Rattle.wit_type_tree.specs.declared.types.ResourceFunc.{ResourceFunc}
+use Rattle.wit_contents.specs.Names.{Address, AddsSides, Appends, AreSideItems, BorrowedItem, EndsIn, Fault, Function, Id, Interface, Interfaces, IsExtended, IsItemOf, Item, Link, ParseError, Required, ScopeName, SideFunction, SideInline, SideItem, SideLink, TypeDef, UsePath, WorldSide, address, entries_of, env_of, flat_map, functions as the_functions, includes, inline_after, interfaces_at, is_world, item_function, item_view, items_on, linked_fault, local_id, name_of_id, names_on, none_of, option_map_or, option_or, part_items, path_place, prefix_of, resolved_scopes_of, scope_names, side_items, signed_by, type_imports, world_part}
 use Rattle.wit_tree.specs.declared.tree.WorldItem.{WorldItem}
 use Rattle.wit_walk.specs.Sorts.{item_sorted}
 use Rattle.wit_sides.specs.SideNames.{defined_on}
@@ -109,9 +108,6 @@ AddsSidesOf i s is old new m = (start : Walked) × IsStart (record { item = i; s
 -- an inline interface was added after those before it, which come after all declared ones
 abbrev pub AddsInside : Interfaces → List TypeDef → List TypeDef → List Interface → List Interface → List Required → List Required → Item → Type 0
 AddsInside is old new inside now before after item = (added : Interface) × (now ≡ inside ++ added ∷ []) × AddsAt is (next_place is inside) old new before after item added
-
-abbrev pub resource_items : Id → List ResourceFunc → List SideItem
-resource_items r fs = map SideFunction (map (resource_function r) fs)
 
 -- This is the fault of the next one at a stage, and then of its name: of a function by a test of names in handles that is right of the arena
 -- from there on, of an inline interface by a test of items.

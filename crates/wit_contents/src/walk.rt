@@ -1,6 +1,6 @@
 //! What a world imports and exports, in source order: each is resolved, checked and put on its side.
-ghost use Rattle.std.specs.Prelude.{◌≡◌, ◌+◌, ◌∷◌, [], IfOk, OnOk, false, length};
-ghost use Rattle.wit_syntax.specs.Function.{side_function};
+ghost use Rattle.std.specs.Prelude.{◌≡◌, ◌+◌, ◌∷◌, [], IfOk, OnOk, false, length, map};
+ghost use Rattle.wit_syntax.specs.Function.{side_function, resource_function};
 ghost use Rattle.wit_syntax.specs.Sides.{extern_items, side_items, SideFunction, SideLink, part_items};
 ghost use Rattle.wit_syntax.specs.Source.{DefinitionPart, is_world, item_name};
 ghost use Rattle.wit_rules.specs.Signatures.{function_view};
@@ -8,7 +8,7 @@ ghost use Rattle.wit_items.specs.BorrowedItems.{item_view, scope_item};
 ghost use Rattle.wit_world_sides.specs.Members.{path_link};
 ghost use Rattle.wit_links.specs.Links.{inline_side, seen_on};
 ghost use Rattle.wit_contents.specs.Interfaces.{FindsInterface, IsLent};
-ghost use Rattle.wit_contents.specs.Walk.{FindsMembers, AddsItems, IsNext, next_place, resource_items, stage, walk_of, AddsInside};
+ghost use Rattle.wit_contents.specs.Walk.{FindsMembers, AddsItems, IsNext, next_place, stage, walk_of, AddsInside};
 
 use crate::interface::interface_of;
 use std::alloc::AllocError;
@@ -256,7 +256,7 @@ fn walk_extern<'f, 'a>(
 
 /// The functions of a resource; none of another definition.
 fn resource_functions<'t, 'a>(definition: &'t TypeDef<'a>) -> &'t [ResourceFunc<'a>]
-    ensures { part_items (DefinitionPart definition.now) ≡ resource_items definition.now.name result.now }
+    ensures { part_items (DefinitionPart definition.now) ≡ map SideFunction (map (resource_function definition.now.name) result.now) }
 {
     match &definition.body {
         TypeBody::Resource { funcs } => funcs,

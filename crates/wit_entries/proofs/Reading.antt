@@ -1,6 +1,6 @@
 -- Written types whose parts are resolved: as they are in a type, and under a name.
 use Rattle.std.proofs.Common.{◌≡◌, ℕ, List, [], ◌∷◌, ◌++◌, Some, refl, sym, ap, subst}
-use Rattle.wit_arena.proofs.Common.{AliasForm, Def, Env, Id as Name, IsAnonymousForm, IsInterned, Shape, Span, Stability, TypeDef, TypeDefKind, Word, head, shape_of, «Type» as Written, Plain, body_of}
+use Rattle.wit_arena.proofs.Common.{AliasForm, Def, Env, Id as Name, IsAnonymousForm, IsInterned, Shape, Span, Stability, TypeDef, TypeDefKind, Word, head, shape_of, «Type» as Written, Plain, body_of, all_shapes}
 use Rattle.wit_walk.proofs.Common.{Of, Prim, one}
 use Rattle.wit_syntax.specs.Shape.{Body}
 use Rattle.wit_types.specs.declared.types.«Type».{«Type» as Ty}
@@ -10,7 +10,7 @@ use Rattle.wit_arena.proofs.Occurrence.{only_anonymous}
 use Rattle.wit_arena.proofs.Resolving.{all_shapes-append, resolved_more, resolved_whole}
 use Rattle.wit_entries.specs.declared.types.Reading.{Reading}
 use Rattle.wit_entries.specs.declared.types.Reading.TheVariants as reading
-use Rattle.wit_entries.specs.ResolvedForms.{AreParts, AreTypes, IsKindOf, IsLeaf, IsRead, named_kind}
+use Rattle.wit_entries.specs.ResolvedForms.{AreParts, IsKindOf, IsLeaf, IsRead, named_kind}
 
 -- the type of a name
 pub resolved_word : (es : List TypeDef) (env : Env) (given : Stability) (id : Name) (i : ℕ) → env id.name.now ≡ Some i → AreParts es es env given (one (Word id)) (Id i ∷ [])
@@ -23,7 +23,7 @@ whole_present old mid new env given (Word id) k span i form interned s = absurd 
 whole_present old mid new env given (Of at f parts) k span i form interned s =
     rw (form.0, ← form.1) (resolved_whole k given span i (only_anonymous k (subst IsAnonymousForm (sym form.1) form.2)) (form.3 s) interned)
 
-pub types_then : {old mid new : List TypeDef} {env : Env} {tys uys : List Ty} (given : Stability) (ts us : List Written) → AreTypes old mid env given ts tys → AreTypes mid new env given us uys → AreTypes old new env given (ts ++ us) (tys ++ uys)
+pub types_then : {old mid new : List TypeDef} {env : Env} {tys uys : List Ty} (given : Stability) (ts us : List Written) → AreParts old mid env given (all_shapes ts) tys → AreParts mid new env given (all_shapes us) uys → AreParts old new env given (all_shapes (ts ++ us)) (tys ++ uys)
 types_then given ts us p q s = rw (all_shapes-append ts us) (resolved_more (p s) (q s))
 
 leaf_head : (x : Shape) → IsLeaf x → head x ≡ record { form = AliasForm; parts = one x }

@@ -8,7 +8,7 @@ use Rattle.wit_types.specs.declared.types.«Type».TheVariants as type
 use Rattle.wit_entries.specs.declared.types.Reading.{Reading}
 use Rattle.wit_entries.specs.declared.types.Reading.TheVariants as reading
 use Rattle.wit_entries.specs.EntryFaults.{handle_fault, lost_in, name_fault, written_fault, IsExtended, Resolved, Stopped}
-use Rattle.wit_entries.specs.ResolvedForms.{AreParts, AreTypes, IsRead}
+use Rattle.wit_entries.specs.ResolvedForms.{AreParts, IsRead}
 use Rattle.wit_entries.proofs.Faults.{types_extended, written_extended}
 use Rattle.wit_entries.proofs.Reading.{types_then, whole_present}
 use Rattle.wit_entries.proofs.Requiring.{extended_then, requires_extended, requires_none, requires_one, requires_parts, requires_types}
@@ -16,7 +16,7 @@ use Rattle.wit_entries.specs.declared.names.TypeScope.{TypeScope}
 
 -- types were resolved, one after another, and one was read
 abbrev pub ResolvedTypes : TypeScope → Stability → (old new : List TypeDef) → (before after : List Required) → List Written → List Ty → Type 0
-ResolvedTypes scope given old new before after ts tys = Resolved (env_of scope.names.now) old new before after (all_handles ts) (first_in (written_fault (lost_in scope.functions) (env_of scope.names.now) new) ts) (AreTypes old new (env_of scope.names.now) given ts tys)
+ResolvedTypes scope given old new before after ts tys = Resolved (env_of scope.names.now) old new before after (all_handles ts) (first_in (written_fault (lost_in scope.functions) (env_of scope.names.now) new) ts) (AreParts old new (env_of scope.names.now) given (all_shapes ts) tys)
 
 abbrev pub IsTypeRead : TypeScope → Stability → (old new : List TypeDef) → (before after : List Required) → Written → Reading → Type 0
 IsTypeRead scope given old new before after t r = Resolved (env_of scope.names.now) old new before after (handles t) (written_fault (lost_in scope.functions) (env_of scope.names.now) new t) (IsRead old new (env_of scope.names.now) given (shape_of t) r)

@@ -41,8 +41,7 @@ written_fault lost env es t = type_fault (name_fault lost env) (handle_fault los
 
 -- in the signature of the last of these functions that name is one of theirs, or of nothing; else it is none of a type
 abbrev pub lost_in : Option (Bor (List BorrowedFunction)) → Id → Fault
-lost_in None = missing_type_at
-lost_in (Some fns) = lost_word (map function_view fns.now)
+lost_in fns = option_map_or (λ fs. lost_word (map function_view fs.now)) fns missing_type_at
 
 -- of a definition: its attributes first
 abbrev pub definition_fault : Env → List TypeDef → Definition → Option Fault
@@ -113,5 +112,4 @@ known (stability.Stable since deprecated) = Some (stability.Stable since depreca
 
 -- the stability of what is in a slot of a kind; of an empty one none is known
 abbrev pub slot_stability : List TypeDef → Option Ty → Stability
-slot_stability es None = stability.Unknown
-slot_stability es (Some t) = stability_at es t
+slot_stability es t = option_map_or (stability_at es) t stability.Unknown

@@ -1,6 +1,6 @@
 -- What a written type is once its parts are resolved.
 use Rattle.std.specs.Prelude.{◌≡◌, List, [], ◌∷◌, Result, Vec}
-use Rattle.wit_arena.specs.Common.{Address, AreResolved, Body, Env, Global, Of, ParseError, Prim, Required, Shape, Shapes, Stability, TypeDef, TypeDefKind, Type_, Word, all_handles, all_shapes, env_of, handles, kind_of, shape_of, «Type» as Ty}
+use Rattle.wit_arena.specs.Common.{Address, AreResolved, Body, Env, Global, Of, ParseError, Required, Shape, Shapes, Stability, TypeDef, TypeDefKind, Type_, all_handles, all_shapes, env_of, handles, kind_of, shape_of, «Type» as Ty}
 use Rattle.wit_type_tree.specs.declared.types.«Type».{«Type» as Written}
 use Rattle.wit_type_tree.specs.declared.types.«Type».TheVariants as written
 use Rattle.wit_syntax.specs.Shape.{one}
@@ -15,9 +15,6 @@ use Rattle.wit_first.specs.First.{first_in}
 abbrev pub AreParts : List TypeDef → List TypeDef → Env → Stability → Shapes → List Ty → Type 0
 AreParts old new env given xs tys = (s : Address) → AreResolved old new s env given xs tys
 
-abbrev pub AreTypes : List TypeDef → List TypeDef → Env → Stability → List Written → List Ty → Type 0
-AreTypes old new env given ts tys = AreParts old new env given (all_shapes ts) tys
-
 -- a kind is the form of a body over its resolved parts
 pub record IsKindOf (old new : List TypeDef) (env : Env) (given : Stability) (body : Body) (kind : TypeDefKind) : Type 0 where
   pub form : (kind_of kind).0 ≡ body.form
@@ -25,9 +22,8 @@ pub record IsKindOf (old new : List TypeDef) (env : Env) (given : Stability) (bo
 
 -- a primitive or a name
 abbrev pub IsLeaf : Shape → Type 0
-IsLeaf (Prim p) = Unit {0}
-IsLeaf (Word id) = Unit {0}
 IsLeaf (Of span form parts) = ⊥
+IsLeaf x = Unit {0}
 
 -- a list of any length
 abbrev pub IsList : Written → Type 0
@@ -51,4 +47,4 @@ Reads s given old new before after t r = Resolves (env_of s.names.now) old new b
 
 -- a call resolves types, one after another, to those in what it makes
 abbrev pub ResolvesTypes : {T : Type 0} → TypeScope → Stability → (old new : List TypeDef) → (before after : Vec Required Global) → List Written → (T → List Ty) → Result T ParseError → Type 0
-ResolvesTypes s given old new before after ts types r = Resolves (env_of s.names.now) old new before.items after.items (all_handles ts) (first_in (written_fault (lost_in s.functions) (env_of s.names.now) new) ts) (λ x. AreTypes old new (env_of s.names.now) given ts (types x)) r
+ResolvesTypes s given old new before after ts types r = Resolves (env_of s.names.now) old new before.items after.items (all_handles ts) (first_in (written_fault (lost_in s.functions) (env_of s.names.now) new) ts) (λ x. AreParts old new (env_of s.names.now) given (all_shapes ts) (types x)) r

@@ -1,6 +1,6 @@
 -- What is on the sides of a scope, of which no two names may have one key, and the first fault of its functions where nothing else is there, E17, E22, E26 to E42, and of setters, E18.
 use Rattle.std.specs.Prelude.{◌≡◌, ◌++◌, List, [], ◌∷◌, map, ℕ, Option, Contains, ◌⊎◌, codes, MatchResult, None, Result, Some, Vec}
-use Rattle.wit_arena.specs.Common.{AllDiffer, Env, Exported, Fault, Global, Id, Imported, Names, ParseError, Required, ScopeName, SideFunction, SideInline, SideItem, SideLink, SourceFunction, Span, TypeDef, UsePath, WorldSide, all_handles, env_of, fault_in, fault_of, flat_map, item_function, items_on, keys_of, linked_twice, names_on, on_side, option_map_or, option_or, option_to_list, role_side, written_types}
+use Rattle.wit_arena.specs.Common.{AllDiffer, Env, Exported, Fault, Global, Id, Imported, Names, ParseError, Required, ScopeName, SideFunction, SideInline, SideItem, SideLink, SourceFunction, TypeDef, UsePath, WorldSide, all_handles, env_of, fault_in, fault_of, flat_map, item_function, items_on, keys_of, names_on, on_side, option_map_or, option_or, option_to_list, role_side, written_types}
 use Rattle.wit_refusals.specs.NameScopes.{Name}
 use Rattle.wit_sides.specs.SideNames.{defined_on}
 use Rattle.wit_sides.specs.declared.sides.Sides.{Sides}
@@ -46,15 +46,10 @@ AreNamesOf names ids items = (side : WorldSide) → defined_on side names ≡ al
 abbrev pub AreNamesWith : Sides → List Id → List SourceFunction → Type 0
 AreNamesWith names ids fns = (items : List SideItem) × (flat_map item_function items ≡ fns) × AreNamesOf names ids items
 
--- on each side no two names have one key
-abbrev pub DifferOnSides : List Id → List SideItem → Type 0
-DifferOnSides ids items = (side : WorldSide) → AllDiffer (map name_key (all_on side ids items))
-
 -- the place of an interface that has no name of its own
 abbrev pub bare_place : (UsePath → Option ℕ) → SideItem → List ℕ
-bare_place lead (SideFunction fn) = []
 bare_place lead (SideLink link) = option_map_or (λ id. []) link.name (option_to_list (lead link.path))
-bare_place lead (SideInline x name items) = []
+bare_place lead x = []
 
 abbrev pub bare_places : (UsePath → Option ℕ) → List SideItem → List ℕ
 bare_places lead xs = flat_map (bare_place lead) xs
@@ -67,11 +62,6 @@ linked_on Exported l = keys_of l.exports
 -- an interface is put after these, and was none of them
 abbrev pub IsPutAfter : List ℕ → List ℕ → ℕ → Type 0
 IsPutAfter old new id = (new ≡ old ++ id ∷ []) × (Contains old id → ⊥)
-
--- an interface is one of these
-pub record IsLinked (side : WorldSide) (ids : List ℕ) (id : ℕ) (span : Span) (f : Fault) : Type 0 where
-  pub among : Contains ids id
-  pub is : f ≡ linked_twice side span
 
 -- of a name in a handle that means something, this is the fault of where that ends in an arena
 abbrev pub EndsIn : Env → List TypeDef → (Id → Option Fault) → Type 0

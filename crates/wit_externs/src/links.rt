@@ -4,7 +4,8 @@ ghost use Rattle.std.specs.Map.{keys_of};
 ghost use Rattle.wit_syntax.specs.Broken.{Refused};
 ghost use Rattle.wit_syntax.specs.Words.{side_word};
 ghost use Rattle.wit_sides.specs.SideNames.{only_on};
-ghost use Rattle.wit_externs.specs.Clash.{IsLinked, IsPutAfter, linked_on};
+ghost use Rattle.wit_externs.specs.Clash.{IsPutAfter, linked_on};
+ghost use Rattle.wit_syntax.specs.Fault.{linked_twice};
 
 use std::alloc::{AllocError, Global};
 use wit_maps::Table;
@@ -71,7 +72,7 @@ impl Links {
     ) -> ParseResult<()>
         ensures defined { OnOk result ((s : WorldSide) → linked_on s self.new ≡ linked_on s self.old ++ only_on s side interface) }
         ensures free { OnOk result (Contains (linked_on side self.old) interface → ⊥) }
-        ensures refused { IfErr result (Refused (IsLinked side (linked_on side self.old) interface span)) }
+        ensures refused { IfErr result (Refused (λ f. Contains (linked_on side self.old) interface × (f ≡ linked_twice side span))) }
     {
         let new = match side {
             WorldSide::Imported => insert(&mut self.imports, interface)?,

@@ -2,11 +2,11 @@
 use Rattle.std.proofs.Common.{ℕ, List, ◌∙◌, ◌≡◌, zero, suc, map, Some, IsSome, refl, ap, subst, arith, true, false, cond, [], ◌∷◌, ◌++◌, Option, None, inl, inr, nat_eq, take, sym}
 use Rattle.std.specs.List.{find}
 use denote.Ref.{Bor}
-use Rattle.wit_items.proofs.Common.{Metadata, Span, World, Defined, DefinitionPart, Env, ExternPart, FunctionPart, Id, IncludePart, Names, Part, ResourceFunc, ScopeName, SourceFunction, TypeBody, UsePart, definition_functions, env_of, extern_at, flat_map_has, free_function, functions, in_turn, in_turn_has, local_name, local_names, lookup-listed, map_at, names_in, option_map, part_functions, part_names, parts, resource_function, scope_names, slice_get, slice_get-map, AreDistinct, body_ok, bytes_eq, differ_at, differ_by, find-append, insert_entry, lookup, meaning, meant_ok, name_cases, name_itself, option_or, or_none, pointwise, «Type» as Written, Address, AddsAfter, AddsFunctions, AllDiffer, AreEnded, Function, Imported, Name, Required, ResolvedScope, SideFunction, SideItem, TypeDef, TypeOwner, address, all_handles, all_handles-append, ended_append, ended_more, flat_map, function_name, is_ascii_uppercase, is_world, list_any, made_name, map_map, name_types, on_side, side_items, side_items_functions, written_types, part_of_function}
+use Rattle.wit_items.proofs.Common.{Metadata, Span, World, Defined, DefinitionPart, Env, ExternPart, FunctionPart, Id, IncludePart, Names, Part, ResourceFunc, ScopeName, SourceFunction, TypeBody, UsePart, definition_functions, env_of, extern_at, flat_map_has, free_function, functions, in_turn, in_turn_has, local_name, local_names, lookup-listed, map_at, names_in, option_map, part_functions, part_names, parts, resource_function, scope_names, slice_get, slice_get-map, AreDistinct, body_ok, bytes_eq, differ_at, differ_by, find-append, insert_entry, lookup, meaning, meant_ok, name_cases, name_itself, option_or, or_none, pointwise, «Type» as Written, Address, AddsAfter, AddsFunctions, AllDiffer, AreEnded, Function, Imported, Name, Required, ResolvedScope, SideFunction, SideItem, TypeDef, TypeOwner, address, all_handles, all_handles-append, ended_append, ended_more, flat_map, function_name, is_ascii_uppercase, is_world, list_any, made_name, map_map, name_types, on_side, side_items, side_items_functions, written_types, part_of_function, option_and_then}
 use Rattle.wit_items.specs.declared.metadata.ItemMetadata.{ItemMetadata}
 use Rattle.wit_items.specs.BorrowedItems.{metadata_view, AreOf}
 use Rattle.wit_arena.proofs.Common.{Item}
-use Rattle.wit_rules.specs.Signatures.{owner_of, HasOwner, HaveOwners, stated_ok, AreResults}
+use Rattle.wit_rules.specs.Signatures.{owner_of, HasOwner, HaveOwners, AreResults}
 use Rattle.wit_item_entries.specs.AddedNames.{IsTurn, AddsTurn}
 use Rattle.wit_item_entries.proofs.ReachedFaults.{turn_texts}
 use Rattle.wit_type_tree.specs.declared.types.TypeDef.{TypeDef as Definition}
@@ -14,7 +14,7 @@ use Rattle.wit_setters.proofs.Results.{lookup-inserted}
 use Rattle.wit_arena.proofs.FunctionNames.{names_differ}
 use Rattle.wit_entries.specs.EntryFaults.{IsExtended, Requires}
 use Rattle.wit_signatures.specs.FunctionsOfScope.{name_of_function, name_of_made, name_key}
-use Rattle.wit_externs.specs.Clash.{DifferOnSides, all_on}
+use Rattle.wit_externs.specs.Clash.{all_on}
 use Rattle.wit_item_entries.specs.Body.{AddsBody}
 use Rattle.wit_item_entries.proofs.NameOrder.{differ_called, alone}
 use Rattle.wit_arena.proofs.Common.{world}
@@ -22,6 +22,7 @@ use Rattle.wit_entries.proofs.Requiring.{requires_none}
 use Rattle.wit_entries.proofs.Resolves.{extended_same}
 use Rattle.wit_type_tree.specs.declared.types.TypeBody.TheVariants as body
 use Rattle.wit_type_tree.specs.declared.types.ResourceFunc.TheVariants as resource
+use Rattle.wit_syntax.specs.SignatureRules.{ok_of}
 
 -- an item is what is stated of it
 pub world_stated : (name : List ℕ) (span : Span) (n : Metadata) (borrowed : ItemMetadata) (w : World) → AreOf n borrowed → w ≡ world name w.imports w.exports w.includes (metadata_view borrowed) span → w ≡ world name w.imports w.exports w.includes n span
@@ -116,7 +117,7 @@ results_same results xs x none are = record {
     ]
 
 -- one definition more that is
-pub results_more : (results : List (List ℕ × Bor Written)) (xs : List ScopeName) (d : Definition) (t : Bor Written) → stated_ok (Some t) ≡ body_ok d.body → meaning xs (local_name (Defined d)) ≡ None → AreResults results xs → AreResults (insert_entry (pointwise nat_eq) results (local_name (Defined d)) t) (xs ++ Defined d ∷ [])
+pub results_more : (results : List (List ℕ × Bor Written)) (xs : List ScopeName) (d : Definition) (t : Bor Written) → ok_of t.now ≡ body_ok d.body → meaning xs (local_name (Defined d)) ≡ None → AreResults results xs → AreResults (insert_entry (pointwise nat_eq) results (local_name (Defined d)) t) (xs ++ Defined d ∷ [])
 results_more results xs d t gives free are = record {
   as_stated = λ name. (
       let own = local_name (Defined d) in
@@ -125,10 +126,10 @@ results_more results xs d t gives free are = record {
         | inl same ↦ (
             let hit : pointwise nat_eq name own ≡ true = ap (pointwise nat_eq name) same ∙ name_itself name in
             let there : meaning (xs ++ Defined d ∷ []) name ≡ Some (Defined d) = ap (meaning (xs ++ Defined d ∷ [])) (sym same) ∙ meaning_last xs (Defined d) free in
-            ap stated_ok (found ∙ ap (λ b. cond b (Some t) (lookup (pointwise nat_eq name) results)) hit) ∙ gives ∙ sym (ap meant_ok there))
+            ap (option_and_then (λ (t : Bor Written). ok_of t.now)) (found ∙ ap (λ b. cond b (Some t) (lookup (pointwise nat_eq name) results)) hit) ∙ gives ∙ sym (ap meant_ok there))
         | inr other ↦ (
             let miss : pointwise nat_eq name own ≡ false = flip own name other in
-            ap stated_ok (found ∙ ap (λ b. cond b (Some t) (lookup (pointwise nat_eq name) results)) miss) ∙ are.as_stated name ∙ sym (ap meant_ok (meaning_past xs (Defined d) name other)))
+            ap (option_and_then (λ (t : Bor Written). ok_of t.now)) (found ∙ ap (λ b. cond b (Some t) (lookup (pointwise nat_eq name) results)) miss) ∙ are.as_stated name ∙ sym (ap meant_ok (meaning_past xs (Defined d) name other)))
       ]);
 }
   where
@@ -160,7 +161,7 @@ functions_view old mid new cs o item types ids own all fs n adds g q =
     }
 
 -- so its names and its functions were added
-pub body_added : (old mid new : List TypeDef) (cs : List ResolvedScope) (o : TypeOwner) (item : Item) (types : Names) (ids : List Id) (own all : List Required) (fs : List Function) → AddsTurn old mid cs o (scope_names item) types ids own → ((s : Address) → AddsFunctions mid new s types (functions item) fs) → IsExtended mid new → Requires (env_of types) new (all_handles (flat_map written_types (functions item))) own all → map name_of_made fs ≡ map name_of_function (functions item) → DifferOnSides ids (side_items item) → AddsBody old new cs o item types ids fs all
+pub body_added : (old mid new : List TypeDef) (cs : List ResolvedScope) (o : TypeOwner) (item : Item) (types : Names) (ids : List Id) (own all : List Required) (fs : List Function) → AddsTurn old mid cs o (scope_names item) types ids own → ((s : Address) → AddsFunctions mid new s types (functions item) fs) → IsExtended mid new → Requires (env_of types) new (all_handles (flat_map written_types (functions item))) own all → map name_of_made fs ≡ map name_of_function (functions item) → ((side : WorldSide) → AllDiffer (map name_key (all_on side ids (side_items item)))) → AddsBody old new cs o item types ids fs all
 body_added old mid new cs o item types ids own all fs n adds g q named differ = record {
   middle = mid;
   adds = n.adds;

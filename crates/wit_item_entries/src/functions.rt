@@ -7,11 +7,12 @@ ghost use Rattle.wit_syntax.specs.Repeats.{AllDiffer};
 ghost use Rattle.wit_syntax.specs.Source.{interface_part, is_world, local_name, world_part};
 ghost use Rattle.wit_syntax.specs.Function.{definition_functions, extern_functions, part_functions};
 ghost use Rattle.wit_arena.specs.SourceFunctions.{placed_functions};
-ghost use Rattle.wit_rules.specs.Signatures.{function_view, stated_ok, AreResults};
-ghost use Rattle.wit_syntax.specs.SignatureRules.{body_ok};
+ghost use Rattle.wit_rules.specs.Signatures.{function_view, AreResults};
+ghost use Rattle.wit_syntax.specs.SignatureRules.{body_ok, ok_of};
 ghost use Rattle.wit_syntax.specs.Sides.{functions as the_functions};
 ghost use Rattle.wit_items.specs.BorrowedItems.{scope_item};
 ghost use Rattle.wit_scopes.specs.BorrowedNames.{name_view};
+ghost use Rattle.std.specs.Option.{option_and_then};
 
 use std::alloc::{AllocError, Global};
 use wit_items::items::{Declared, ItemScope};
@@ -122,7 +123,7 @@ pub fn interface_functions<'t, 'a>(
 
 /// The type of a definition that is written as a result.
 fn written_result<'t, 'a>(definition: &'t TypeDef<'a>) -> Option<&'t Type<'a>>
-    ensures { stated_ok result ≡ body_ok definition.now.body }
+    ensures { option_and_then (λ t. ok_of t.now) result ≡ body_ok definition.now.body }
 {
     match &definition.body {
         TypeBody::Plain(ty) => match ty {

@@ -6,7 +6,7 @@ use Rattle.wit_arena.proofs.Settled.{placed_at}
 use Rattle.wit_model.specs.declared.world.WorldItem.TheVariants as item
 use Rattle.wit_model.specs.declared.world.WorldKey.TheVariants as key
 use Rattle.wit_grammar.specs.Seen.{see_include, see_package_id}
-use Rattle.wit_parser.specs.Ids.{AreIdsWithin, AreItemsWithin, IsKeyWithin}
+use Rattle.wit_parser.specs.Ids.{AreIdsWithin, IsItemWithin, IsKeyWithin}
 use Rattle.wit_json.specs.PlainPackages.{HasVersions, IsPlainDep, IsPlainExtern, IsPlainInterface, IsPlainItem, IsPlainKey, IsPlainName, IsPlainPackage, IsPlainWorld}
 use Rattle.wit_json_laws.specs.PlainTrees.{HasPlainNames, IsPlainInclude, IsPlainPackageId, IsPlainText}
 use Rattle.wit_json_laws.proofs.Deps.{Dep}
@@ -124,7 +124,7 @@ key_plain : (p : UnresolvedPackage) → length p.interfaces ≤ 2 ^ 64 → (k : 
 key_plain p few (key.Name name) h within = h
 key_plain p few (key.Interface id) h within = omega (arith, few, within)
 
-externs_plain : (p : UnresolvedPackage) → length p.interfaces ≤ 2 ^ 64 → (es : List Entry) → All IsPlainEntry es → AreItemsWithin p es → All IsPlainExtern es
+externs_plain : (p : UnresolvedPackage) → length p.interfaces ≤ 2 ^ 64 → (es : List Entry) → All IsPlainEntry es → ((k : ℕ) (x : WorldKey × WorldItem) → slice_get es k ≡ Some x → IsKeyWithin p x.0 × IsItemWithin p x.1) → All IsPlainExtern es
 externs_plain p few es h within = all_at IsPlainExtern es (λ k e at. (
     let own = at_all IsPlainEntry es h k e at in
     (key_plain p few e.0 own.0 (within k e at).0, own.1)))

@@ -1,5 +1,5 @@
 //! The worlds that are resolved, of this package and of other ones.
-ghost use Rattle.std.specs.Prelude.{◌≤◌, length};
+ghost use Rattle.std.specs.Prelude.{◌≤◌, Some, length};
 ghost use Rattle.wit_items.specs.ItemPaths.{AreFound};
 ghost use Rattle.wit_items.specs.BorrowedItems.{others_of};
 

@@ -11,7 +11,7 @@ use Rattle.wit_parser.proofs.PartsSeen.{entries_made, made_places}
 use Rattle.wit_parser.proofs.PartsOrders.{ItemPresent, interface_seen, world_seen, foreign_seen}
 use Rattle.wit_parser.proofs.PartsTurns.{FunctionPresent, RolePresent, name_places-are, seen_at, signature_at}
 use Rattle.wit_parser.proofs.PartsScopes.{has_places, HasPlaces}
-use Rattle.wit_parser.specs.Ids.{IsFunctionWithin, IsKeyWithin, IsItemWithin, IsOwnerWithin, IsTypeWithin, IsInterfaceWithin, IsWorldWithin, IsForeignWithin, AreIdsWithin, AreTypesWithin}
+use Rattle.wit_parser.specs.Ids.{IsFunctionWithin, IsKeyWithin, IsItemWithin, IsOwnerWithin, IsTypeWithin, IsInterfaceWithin, IsWorldWithin, IsForeignWithin, AreIdsWithin}
 use Rattle.wit_types.specs.declared.types.«Type».{«Type» as Ty}
 use Rattle.wit_functions.specs.FunctionKinds.{resource_of}
 use Rattle.wit_arena.proofs.OneKind.{primitive_below}
@@ -51,7 +51,7 @@ module _ (p : UnresolvedPackage) (ks : List Key) (count : length p.types ≡ len
   type_within (Use s name) ty h = rw h.1 (key_within h.0 (Def s name) h.2)
   type_within (Of form parts) ty h = rw h.1 (key_within h.0 (Whole form parts) h.2)
 
-  pub parts_within : (xs : Exprs) (tys : List Ty) → AreAt ks xs tys → AreTypesWithin p tys
+  pub parts_within : (xs : Exprs) (tys : List Ty) → AreAt ks xs tys → ((k : ℕ) (ty : Ty) → slice_get tys k ≡ Some ty → IsBelow (length p.types) ty)
   parts_within End [] are k ty at = absurd (let f : ⊥ = cc in f)
   parts_within (More x xs) (t ∷ tys) are zero ty at = subst (IsBelow (length p.types)) (let same : t ≡ ty = cc in same) (type_within x t are.0)
   parts_within (More x xs) (t ∷ tys) are (suc k) ty at = parts_within xs tys are.1 k ty at

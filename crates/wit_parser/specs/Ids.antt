@@ -7,10 +7,6 @@ use Rattle.wit_model.specs.declared.ast_item.AstItem.TheVariants as entry
 use Rattle.wit_model.specs.declared.world.WorldItem.TheVariants as item
 use Rattle.wit_model.specs.declared.world.WorldKey.TheVariants as key
 
--- each of these types is a primitive, or has the place of a type of the package
-abbrev pub AreTypesWithin : UnresolvedPackage → List Ty → Type 0
-AreTypesWithin p tys = (k : ℕ) (ty : Ty) → slice_get tys k ≡ Some ty → IsBelow (length p.types) ty
-
 -- an owner is nobody, or has the place of an interface or of a world of the package
 abbrev pub IsOwnerWithin : UnresolvedPackage → TypeOwner → Type 0
 IsOwnerWithin p (owner.Interface id) = id < length p.interfaces
@@ -19,17 +15,17 @@ IsOwnerWithin p owner.None = Unit {0}
 
 -- the ids of a type are such places: those of its parts, of a handle that of its resource, and that of its owner
 pub record IsTypeWithin (p : UnresolvedPackage) (e : TypeDef) : Type 0 where
-  pub parts : AreTypesWithin p (kind_of e.kind).1
+  pub parts : (k : ℕ) (ty : Ty) → slice_get (kind_of e.kind).1 k ≡ Some ty → IsBelow (length p.types) ty
   pub owner : IsOwnerWithin p e.owner
 
 -- those of a function: that of the resource that it belongs to, and those of the types of its parameters and of its result
 pub record IsFunctionWithin (p : UnresolvedPackage) (f : Function) : Type 0 where
   pub resource : (id : ℕ) → resource_of f.kind ≡ Some id → id < length p.types
-  pub types : AreTypesWithin p (function_types f)
+  pub types : (k : ℕ) (ty : Ty) → slice_get (function_types f) k ≡ Some ty → IsBelow (length p.types) ty
 
 -- those of an interface: those of its types and of its functions; it has none of a package, nor of an interface that it is a copy of
 pub record IsInterfaceWithin (p : UnresolvedPackage) (i : Interface) : Type 0 where
-  pub types : ((k : ℕ) (name : List ℕ) (id : ℕ) → slice_get i.types k ≡ Some (name, id) → id < length p.types)
+  pub types : (k : ℕ) (name : List ℕ) (id : ℕ) → slice_get i.types k ≡ Some (name, id) → id < length p.types
   pub functions : (k : ℕ) (name : List ℕ) (f : Function) → slice_get i.functions k ≡ Some (name, f) → IsFunctionWithin p f
   pub no_package : i.package ≡ None
   pub no_source : i.clone_of ≡ None
@@ -45,14 +41,10 @@ IsItemWithin p (item.Interface id stability external_id docs span) = id < length
 IsItemWithin p (item.Function f) = IsFunctionWithin p f
 IsItemWithin p (item.Type_ id span) = id < length p.types
 
--- each of these imports or exports is found so, and has such a place or is such a function
-abbrev pub AreItemsWithin : UnresolvedPackage → List (WorldKey × WorldItem) → Type 0
-AreItemsWithin p xs = (k : ℕ) (x : WorldKey × WorldItem) → slice_get xs k ≡ Some x → IsKeyWithin p x.0 × IsItemWithin p x.1
-
 -- the ids of a world are such places: those of its imports, of its exports and of the worlds that it includes; it has none of a package
 pub record IsWorldWithin (p : UnresolvedPackage) (w : World) : Type 0 where
-  pub imports : AreItemsWithin p w.imports
-  pub exports : AreItemsWithin p w.exports
+  pub imports : (k : ℕ) (x : WorldKey × WorldItem) → slice_get w.imports k ≡ Some x → IsKeyWithin p x.0 × IsItemWithin p x.1
+  pub exports : (k : ℕ) (x : WorldKey × WorldItem) → slice_get w.exports k ≡ Some x → IsKeyWithin p x.0 × IsItemWithin p x.1
   pub includes : (k : ℕ) (i : WorldInclude) → slice_get w.includes k ≡ Some i → i.id < length p.worlds
   pub no_package : w.package ≡ None
 

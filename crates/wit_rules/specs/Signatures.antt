@@ -1,6 +1,6 @@
 -- Written functions that are borrowed until their types are resolved, and what they are resolved in.
 use Rattle.std.specs.Prelude.{Option, Some, None, ◌≡◌, ℕ, nat_eq, List, map, IsSome, slice_get, ⊤}
-use Rattle.wit_arena.specs.Common.{Address, Constructor, Env, Fault, Id, Method, OnSide, Param, Role, ScopeName, Shape, SourceFunction, SourceParam, Static, TypeDef, WorldSide, env_of, free_function, lookup, meaning, option_to_list, pointwise, resource_function, side_function, «Type» as Ty, Span}
+use Rattle.wit_arena.specs.Common.{Address, Constructor, Env, Fault, Id, Method, OnSide, Param, Role, ScopeName, Shape, SourceFunction, SourceParam, Static, TypeDef, WorldSide, env_of, free_function, lookup, meaning, option_to_list, pointwise, resource_function, side_function, «Type» as Ty, Span, option_and_then}
 use Rattle.wit_rules.specs.declared.borrowed.BorrowedFunction.{BorrowedFunction}
 use Rattle.wit_rules.specs.declared.borrowed.BorrowedFunction.TheVariants.{Free, Of, Across}
 use Rattle.wit_type_tree.specs.declared.types.«Type».{«Type» as Written}
@@ -38,14 +38,9 @@ abbrev pub made_of : Role → Option Id
 made_of (Constructor of) = Some of
 made_of role = None
 
--- what the definition of a name gives where all is well, by a table of definitions that are written as results
-abbrev pub stated_ok : Option (Bor Written) → Option (Option Written)
-stated_ok None = None
-stated_ok (Some t) = ok_of t.now
-
--- a table has the definitions of a scope that are written as results
+-- a table has the definitions of a scope that are written as results, and so what each gives where all is well
 pub record AreResults (results : List (List ℕ × Bor Written)) (xs : List ScopeName) : Type 0 where
-  pub as_stated : (name : List ℕ) → stated_ok (lookup (pointwise nat_eq name) results) ≡ meant_ok (meaning xs name)
+  pub as_stated : (name : List ℕ) → option_and_then (λ t. ok_of t.now) (lookup (pointwise nat_eq name) results) ≡ meant_ok (meaning xs name)
 
 -- the fault of what a function of such a scope gives
 abbrev pub gives_fault : List ScopeName → SourceFunction → Written → Option Fault

@@ -1,6 +1,6 @@
 -- Parameters and results over their types, one after the other.
 use Rattle.std.proofs.Common.{◌≡◌, ◌≤◌, ℕ, List, [], ◌∷◌, ◌++◌, length, map, Option, Some, None, refl, sym, ap, ◌∙◌, subst, arith, append_assoc}
-use Rattle.wit_arena.proofs.Common.{Address, AreShapes, Env, Id, IsInterned, Param, ResourceFunc, Shape, SourceParam, Span, TypeDef, Unknown, map-append, resource_function, self_param, shapes_append, resolved_none, written_param, «Type» as Written, length-map}
+use Rattle.wit_arena.proofs.Common.{Address, AreShapes, Env, Id, IsInterned, Param, ResourceFunc, Shape, SourceParam, Span, TypeDef, Unknown, map-append, resource_function, self_param, shapes_append, resolved_none, written_param, «Type» as Written, length-map, all_shapes}
 use Rattle.wit_arena.proofs.PlacingFunctions.{as_written, said}
 use Rattle.wit_walk.proofs.Common.{Param as WrittenParam}
 use Rattle.wit_type_tree.specs.declared.types.ResourceFunc.TheVariants as resource
@@ -11,7 +11,7 @@ use Rattle.wit_types.specs.declared.types.Handle.TheVariants as handle
 use Rattle.wit_rules.specs.declared.borrowed.BorrowedFunction.{BorrowedFunction}
 use Rattle.wit_rules.specs.declared.borrowed.BorrowedFunction.TheVariants as borrowed
 use Rattle.wit_rules.specs.Signatures.{function_view, given_of, AreParamsOver, IsResultOver}
-use Rattle.wit_entries.specs.ResolvedForms.{AreTypes}
+use Rattle.wit_entries.specs.ResolvedForms.{AreParts}
 use Rattle.wit_entries.proofs.Reading.{resolved_word, whole_present}
 use Rattle.wit_signatures.proofs.SignatureTypes.{result_shape}
 
@@ -34,7 +34,7 @@ params_append old mid new env ws vs ps qs p q = record {
 }
 
 -- one more of the written ones
-pub params_more : (first mid new : List TypeDef) (env : Env) (ws : List SourceParam) (done all : List WrittenParam) (item : WrittenParam) (ps qs : List Param) (p : Param) (ty : Ty) → all ≡ done ++ item ∷ [] → qs ≡ ps ++ p ∷ [] → (p.name ≡ item.name.name.now) × (p.span ≡ item.name.span) × (p.ty ≡ ty) → AreTypes mid new env Unknown (item.ty ∷ []) (ty ∷ []) → AreParamsOver first mid env (ws ++ map written_param done) ps → AreParamsOver first new env (ws ++ map written_param all) qs
+pub params_more : (first mid new : List TypeDef) (env : Env) (ws : List SourceParam) (done all : List WrittenParam) (item : WrittenParam) (ps qs : List Param) (p : Param) (ty : Ty) → all ≡ done ++ item ∷ [] → qs ≡ ps ++ p ∷ [] → (p.name ≡ item.name.name.now) × (p.span ≡ item.name.span) × (p.ty ≡ ty) → AreParts mid new env Unknown (all_shapes (item.ty ∷ [])) (ty ∷ []) → AreParamsOver first mid env (ws ++ map written_param done) ps → AreParamsOver first new env (ws ++ map written_param all) qs
 params_more first mid new env ws done all item ps qs p ty in_use pushed says is h =
     let w = written_param item in
     let one = params_one mid new env w p says.0 says.1 (λ s. subst (λ (x : Ty). AreShapes mid new s env (w.shape ∷ []) (x ∷ [])) (sym says.2) (is s)) in
@@ -49,7 +49,7 @@ self_over old new env r word place i p found interned name span same =
     params_one old new env (self_param r word) p name span (λ s. subst (λ (x : Ty). AreShapes old new s env ((self_param r word).shape ∷ []) (x ∷ [])) (sym same) (is s))
 
 -- a written result means a type
-pub result_view : (old new : List TypeDef) (env : Env) (h : BorrowedFunction) (t : Written) (ty : Ty) → (function_view h).func.result ≡ Some t → AreTypes old new env Unknown (t ∷ []) (ty ∷ []) → IsResultOver old new env (function_view h).result (Some ty)
+pub result_view : (old new : List TypeDef) (env : Env) (h : BorrowedFunction) (t : Written) (ty : Ty) → (function_view h).func.result ≡ Some t → AreParts old new env Unknown (all_shapes (t ∷ [])) (ty ∷ []) → IsResultOver old new env (function_view h).result (Some ty)
 result_view old new env h t ty written is = subst (λ (x : Option Shape). IsResultOver old new env x (Some ty)) (sym (result_shape h t written)) (record { types = is })
 
 -- a method is given its resource, and no other function is given anything

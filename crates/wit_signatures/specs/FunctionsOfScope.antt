@@ -1,7 +1,7 @@
 -- The names of a scope, of which no two on one side may have one key, and what a function of it adds to the arena.
 use Rattle.std.specs.Prelude.{ℕ, List, ◌≡◌, ◌+◌, ◌∷◌, [], IsTrue, Option, Result, Some, map, slice_get, take, Vec}
 use Rattle.wit_names.specs.Folded.{folded_key}
-use Rattle.wit_arena.specs.Common.{Address, AddsFunctions, Fault, Function, Global, Id, Param, ParseError, Required, ScopeName, SourceFunction, TypeDef, Unknown, all_handles, all_params, env_of, option_to_list, written_types, «Type» as Ty}
+use Rattle.wit_arena.specs.Common.{Address, AddsFunctions, Fault, Function, Global, Id, Param, ParseError, Required, ScopeName, SourceFunction, TypeDef, Unknown, all_handles, all_params, env_of, option_to_list, written_types, «Type» as Ty, all_shapes}
 use Rattle.wit_refusals.specs.NameScopes.{Name}
 use Rattle.wit_type_tree.specs.declared.types.«Type».{«Type» as Written}
 use Rattle.wit_names.specs.Mangled.{is_mangled}
@@ -9,9 +9,9 @@ use Rattle.wit_type_tree.specs.declared.types.Param.{Param as WrittenParam}
 use Rattle.wit_first.specs.First.{Finds, first_after}
 use Rattle.wit_walk.specs.Functions.{function_fault, lost_word, param_fault, return_fault}
 use Rattle.wit_entries.specs.EntryFaults.{IsExtended, Requires, Resolves, written_fault}
-use Rattle.wit_entries.specs.ResolvedForms.{AreTypes}
 use Rattle.wit_rules.specs.Signatures.{AreParamsOver, IsResultOver, IsScopeOf, functions_view}
 use Rattle.wit_rules.specs.declared.function_scope.FunctionScope.{FunctionScope}
+use Rattle.wit_entries.specs.ResolvedForms.{AreParts}
 
 abbrev pub name_of_id : Id → Name
 name_of_id id = (id.name.now, id.span)
@@ -32,7 +32,7 @@ fault_at s es place = written_fault (lost_word (take (place + 1) (functions_view
 
 -- a call resolves a type in it, and all parameters
 abbrev pub ResolvesSigned : FunctionScope → ℕ → (old new : List TypeDef) → (before after : Vec Required Global) → Written → Result Ty ParseError → Type 0
-ResolvesSigned s place old new before after t r = Resolves (env_of s.names.now) old new before.items after.items (all_handles (t ∷ [])) (fault_at s new place t) (λ ty. AreTypes old new (env_of s.names.now) Unknown (t ∷ []) (ty ∷ [])) r
+ResolvesSigned s place old new before after t r = Resolves (env_of s.names.now) old new before.items after.items (all_handles (t ∷ [])) (fault_at s new place t) (λ ty. AreParts old new (env_of s.names.now) Unknown (all_shapes (t ∷ [])) (ty ∷ [])) r
 
 abbrev pub ResolvesParams : FunctionScope → ℕ → (old new : List TypeDef) → (before after : Vec Required Global) → SourceFunction → Result (List Param) ParseError → Type 0
 ResolvesParams s place old new before after fn r = Resolves (env_of s.names.now) old new before.items after.items (all_handles (map (λ (p : WrittenParam). p.ty) fn.func.params.items)) (first_after (param_fault (fault_at s new place) fn) [] fn.func.params.items) (AreParamsOver old new (env_of s.names.now) (all_params fn)) r

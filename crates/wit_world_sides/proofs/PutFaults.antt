@@ -7,7 +7,7 @@ use Rattle.wit_refusals.specs.NameScopes.{Name, AreUsed, IsDefinedAgain}
 use Rattle.wit_rules.specs.Signatures.{across_of}
 use Rattle.wit_sides.specs.declared.sides.Sides.{Sides}
 use Rattle.wit_signatures.specs.FunctionsOfScope.{name_of_id}
-use Rattle.wit_externs.specs.Clash.{again_fault, item_names, IsLinked, linked_on}
+use Rattle.wit_externs.specs.Clash.{again_fault, item_names, linked_on}
 use Rattle.wit_externs.proofs.AloneFaults.{again_free, again_report}
 use Rattle.wit_world_sides.specs.declared.members.Members.{Members}
 use Rattle.wit_world_sides.specs.declared.sides.WorldSides.{WorldSides}
@@ -88,12 +88,12 @@ linked_free m link id bare free =
     free (contains_at ids it.0 id (it.2 ∙ ap Some (sym (eqb-true id it.1 it.3)))))) in
     put_link_bare m link id bare ∙ linked_bare ids link id false bare miss
 
-pub linked_report : (m : Members) (link : Link) (id : ℕ) (e : ParseError) → link.name ≡ None → Refused (IsLinked link.side (linked_on link.side m.links) id (path_id link.path).span) e → Reports (put_link_fault m link id) e
+pub linked_report : (m : Members) (link : Link) (id : ℕ) (e : ParseError) → link.name ≡ None → Refused (λ f. Contains (linked_on link.side m.links) id × (f ≡ linked_twice link.side (path_id link.path).span)) e → Reports (put_link_fault m link id) e
 linked_report m link id e bare h = elim h [
   | inl memory ↦ inl memory
   | inr again ↦ (
       let ids = linked_on link.side m.links in
-      let there = at_contains ids id again.among in
+      let there = at_contains ids id again.0 in
       let hit = any_some (nat_eq id) ids there.0 id there.1 (eq-eqb id id refl) in
-      inr (put_link_bare m link id bare ∙ linked_bare ids link id true bare hit ∙ ap Some (sym again.is)))
+      inr (put_link_bare m link id bare ∙ linked_bare ids link id true bare hit ∙ ap Some (sym again.1)))
 ]

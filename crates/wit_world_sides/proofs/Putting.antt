@@ -1,7 +1,7 @@
 -- What is put on a side of a world, one entry more: where keys differ it comes last.
 use Rattle.std.proofs.Common.{◌≡◌, ◌⊎◌, ℕ, ◌<◌, ◌+◌, Bool, true, false, List, [], ◌∷◌, ◌++◌, length, Some, map, nat_eq, if◌then◌else◌, inl, inr, refl, sym, ap, ◌∙◌, arith, append_assoc, zero, suc, None, subst, Option, take}
 use Rattle.wit_arena.proofs.Common.{AllDiffer, WorldKey, WorldSide, append-nil, at_back, at_prefix, cases_Bool, differ_at, eq-value as key_test, insert_entry, insert_entry-new, name_cases, put_on, same_side, slice_get, slice_get_within, ForeignName, Id, Names, ScopeName, SideItem, differ_by, differ_none, flat_map, flat_map-append, flat_map_has, folded_key, local_id, local_name, local_names, map-append, names_in, type_imports, Function, WorldItem, after_one, at_split, codes, cond-false, cond-true, function_item, function_of, types_stated, Called, Exported, Imported, Link, SideLink, item_side, items_on, link_item, link_key, map_map, names_on, option_map_or, Type_, at_take, key_at, map, pointwise, is_name, lookup, name_itself}
-use Rattle.wit_world_sides.specs.Members.{Entry, inserted_on, key_names, key_places, item_word, AreCalled, AreKeyed, Puts, bare_id, entry_sorted, entries_of}
+use Rattle.wit_world_sides.specs.Members.{Entry, inserted_on, key_names, key_places, item_word, AreCalled, AreKeyed, Puts, entry_sorted, entries_of}
 use Rattle.wit_refusals.specs.NameScopes.{Name}
 use Rattle.wit_signatures.specs.FunctionsOfScope.{name_of_id, name_key}
 use Rattle.wit_externs.specs.Clash.{item_names, names_of_items, linked_on}
@@ -106,9 +106,9 @@ pub entry_names : (b : Bool) (e : Entry) (x : SideItem) → key_names e.0 ≡ ma
 entry_names true e x one = append-nil (key_names e.0) ∙ one ∙ ap (map (λ (n : Name). n.0)) (sym (append-nil (item_names x)))
 entry_names false e x one = refl
 
-pub entry_places : (b : Bool) (e : Entry) (ids : List ℕ) → key_places e.0 ≡ ids → places_among (if b then e ∷ [] else []) ≡ (if b then ids else [])
-entry_places true e ids one = append-nil (key_places e.0) ∙ one
-entry_places false e ids one = refl
+pub entry_places : (b : Bool) (e : Entry) → places_among (if b then e ∷ [] else []) ≡ (if b then key_places e.0 else [])
+entry_places true e = append-nil (key_places e.0)
+entry_places false e = refl
 
 -- nothing more
 pub nothing_more : (b : Bool) (ids : List ℕ) → ids ≡ ids ++ (if b then [] else [])
@@ -180,7 +180,7 @@ other_called x none f is = absurd (let wrong : None ≡ Some f = sym none ∙ is
 pub keyed_differ : (m : Members) → AreKeyed m → (s : WorldSide) → AllDiffer (map key_of (entries_of s m.sides))
 keyed_differ m keyed s = keys_apart (map key_of (entries_of s m.sides)) (subst AllDiffer (sym (keyed.names s)) (texts_differ (defined_on s m.in_use) (keyed.differ s))) (subst AllDiffer (sym (keyed.places s)) (keyed.apart s))
 
-module _ (m m' : Members) (x : SideItem) (ids : List ℕ) (e : Entry) (keyed : AreKeyed m) (in_use : (s : WorldSide) → defined_on s m'.in_use ≡ defined_on s m.in_use ++ names_of_items (items_on s (x ∷ []))) (differ : (s : WorldSide) → AllDiffer (map name_key (defined_on s m'.in_use))) (linked : (s : WorldSide) → linked_on s m'.links ≡ linked_on s m.links ++ (if same_side s (item_side x) then ids else [])) (apart : (s : WorldSide) → AllDiffer (linked_on s m'.links)) (names : key_names e.0 ≡ map (λ (n : Name). n.0) (item_names x)) (places : key_places e.0 ≡ ids) (called : IsCalled e) (sorts : entry_sorted e ≡ item_sorted x) (inserted : (s : WorldSide) → entries_of s m'.sides ≡ inserted_on s (item_side x) e (entries_of s m.sides)) where
+module _ (m m' : Members) (x : SideItem) (e : Entry) (keyed : AreKeyed m) (in_use : (s : WorldSide) → defined_on s m'.in_use ≡ defined_on s m.in_use ++ names_of_items (items_on s (x ∷ []))) (differ : (s : WorldSide) → AllDiffer (map name_key (defined_on s m'.in_use))) (linked : (s : WorldSide) → linked_on s m'.links ≡ linked_on s m.links ++ (if same_side s (item_side x) then key_places e.0 else [])) (apart : (s : WorldSide) → AllDiffer (linked_on s m'.links)) (names : key_names e.0 ≡ map (λ (n : Name). n.0) (item_names x)) (called : IsCalled e) (sorts : entry_sorted e ≡ item_sorted x) (inserted : (s : WorldSide) → entries_of s m'.sides ≡ inserted_on s (item_side x) e (entries_of s m.sides)) where
   names_then : (s : WorldSide) → names_among (entries_of s m.sides ++ put_on s (item_side x) e []) ≡ map (λ (n : Name). n.0) (defined_on s m'.in_use)
   names_then s =
       names_both (entries_of s m.sides) (put_on s (item_side x) e [])
@@ -193,7 +193,7 @@ module _ (m m' : Members) (x : SideItem) (ids : List ℕ) (e : Entry) (keyed : A
   places_then s =
       places_both (entries_of s m.sides) (put_on s (item_side x) e [])
       ∙ ap (λ (l : List ℕ). l ++ places_among (put_on s (item_side x) e [])) (keyed.places s)
-      ∙ ap (λ (l : List ℕ). linked_on s m.links ++ l) (entry_places (same_side s (item_side x)) e ids places)
+      ∙ ap (λ (l : List ℕ). linked_on s m.links ++ l) (entry_places (same_side s (item_side x)) e)
       ∙ sym (linked s)
 
   keys_then : (s : WorldSide) → AllDiffer (map key_of (entries_of s m.sides ++ put_on s (item_side x) e []))
@@ -202,7 +202,7 @@ module _ (m m' : Members) (x : SideItem) (ids : List ℕ) (e : Entry) (keyed : A
   put_then : (s : WorldSide) → entries_of s m'.sides ≡ entries_of s m.sides ++ put_on s (item_side x) e []
   put_then s = inserted s ∙ put_one s (item_side x) (entries_of s m.sides) e (keys_then s)
 
-  pub puts : Puts m m' x ids e
+  pub puts : Puts m m' x e
   puts = record {
     in_use = in_use;
     linked = linked;
@@ -218,17 +218,15 @@ module _ (m m' : Members) (x : SideItem) (ids : List ℕ) (e : Entry) (keyed : A
   }
 
 -- an interface by its path, under its name or as itself
-pub put_under : (m m' : Members) (link : Link) (own : Id) (id : ℕ) (item : WorldItem) → link.name ≡ Some own → item ≡ (link_item link id).1 → Puts m m' (SideLink link) [] (key.Name own.name.now, item) → Puts m m' (SideLink link) (bare_id link.name id) (link_item link id)
+pub put_under : (m m' : Members) (link : Link) (own : Id) (id : ℕ) (item : WorldItem) → link.name ≡ Some own → item ≡ (link_item link id).1 → Puts m m' (SideLink link) (key.Name own.name.now, item) → Puts m m' (SideLink link) (link_item link id)
 put_under m m' link own id item named is put =
-    let ids : [] ≡ bare_id link.name id = ap (λ (n : Option Id). bare_id n id) (sym named) in
     let entry : (key.Name own.name.now, item) ≡ link_item link id = ap (λ (n : Option Id). (link_key n id, item)) (sym named) ∙ ap (λ (i : WorldItem). (link_key link.name id, i)) is in
-    subst (λ (l : List ℕ). Puts m m' (SideLink link) l (link_item link id)) ids (subst (Puts m m' (SideLink link) []) entry put)
+    subst (Puts m m' (SideLink link)) entry put
 
-pub put_itself : (m m' : Members) (link : Link) (id : ℕ) (item : WorldItem) → link.name ≡ None → item ≡ (link_item link id).1 → Puts m m' (SideLink link) (id ∷ []) (key.Interface id, item) → Puts m m' (SideLink link) (bare_id link.name id) (link_item link id)
+pub put_itself : (m m' : Members) (link : Link) (id : ℕ) (item : WorldItem) → link.name ≡ None → item ≡ (link_item link id).1 → Puts m m' (SideLink link) (key.Interface id, item) → Puts m m' (SideLink link) (link_item link id)
 put_itself m m' link id item bare is put =
-    let ids : id ∷ [] ≡ bare_id link.name id = ap (λ (n : Option Id). bare_id n id) (sym bare) in
     let entry : (key.Interface id, item) ≡ link_item link id = ap (λ (n : Option Id). (link_key n id, item)) (sym bare) ∙ ap (λ (i : WorldItem). (link_key link.name id, i)) is in
-    subst (λ (l : List ℕ). Puts m m' (SideLink link) l (link_item link id)) ids (subst (Puts m m' (SideLink link) (id ∷ [])) entry put)
+    subst (Puts m m' (SideLink link)) entry put
 
 -- the names of a link
 pub names_under : (link : Link) (own : Id) → link.name ≡ Some own → item_names (SideLink link) ≡ name_of_id own ∷ []

@@ -1,6 +1,6 @@
 -- What a world has on its sides, with the names and the interfaces there, while one after another is put there, and its first fault: E43, E44 and E17.
 use Rattle.std.specs.Prelude.{◌≡◌, Bool, List, if◌then◌else◌, ℕ, true, false, [], ◌∷◌, Some, slice_get, ◌++◌, Option, codes, map, ◌&&◌, nat_eq, None, is_none}
-use Rattle.wit_arena.specs.Common.{AllDiffer, Exported, Fault, Function, Id, Imported, Include, Link, SideItem, SideLink, WorldItem, WorldKey, WorldSide, extern_link, flat_map, function_of, insert_entry, item_side, items_on, link_item, linked_twice, list_any, option_map_or, option_or, path_id, put_on, same_side, settled}
+use Rattle.wit_arena.specs.Common.{AllDiffer, Exported, Fault, Function, Id, Imported, Include, Link, SideItem, SideLink, WorldItem, WorldKey, WorldSide, extern_link, flat_map, function_of, insert_entry, item_side, items_on, link_item, linked_twice, list_any, option_or, path_id, put_on, same_side, settled}
 use Rattle.wit_model.specs.contracts.world.WorldKeyPartialEq.TheImpl.{eq-value as key_test}
 use Rattle.wit_world_sides.specs.declared.sides.WorldSides.{WorldSides}
 use Rattle.wit_walk.specs.Members.{is_extern}
@@ -74,17 +74,17 @@ pub record AreKeyed (m : Members) : Type 0 where
   pub apart : (s : WorldSide) → AllDiffer (linked_on s m.links)
   pub called : (s : WorldSide) → AreCalled (entries_of s m.sides)
 
--- one more was put on its side, as this entry: its name is there, or else the interface at this place
-pub record Puts (m m' : Members) (x : SideItem) (ids : List ℕ) (e : Entry) : Type 0 where
+-- one more was put on its side, as this entry: its name is there, or else the place that is its key
+pub record Puts (m m' : Members) (x : SideItem) (e : Entry) : Type 0 where
   pub in_use : (s : WorldSide) → defined_on s m'.in_use ≡ defined_on s m.in_use ++ names_of_items (items_on s (x ∷ []))
-  pub linked : (s : WorldSide) → linked_on s m'.links ≡ linked_on s m.links ++ (if same_side s (item_side x) then ids else [])
+  pub linked : (s : WorldSide) → linked_on s m'.links ≡ linked_on s m.links ++ (if same_side s (item_side x) then key_places e.0 else [])
   pub put : (s : WorldSide) → entries_of s m'.sides ≡ entries_of s m.sides ++ put_on s (item_side x) e []
   pub sorted : entry_sorted e ≡ item_sorted x
   pub keyed : AreKeyed m'
 
 -- so it was, where these keys are those there
-abbrev pub PutsOn : Members → Members → SideItem → List ℕ → Entry → Type 0
-PutsOn m m' x ids e = AreKeyed m → Puts m m' x ids e
+abbrev pub PutsOn : Members → Members → SideItem → Entry → Type 0
+PutsOn m m' x e = AreKeyed m → Puts m m' x e
 
 -- it is an interface on this side, under this name
 abbrev pub IsNamedOn : WorldSide → Id → SideItem → Type 0
@@ -94,13 +94,9 @@ IsNamedOn side name x = (item_side x ≡ side) × (item_names x ≡ name_of_id n
 abbrev pub path_link : PathExtern → Link
 path_link p = extern_link p.written.now p.name p.path.now
 
--- the place of an interface that has no name of its own
-abbrev pub bare_id : Option Id → ℕ → List ℕ
-bare_id name id = option_map_or (λ own. []) name (id ∷ [])
-
 -- an interface was put on its side by its path
 abbrev pub PutsLink : Members → Members → PathExtern → ℕ → Type 0
-PutsLink m m' p id = PutsOn m m' (SideLink (path_link p)) (bare_id p.name id) (link_item (path_link p) id)
+PutsLink m m' p id = PutsOn m m' (SideLink (path_link p)) (link_item (path_link p) id)
 
 -- of a name that is defined on a side after those there
 abbrev pub side_fault : Sides → WorldSides → WorldSide → Bool → Name → Option Fault

@@ -163,7 +163,7 @@ pub fn put_function(
 ) -> ParseResult<()>
     requires mangled { IsTrue (is_mangled function.name) }
     requires borrowed { name_of_made function ≡ name_of_function (function_view borrowed) }
-    ensures puts { OnOk result (PutsOn members.old members.new (SideFunction (function_view borrowed.entry)) [] (function_item function)) }
+    ensures puts { OnOk result (PutsOn members.old members.new (SideFunction (function_view borrowed.entry)) (function_item function)) }
     ensures first { Finds (put_fault members.old (SideFunction (function_view borrowed.entry))) result }
 {
     define_function(&mut members.in_use, &members.sides, borrowed, &function)?;
@@ -185,7 +185,7 @@ fn put_named(
     item: WorldItem,
 ) -> ParseResult<()>
     requires { item_word item ≡ codes "interface" }
-    ensures puts { OnOk result ((x : _) → IsNamedOn side name.entry x → PutsOn members.old members.new x [] (Name name.entry.name.now, item)) }
+    ensures puts { OnOk result ((x : _) → IsNamedOn side name.entry x → PutsOn members.old members.new x (Name name.entry.name.now, item)) }
     ensures first { Finds (side_fault members.old.in_use members.old.sides side true (name_of_id name.entry)) result }
 {
     define_extern_part(
@@ -253,7 +253,7 @@ pub fn put_inline(
     name: Id<'_>,
     id: InterfaceId,
 ) -> ParseResult<()>
-    ensures puts { OnOk result ((xs : _) → PutsOn members.old members.new (SideInline written.now name.entry xs) [] (inline_entry written.now name.entry id)) }
+    ensures puts { OnOk result ((xs : _) → PutsOn members.old members.new (SideInline written.now name.entry xs) (inline_entry written.now name.entry id)) }
     ensures first { (xs : _) → Finds (put_fault members.old (SideInline written.now name.entry xs)) result }
 {
     let item = inline_item(alloc, written, name, id)?;

@@ -1,7 +1,6 @@
 use Rattle.std.proofs.Common.{[], ◌∷◌, length, Some, ap}
-use Rattle.wit_contents.proofs.Names.{found_put, found_wider, index_world, others_of, prefix_wider}
+use Rattle.wit_contents.proofs.Names.{found_put, found_wider, index_world, others_of, prefix_wider, World}
 use Rattle.wit_contents.proofs.world.add_world.Goals as goal
-use Rattle.wit_arena.proofs.Common.{World}
 
 pub invariant_of-worlds : goal.invariant_of-worlds
 invariant_of-worlds c =

@@ -1,12 +1,11 @@
 use Rattle.std.proofs.Common.{◌≡◌, ◌+◌, ◌++◌, ◌∷◌, List, ℕ, [], take, true, refl, ap, sym, ◌∙◌, subst, Some}
-use Rattle.wit_contents.proofs.Names.{about, arenas, declared_view, err_from_is_err_and, first_in, found_none, in-more, in_order, is_world, item_view, kept_next, kept_past, length, map, others_of, prefix_of, take_all, worlds_of}
+use Rattle.wit_contents.proofs.Names.{about, arenas, declared_view, err_from_is_err_and, first_in, found_none, in-more, in_order, is_world, item_view, kept_next, kept_past, length, map, others_of, prefix_of, take_all, worlds_of, World}
 use Rattle.wit_items.specs.declared.items.Declared.{Declared as BorrowedDeclared}
 use Rattle.wit_contents.proofs.FileFaults.{memory_found}
 use Rattle.wit_contents.proofs.WorldFaults.{among_kept, item_at}
 use Rattle.wit_contents.proofs.Members.{AreWorldsTo, addresses_in, worlds_more, worlds_none}
 use Rattle.wit_contents.proofs.world.resolve_worlds.Goals.{in-World+in_ok-resolve_world-in-World, in-Interface, in-Inline}
 use Rattle.wit_contents.proofs.world.resolve_worlds.Goals as goal
-use Rattle.wit_arena.proofs.Common.{World}
 
 pub loop-place-init : goal.loop-place-init
 loop-place-init c = rw (c.make_room.ensures.inside, c.make_room.ensures.worlds, c.replace.ensures.value, c.new-required.ensures.items) (record {

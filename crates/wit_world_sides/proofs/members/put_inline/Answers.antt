@@ -1,4 +1,4 @@
-use Rattle.std.proofs.Common.{[], refl, ap, subst, inl, Option, sym, true}
+use Rattle.std.proofs.Common.{refl, ap, subst, inl, Option, sym, true}
 use Rattle.wit_arena.proofs.Common.{Fault, SideInline, WorldItem, err_from_is_err_and, on_ok_weaker}
 use Rattle.wit_model.specs.declared.world.WorldKey.TheVariants as key
 use Rattle.wit_world_sides.specs.Members.{Puts, item_word}
@@ -14,7 +14,7 @@ pub returns-clause-puts : goal.returns-clause-puts
 returns-clause-puts c =
     let w = c.args.written.now in
     let own = c.args.name in
-    on_ok_weaker c.put_named.result (λ done items keyed. subst (λ (i : WorldItem). Puts c.args.members.now c.put_named.new.members (SideInline w own items) [] (key.Name own.name.now, i)) c.in_ok-item.ensures (done (SideInline w own items) (refl, refl, refl) keyed)) c.put_named.ensures.puts
+    on_ok_weaker c.put_named.result (λ done items keyed. subst (λ (i : WorldItem). Puts c.args.members.now c.put_named.new.members (SideInline w own items) (key.Name own.name.now, i)) c.in_ok-item.ensures (done (SideInline w own items) (refl, refl, refl) keyed)) c.put_named.ensures.puts
 
 pub returns-in_err-item-clause-first : goal.returns-in_err-item-clause-first
 returns-in_err-item-clause-first c =

@@ -1,4 +1,4 @@
-use Rattle.std.proofs.Common.{ℕ, ◌++◌, [], ◌∷◌, List, map, refl, sym, ap, ◌∙◌}
+use Rattle.std.proofs.Common.{ℕ, ◌++◌, [], ◌∷◌, List, map, sym, ap, ◌∙◌}
 use Rattle.wit_arena.proofs.Common.{WorldSide, item_side, same_side}
 use Rattle.wit_model.specs.declared.world.WorldKey.TheVariants as key
 use Rattle.wit_refusals.specs.NameScopes.{Name}
@@ -21,4 +21,4 @@ returns-clause-puts c = λ x on keyed.
     let more = λ (s : WorldSide). defined s ∙ ap (λ (l : List Name). defined_on s m.in_use ++ l) (item_on s c.args.side x (name_of_id own) there named) in
     let differ = λ (s : WorldSide). sides_differ c.args.side (λ t. defined_on t m.in_use) (λ t. defined_on t c.define_extern_part.new.in_use) own.name.now own.span defined c.in_ok-define_extern_part.ensures.free s (keyed.differ s) in
     let put = λ (s : WorldSide). (rw c.in_ok-from_str.ensures at c.in_ok-add_item.ensures) s ∙ ap (λ (t : WorldSide). inserted_on s t (key.Name own.name.now, item) (entries_of s m.sides)) (sym there) in
-    puts m _ x [] (key.Name own.name.now, item) keyed more differ (λ s. nothing_more (same_side s (item_side x)) (linked_on s m.links)) keyed.apart (sym (ap (map (λ (n : Name). n.0)) named)) refl (other_called (key.Name own.name.now, item) (interface_none item c.requires)) (ap (λ (w : List ℕ). (own.name.now, w) ∷ []) c.requires ∙ sym on.2) put
+    puts m _ x (key.Name own.name.now, item) keyed more differ (λ s. nothing_more (same_side s (item_side x)) (linked_on s m.links)) keyed.apart (sym (ap (map (λ (n : Name). n.0)) named)) (other_called (key.Name own.name.now, item) (interface_none item c.requires)) (ap (λ (w : List ℕ). (own.name.now, w) ∷ []) c.requires ∙ sym on.2) put
