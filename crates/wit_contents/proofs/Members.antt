@@ -5,7 +5,7 @@ use Rattle.wit_contents.specs.declared.walk.Walked.{Walked}
 use Rattle.wit_arena.proofs.Common.{Item, link_key}
 use Rattle.wit_entries.proofs.Requiring.{extended_then}
 use Rattle.wit_sides.specs.SideNames.{defined_on}
-use Rattle.wit_externs.specs.Clash.{item_names, names_of_items, bare_place, bare_places, linked_on}
+use Rattle.wit_externs.specs.Clash.{item_names, bare_place, linked_on}
 use Rattle.wit_world_sides.specs.Members.{entries_of, key_places}
 use Rattle.wit_entries.specs.EntryFaults.{IsExtended, Requires}
 use Rattle.wit_externs.proofs.Steps.{at_middle, kept_nothing, kept_one}
@@ -113,15 +113,15 @@ items_then is top side (SideInline x name items ∷ xs) ys fs gs (s ∷ ss) ts a
 )
 
 -- the names, the words for them and the places of what is on a side, with more after it
-names_then : (s : WorldSide) (xs ys : List SideItem) → names_of_items (items_on s (xs ++ ys)) ≡ names_of_items (items_on s xs) ++ names_of_items (items_on s ys)
-names_then s xs ys = ap names_of_items (filter-append (λ x. same_side s (item_side x)) xs ys) ∙ flat_map-append item_names (items_on s xs) (items_on s ys)
+names_then : (s : WorldSide) (xs ys : List SideItem) → flat_map item_names (items_on s (xs ++ ys)) ≡ flat_map item_names (items_on s xs) ++ flat_map item_names (items_on s ys)
+names_then s xs ys = ap (λ (items : List SideItem). flat_map item_names items) (filter-append (λ x. same_side s (item_side x)) xs ys) ∙ flat_map-append item_names (items_on s xs) (items_on s ys)
 
 sorts_then : (s : WorldSide) (xs ys : List SideItem) → flat_map item_sorted (items_on s (xs ++ ys)) ≡ flat_map item_sorted (items_on s xs) ++ flat_map item_sorted (items_on s ys)
 sorts_then s xs ys = ap (flat_map item_sorted) (filter-append (λ x. same_side s (item_side x)) xs ys) ∙ flat_map-append item_sorted (items_on s xs) (items_on s ys)
 
 module _ (w : ItemWalk) where
-  places_then : (s : WorldSide) (xs ys : List SideItem) → bare_places (lead w) (items_on s (xs ++ ys)) ≡ bare_places (lead w) (items_on s xs) ++ bare_places (lead w) (items_on s ys)
-  places_then s xs ys = ap (bare_places (lead w)) (filter-append (λ x. same_side s (item_side x)) xs ys) ∙ flat_map-append (bare_place (lead w)) (items_on s xs) (items_on s ys)
+  places_then : (s : WorldSide) (xs ys : List SideItem) → flat_map (bare_place (lead w)) (items_on s (xs ++ ys)) ≡ flat_map (bare_place (lead w)) (items_on s xs) ++ flat_map (bare_place (lead w)) (items_on s ys)
+  places_then s xs ys = ap (λ (xs : List SideItem). flat_map (bare_place (lead w)) xs) (filter-append (λ x. same_side s (item_side x)) xs ys) ∙ flat_map-append (bare_place (lead w)) (items_on s xs) (items_on s ys)
 
   -- nothing is added
   pub members_none : (prefix : List SideItem) (a : Stage) → AreKeyed a.walked.members → AddsMembers w prefix [] a a
@@ -196,8 +196,8 @@ module _ (w : ItemWalk) where
       adds = record { own = p.adds.own ++ q.adds.own; list = q.adds.list ∙ ap (λ (l : List Required). l ++ q.adds.own) p.adds.list ∙ append_assoc a.walked.required.items p.adds.own q.adds.own; holds = adds_both };
       extended = extended_then a.growing.types b.growing.types c.growing.types p.extended q.extended;
       seen = λ zs seen. subst (λ (l : List SideItem). IsSeen l c.walked.seen) (append_assoc zs xs ys) (q.seen (zs ++ xs) (p.seen zs seen));
-      in_use = λ s. q.in_use s ∙ ap (λ (l : List Name). l ++ names_of_items (items_on s ys)) (p.in_use s) ∙ append_assoc (defined_on s a.walked.members.in_use) (names_of_items (items_on s xs)) (names_of_items (items_on s ys)) ∙ ap (λ (l : List Name). defined_on s a.walked.members.in_use ++ l) (sym (names_then s xs ys));
-      linked = λ s. q.linked s ∙ ap (λ (l : List ℕ). l ++ bare_places (lead w) (items_on s ys)) (p.linked s) ∙ append_assoc (linked_on s a.walked.members.links) (bare_places (lead w) (items_on s xs)) (bare_places (lead w) (items_on s ys)) ∙ ap (λ (l : List ℕ). linked_on s a.walked.members.links ++ l) (sym (places_then s xs ys));
+      in_use = λ s. q.in_use s ∙ ap (λ (l : List Name). l ++ flat_map item_names (items_on s ys)) (p.in_use s) ∙ append_assoc (defined_on s a.walked.members.in_use) (flat_map item_names (items_on s xs)) (flat_map item_names (items_on s ys)) ∙ ap (λ (l : List Name). defined_on s a.walked.members.in_use ++ l) (sym (names_then s xs ys));
+      linked = λ s. q.linked s ∙ ap (λ (l : List ℕ). l ++ flat_map (bare_place (lead w)) (items_on s ys)) (p.linked s) ∙ append_assoc (linked_on s a.walked.members.links) (flat_map (bare_place (lead w)) (items_on s xs)) (flat_map (bare_place (lead w)) (items_on s ys)) ∙ ap (λ (l : List ℕ). linked_on s a.walked.members.links ++ l) (sym (places_then s xs ys));
       sorted = λ s. q.sorted s ∙ ap (λ (l : List Sorted). l ++ flat_map item_sorted (items_on s ys)) (p.sorted s) ∙ append_assoc (sorted_on s a.walked.members.sides) (flat_map item_sorted (items_on s xs)) (flat_map item_sorted (items_on s ys)) ∙ ap (λ (l : List Sorted). sorted_on s a.walked.members.sides ++ l) (sym (sorts_then s xs ys));
       keyed = q.keyed;
       are_present = present_both;

@@ -7,7 +7,7 @@ use Rattle.wit_contents.specs.declared.walk.Growing.{Growing}
 use Rattle.wit_contents.specs.declared.walk.Walked.{Walked}
 use Rattle.wit_signatures.specs.FunctionsOfScope.{name_key, name_of_id}
 use Rattle.wit_sides.specs.SideNames.{defined_on}
-use Rattle.wit_externs.specs.Clash.{again_fault as twice_fault, EndsIn, item_names, names_of_items, bare_places, linked_on, again as same_again, signed_by}
+use Rattle.wit_externs.specs.Clash.{again_fault as twice_fault, EndsIn, item_names, linked_on, again as same_again, signed_by}
 use Rattle.wit_item_entries.proofs.NameOrder.{all_used, bare_item, bare_name}
 use Rattle.wit_world_sides.specs.declared.members.Members.{Members}
 use Rattle.wit_contents.proofs.PathsWalked.{in_same}
@@ -118,16 +118,16 @@ module _ (top : List TopName) (lead : UsePath → Option ℕ) (link : Link) (id 
       ∙ ap (λ (b : Bool). (bare && same_address t s) || b) same
       ∙ sym (ap (λ (o : Option Id). (is_none o && (bare && same_address t s)) || others) name)
 
-  any_walked : (xs : List SideItem) → HaveOwnPlaces xs → (bare && list_any (nat_eq id) (bare_places lead xs)) ≡ list_any again (flat_map item_link xs)
+  any_walked : (xs : List SideItem) → HaveOwnPlaces xs → (bare && list_any (nat_eq id) (flat_map (bare_place lead) xs)) ≡ list_any again (flat_map item_link xs)
   any_walked [] have = and_none bare
   any_walked (SideFunction fn ∷ xs) have = any_walked xs (record { each = λ k l there. have.each (suc k) l there })
   any_walked (SideInline x name items ∷ xs) have = any_walked xs (record { each = λ k l there. have.each (suc k) l there })
   any_walked (SideLink l ∷ xs) have =
       let own = have.each 0 l refl in
-      of_link l.name l (bare_places lead xs) (list_any again (flat_map item_link xs)) own.0 refl own.1 own.2 (any_walked xs (record { each = λ k m there. have.each (suc k) m there }))
+      of_link l.name l (flat_map (bare_place lead) xs) (list_any again (flat_map item_link xs)) own.0 refl own.1 own.2 (any_walked xs (record { each = λ k m there. have.each (suc k) m there }))
 
   -- it is one of them again
-  pub again_linked_walked : (before : List SideItem) → HaveOwnPlaces (items_on link.side before) → (if is_none link.name && list_any (nat_eq id) (bare_places lead (items_on link.side before)) then Some (linked_twice link.side (path_id link.path).span) else None) ≡ again_fault top before link
+  pub again_linked_walked : (before : List SideItem) → HaveOwnPlaces (items_on link.side before) → (if is_none link.name && list_any (nat_eq id) (flat_map (bare_place lead) (items_on link.side before)) then Some (linked_twice link.side (path_id link.path).span) else None) ≡ again_fault top before link
   again_linked_walked before have = ap (λ (b : Bool). if b then Some (linked_twice link.side (path_id link.path).span) else None) (any_walked (items_on link.side before) have)
 
 -- a link, where this is what comes of its place and its name
@@ -197,7 +197,7 @@ start_sorted m xs types ids are listed imports exports Imported = ap (flat_map e
 start_sorted m xs types ids are listed imports exports Exported = ap (flat_map entry_sorted) exports
 
 -- that of what is put on its side, after the names of the scope in turn and what is there
-pub put_walked : (m : Members) (xs : List ScopeName) (order : List ℕ) (ids : List Id) (before : List SideItem) (x : SideItem) → ids ≡ map local_id (in_turn xs order) → ((s : WorldSide) → defined_on s m.in_use ≡ names_on s (map name_of_id ids) ++ names_of_items (items_on s before)) → ((s : WorldSide) → sorted_on s m.sides ≡ side_sorted s xs (items_on s before) order) → put_fault m x ≡ own_fault xs (items_on (item_side x) before) order x
+pub put_walked : (m : Members) (xs : List ScopeName) (order : List ℕ) (ids : List Id) (before : List SideItem) (x : SideItem) → ids ≡ map local_id (in_turn xs order) → ((s : WorldSide) → defined_on s m.in_use ≡ names_on s (map name_of_id ids) ++ flat_map item_names (items_on s before)) → ((s : WorldSide) → sorted_on s m.sides ≡ side_sorted s xs (items_on s before) order) → put_fault m x ≡ own_fault xs (items_on (item_side x) before) order x
 put_walked m xs order ids before x are state sorts =
     let side = item_side x in
     let there = items_on side before in
@@ -241,8 +241,8 @@ module _ (wk : ItemWalk) (known : Known) (order : List ℕ) (turned : wk.scope.n
       m = now.walked.members
 
       -- what is on the sides by now
-      in_use : (s : WorldSide) → defined_on s m.in_use ≡ names_on s (map name_of_id wk.scope.names.turn.items) ++ names_of_items (items_on s done)
-      in_use s = adds.in_use s ∙ ap (λ l. l ++ names_of_items (items_on s done)) (begun.in_use s)
+      in_use : (s : WorldSide) → defined_on s m.in_use ≡ names_on s (map name_of_id wk.scope.names.turn.items) ++ flat_map item_names (items_on s done)
+      in_use s = adds.in_use s ∙ ap (λ l. l ++ flat_map item_names (items_on s done)) (begun.in_use s)
 
       sorts : (s : WorldSide) → sorted_on s m.sides ≡ side_sorted s xs (items_on s done) order
       sorts s =
@@ -252,8 +252,8 @@ module _ (wk : ItemWalk) (known : Known) (order : List ℕ) (turned : wk.scope.n
       put : (x : SideItem) → put_fault m x ≡ named done x
       put x = put_walked m xs order wk.scope.names.turn.items done x turned in_use sorts
 
-      linked : (s : WorldSide) → linked_on s m.links ≡ bare_places (lead wk) (items_on s done)
-      linked s = adds.linked s ∙ ap (λ l. l ++ bare_places (lead wk) (items_on s done)) (begun.linked s)
+      linked : (s : WorldSide) → linked_on s m.links ≡ flat_map (bare_place (lead wk)) (items_on s done)
+      linked s = adds.linked s ∙ ap (λ l. l ++ flat_map (bare_place (lead wk)) (items_on s done)) (begun.linked s)
 
       -- a function
       function_walked : (fn : SourceFunction) → option_or (function_fault (signed_by (word_fault (scope_names (item_view wk.item))) handle (flat_map item_function done ++ fn ∷ [])) (scope_names (item_view wk.item)) fn) (put_fault m (SideFunction fn)) ≡ member done (SideFunction fn)

@@ -4,7 +4,7 @@ use Rattle.wit_contents.proofs.Names.{Called, Defined, Exported, Fault, ForeignN
 use Rattle.wit_arena.proofs.Common.{Item}
 use Rattle.wit_items.proofs.Common.{resource_items}
 use Rattle.wit_signatures.specs.FunctionsOfScope.{name_key, name_of_function, name_of_id}
-use Rattle.wit_externs.specs.Clash.{again, again_fault, alone_faults, defined_fault, lone_setters, names_of_items, signed_by}
+use Rattle.wit_externs.specs.Clash.{again, again_fault, alone_faults, defined_fault, lone_setters, signed_by, item_names}
 use Rattle.wit_item_entries.specs.ReachedFaults.{local_fault, used_fault, functions_fault}
 use Rattle.wit_item_entries.proofs.NameOrder.{all_used, bare_name}
 use Rattle.wit_syntax.proofs.Setters.{declared_includes}
@@ -82,7 +82,7 @@ module _ (files : List PackageFile) (steps : ℕ) (inside : Item → Option Faul
   member = member_fault files steps inside i order
 
   abbrev alone : List SourceFunction → SourceFunction → Option Fault
-  alone = (λ (before : List SourceFunction) (fn : SourceFunction). option_or (function_fault (signed_by (word_fault xs) handle (before ++ fn ∷ [])) xs fn) (again_fault (taken (role_side fn.role) ++ names_of_items (items_on (role_side fn.role) (map SideFunction before))) (name_of_function fn)))
+  alone = (λ (before : List SourceFunction) (fn : SourceFunction). option_or (function_fault (signed_by (word_fault xs) handle (before ++ fn ∷ [])) xs fn) (again_fault (taken (role_side fn.role) ++ flat_map item_names (items_on (role_side fn.role) (map SideFunction before))) (name_of_function fn)))
 
   called_free : (extern : Bool) (as_crossed : Called → Called → Fault) (before : List Called) (c : Called) → extern ≡ false → called_fault extern as_crossed before c ≡ folded_fault before c
   called_free true as_crossed before c own = absurd (cc)
@@ -93,7 +93,7 @@ module _ (files : List PackageFile) (steps : ℕ) (inside : Item → Option Faul
       let side = role_side fn.role in
       let there = items_on side (map SideFunction before) in
       let c : Called = record { name = fn.name; span = fn.span; sort = codes "func" } in
-      let names = taken side ++ names_of_items there in
+      let names = taken side ++ flat_map item_names there in
       let signed : function_fault (signed_fault xs (before ++ fn ∷ []) handle) xs fn ≡ function_fault (signed_fault xs (flat_map item_function (map SideFunction before) ++ fn ∷ []) handle) xs fn = ap (λ (l : List SourceFunction). function_fault (signed_fault xs (l ++ fn ∷ []) handle) xs fn) (sym (resource_items before)) in
       let all = side_called side xs there order in
       let folded : again_fault names (name_of_function fn) ≡ folded_fault all c = ap (λ (l : List Name). again_fault l (name_of_function fn)) (sym (all_used side xs there order ids refl)) ∙ clash-made name_key again bare_name all c in

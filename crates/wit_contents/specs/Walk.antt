@@ -5,7 +5,7 @@ use Rattle.wit_tree.specs.declared.tree.WorldItem.{WorldItem}
 use Rattle.wit_walk.specs.Sorts.{item_sorted}
 use Rattle.wit_sides.specs.SideNames.{defined_on}
 use Rattle.wit_rules.specs.Signatures.{function_view, AreResults}
-use Rattle.wit_externs.specs.Clash.{names_of_items, bare_places, linked_on}
+use Rattle.wit_externs.specs.Clash.{linked_on, bare_place, item_names}
 use Rattle.wit_world_sides.specs.Members.{AreKeyed, Entry, sorted_on, put_fault, put_link_fault}
 use Rattle.wit_links.specs.Links.{IsSeen}
 use Rattle.wit_item_entries.specs.AddedNames.{IsTurn}
@@ -80,8 +80,8 @@ pub record AddsMembers (w : ItemWalk) (prefix xs : List SideItem) (a b : Stage) 
   pub adds : Appends a.walked.required.items b.walked.required.items (λ rs. (s : Address) → AddsSides (resolved_scopes_of w.interfaces) (length w.interfaces.arena) s w.scope.names.types a.growing.types b.growing.types a.growing.inside b.growing.inside functions rs xs (inline_after (item_view w.item) prefix xs))
   pub extended : IsExtended a.growing.types b.growing.types
   pub seen : (ys : List SideItem) → IsSeen ys a.walked.seen → IsSeen (ys ++ xs) b.walked.seen
-  pub in_use : (s : WorldSide) → defined_on s b.walked.members.in_use ≡ defined_on s a.walked.members.in_use ++ names_of_items (items_on s xs)
-  pub linked : (s : WorldSide) → linked_on s b.walked.members.links ≡ linked_on s a.walked.members.links ++ bare_places (lead w) (items_on s xs)
+  pub in_use : (s : WorldSide) → defined_on s b.walked.members.in_use ≡ defined_on s a.walked.members.in_use ++ flat_map item_names (items_on s xs)
+  pub linked : (s : WorldSide) → linked_on s b.walked.members.links ≡ linked_on s a.walked.members.links ++ flat_map (bare_place (lead w)) (items_on s xs)
   pub sorted : (s : WorldSide) → sorted_on s b.walked.members.sides ≡ sorted_on s a.walked.members.sides ++ flat_map item_sorted (items_on s xs)
   pub keyed : AreKeyed b.walked.members
   pub are_present : (all : List Address) → HavePlaces w a.growing.inside (inline_after (item_view w.item) prefix xs) all → (s : WorldSide) → (more : List Entry) × (entries_of s b.walked.members.sides ≡ entries_of s a.walked.members.sides ++ more) × AreSideItems all (item_view w.item).top s xs functions (map address (inline_after (item_view w.item) prefix xs)) more

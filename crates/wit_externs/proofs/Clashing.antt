@@ -1,11 +1,11 @@
 -- What is on each side once names are defined there.
 use Rattle.std.proofs.Common.{◌≡◌, ℕ, ◌+◌, Bool, List, [], ◌∷◌, ◌++◌, take, map, Some, None, refl, sym, ap, ◌∙◌, subst, append_assoc}
-use Rattle.wit_arena.proofs.Common.{AllDiffer, Constructor, Err, Exported, Freestanding, FuncForm, Id, Imported, Method, Ok, OnOk, OnSide, Result, Role, SideItem, Span, Static, WorldSide, append-nil, item_side, items_on, names_on, role_side, same_side, slice_get}
+use Rattle.wit_arena.proofs.Common.{AllDiffer, Constructor, Err, Exported, Freestanding, FuncForm, Id, Imported, Method, Ok, OnOk, OnSide, Result, Role, SideItem, Span, Static, WorldSide, append-nil, item_side, items_on, names_on, role_side, same_side, slice_get, flat_map}
 use Rattle.wit_refusals.specs.NameScopes.{Name, AreUsed}
 use Rattle.wit_sides.specs.SideNames.{only_on}
 use Rattle.wit_rules.specs.Signatures.{across_of}
 use Rattle.wit_signatures.specs.FunctionsOfScope.{name_key}
-use Rattle.wit_externs.specs.Clash.{item_names, names_of_items}
+use Rattle.wit_externs.specs.Clash.{item_names}
 use Rattle.wit_externs.proofs.Named.{keys_more}
 use Rattle.wit_externs.proofs.Steps.{kept_next, kept_one}
 
@@ -48,18 +48,18 @@ abbrev members_on : WorldSide → SideItem → Bool
 members_on s x = same_side s (item_side x)
 
 -- the name of an item is all that it adds to a side, and one without a name adds nothing
-pub item_on : (s side : WorldSide) (x : SideItem) (n : Name) → item_side x ≡ side → item_names x ≡ n ∷ [] → only_on s side n ≡ names_of_items (items_on s (x ∷ []))
+pub item_on : (s side : WorldSide) (x : SideItem) (n : Name) → item_side x ≡ side → item_names x ≡ n ∷ [] → only_on s side n ≡ flat_map item_names (items_on s (x ∷ []))
 item_on s side x n there named = ap (λ (t : WorldSide). only_on s t n) (sym there) ∙ kept_one item_names (members_on s) x (n ∷ []) named
 
 -- of what a definition says of its result, as the name of an item
-pub item_defined : {T E : Type 0} (r : Result T E) (x : SideItem) (side : WorldSide) (old new : WorldSide → List Name) (name : List ℕ) (span : Span) → item_side x ≡ side → item_names x ≡ (name, span) ∷ [] → OnOk r ((s : WorldSide) → new s ≡ old s ++ only_on s side (name, span)) → OnOk r ((s : WorldSide) → new s ≡ old s ++ names_of_items (items_on s (x ∷ [])))
+pub item_defined : {T E : Type 0} (r : Result T E) (x : SideItem) (side : WorldSide) (old new : WorldSide → List Name) (name : List ℕ) (span : Span) → item_side x ≡ side → item_names x ≡ (name, span) ∷ [] → OnOk r ((s : WorldSide) → new s ≡ old s ++ only_on s side (name, span)) → OnOk r ((s : WorldSide) → new s ≡ old s ++ flat_map item_names (items_on s (x ∷ [])))
 item_defined (Ok done) x side old new name span there named defined = λ s. defined s ∙ ap (λ (l : List Name). old s ++ l) (item_on s side x (name, span) there named)
 item_defined (Err e) x side old new name span there named defined = tt
 
 -- and what one more item adds to each side
-pub sides_more : (s : WorldSide) (old mid new : List Name) (xs : List SideItem) (i : ℕ) (x : SideItem) → slice_get xs i ≡ Some x → mid ≡ old ++ names_of_items (items_on s (take i xs)) → new ≡ mid ++ names_of_items (items_on s (x ∷ [])) → new ≡ old ++ names_of_items (items_on s (take (i + 1) xs))
+pub sides_more : (s : WorldSide) (old mid new : List Name) (xs : List SideItem) (i : ℕ) (x : SideItem) → slice_get xs i ≡ Some x → mid ≡ old ++ flat_map item_names (items_on s (take i xs)) → new ≡ mid ++ flat_map item_names (items_on s (x ∷ [])) → new ≡ old ++ flat_map item_names (items_on s (take (i + 1) xs))
 sides_more s old mid new xs i x at before after =
     after
-    ∙ ap (λ (l : List Name). l ++ names_of_items (items_on s (x ∷ []))) before
-    ∙ append_assoc old (names_of_items (items_on s (take i xs))) (names_of_items (items_on s (x ∷ [])))
+    ∙ ap (λ (l : List Name). l ++ flat_map item_names (items_on s (x ∷ []))) before
+    ∙ append_assoc old (flat_map item_names (items_on s (take i xs))) (flat_map item_names (items_on s (x ∷ [])))
     ∙ ap (λ (l : List Name). old ++ l) (sym (kept_next item_names (members_on s) xs i x at))

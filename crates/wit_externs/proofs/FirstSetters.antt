@@ -9,7 +9,7 @@ use Rattle.wit_rules.specs.declared.borrowed.BorrowedFunction.{BorrowedFunction}
 use Rattle.wit_rules.specs.Signatures.{function_view}
 use Rattle.wit_signatures.specs.FunctionsOfScope.{name_of_function, name_of_id}
 use Rattle.wit_signatures.proofs.Mangling.{no_label-getter_of, no_setter-label, set_view}
-use Rattle.wit_externs.specs.Clash.{lone_setters, all_on, names_of_items}
+use Rattle.wit_externs.specs.Clash.{lone_setters, item_names}
 
 -- one of these names is this, and the fault of a name: it is a setter's, and none of these is its getter's
 abbrev is_among : List Name → List ℕ → Bool
@@ -77,10 +77,10 @@ merged_link : (name : Option Id) (ns : List Name) (gs : List SourceFunction) →
 merged_link None ns gs rest = rest
 merged_link (Some id) ns gs rest = inl (id, refl, rest)
 
-merged_items : (items : List SideItem) → AreMerged (names_of_items items) (flat_map item_function items)
+merged_items : (items : List SideItem) → AreMerged (flat_map item_names items) (flat_map item_function items)
 merged_items [] = refl
 merged_items (SideFunction fn ∷ items) = inr (fn, flat_map item_function items, refl, refl, merged_items items)
-merged_items (SideLink link ∷ items) = merged_link link.name (names_of_items items) (flat_map item_function items) (merged_items items)
+merged_items (SideLink link ∷ items) = merged_link link.name (flat_map item_names items) (flat_map item_function items) (merged_items items)
 merged_items (SideInline x name items ∷ others) = inl (name, refl, merged_items others)
 
 functions_on : (side : WorldSide) (items : List SideItem) → flat_map item_function (items_on side items) ≡ on_side side (flat_map item_function items)
@@ -107,8 +107,8 @@ merged_types : (side : WorldSide) (ids : List Id) (ns : List Name) (gs : List So
 merged_types Imported ids ns gs rest = merged_after ids ns gs rest
 merged_types Exported ids ns gs rest = rest
 
-pub merged_side : (side : WorldSide) (ids : List Id) (items : List SideItem) (fns : List SourceFunction) → flat_map item_function items ≡ fns → AreMerged (all_on side ids items) (on_side side fns)
-merged_side side ids items fns are = subst (AreMerged (all_on side ids items)) (functions_on side items ∙ ap (on_side side) are) (merged_types side ids (names_of_items (items_on side items)) (flat_map item_function (items_on side items)) (merged_items (items_on side items)))
+pub merged_side : (side : WorldSide) (ids : List Id) (items : List SideItem) (fns : List SourceFunction) → flat_map item_function items ≡ fns → AreMerged (names_on side (map name_of_id ids) ++ flat_map item_names (items_on side items)) (on_side side fns)
+merged_side side ids items fns are = subst (AreMerged (names_on side (map name_of_id ids) ++ flat_map item_names (items_on side items))) (functions_on side items ∙ ap (on_side side) are) (merged_types side ids (flat_map item_names (items_on side items)) (flat_map item_function (items_on side items)) (merged_items (items_on side items)))
 
 -- a text that is no label is among these names where it is that of a function
 any_merged : (g : List ℕ) → is_label g ≡ false → (ns : List Name) (gs : List SourceFunction) → AreMerged ns gs → is_among ns g ≡ list_any (λ (fn : SourceFunction). bytes_eq fn.name g) gs

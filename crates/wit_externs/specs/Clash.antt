@@ -23,16 +23,9 @@ item_names (SideFunction fn) = name_of_function fn ∷ []
 item_names (SideLink link) = option_map_or (λ id. name_of_id id ∷ []) link.name []
 item_names (SideInline x name items) = name_of_id name ∷ []
 
-abbrev pub names_of_items : List SideItem → List Name
-names_of_items items = flat_map item_names items
-
--- the names on a side: those of types, and then those of what comes after them
-abbrev pub all_on : WorldSide → List Id → List SideItem → List Name
-all_on side ids items = names_on side (map name_of_id ids) ++ names_of_items (items_on side items)
-
 -- after the names on each side those of these were defined there
 abbrev pub DefinesNames : Sides → Sides → List SideItem → Type 0
-DefinesNames old new items = (side : WorldSide) → defined_on side new ≡ defined_on side old ++ names_of_items (items_on side items)
+DefinesNames old new items = (side : WorldSide) → defined_on side new ≡ defined_on side old ++ flat_map item_names (items_on side items)
 
 -- on a side on which no two names had one key, none have
 abbrev pub StayApart : Sides → Sides → Type 0
@@ -40,7 +33,7 @@ StayApart old new = (side : WorldSide) → AllDiffer (map name_key (defined_on s
 
 -- the names on the sides are those of types, and then those of what comes after them
 abbrev pub AreNamesOf : Sides → List Id → List SideItem → Type 0
-AreNamesOf names ids items = (side : WorldSide) → defined_on side names ≡ all_on side ids items
+AreNamesOf names ids items = (side : WorldSide) → defined_on side names ≡ names_on side (map name_of_id ids) ++ flat_map item_names (items_on side items)
 
 -- and of what comes after them these are the functions
 abbrev pub AreNamesWith : Sides → List Id → List SourceFunction → Type 0
@@ -50,9 +43,6 @@ AreNamesWith names ids fns = (items : List SideItem) × (flat_map item_function 
 abbrev pub bare_place : (UsePath → Option ℕ) → SideItem → List ℕ
 bare_place lead (SideLink link) = option_map_or (λ id. []) link.name (option_to_list (lead link.path))
 bare_place lead x = []
-
-abbrev pub bare_places : (UsePath → Option ℕ) → List SideItem → List ℕ
-bare_places lead xs = flat_map (bare_place lead) xs
 
 -- the places of the interfaces on a side that have no name of their own
 abbrev pub linked_on : WorldSide → Links → List ℕ
@@ -97,7 +87,7 @@ signed_by word handle fns t = type_fault (word fns) (λ (id : Id). option_or (wo
 
 -- of functions, one after another
 abbrev pub alone_faults : (List SourceFunction → Id → Option Fault) → (Id → Option Fault) → List ScopeName → (WorldSide → List Name) → List SourceFunction → Option Fault
-alone_faults word handle xs names fns = first_after (λ (before : List SourceFunction) (fn : SourceFunction). option_or (function_fault (signed_by word handle (before ++ fn ∷ [])) xs fn) (again_fault (names (role_side fn.role) ++ names_of_items (items_on (role_side fn.role) (map SideFunction before))) (name_of_function fn))) [] fns
+alone_faults word handle xs names fns = first_after (λ (before : List SourceFunction) (fn : SourceFunction). option_or (function_fault (signed_by word handle (before ++ fn ∷ [])) xs fn) (again_fault (names (role_side fn.role) ++ flat_map item_names (items_on (role_side fn.role) (map SideFunction before))) (name_of_function fn))) [] fns
 
 -- of setters: the first of functions that has no getter among them
 abbrev pub lone_setters : List SourceFunction → Option Fault

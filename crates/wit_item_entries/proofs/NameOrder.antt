@@ -9,7 +9,7 @@ use Rattle.wit_item_entries.specs.AddedNames.{IsTurn}
 use Rattle.wit_item_entries.proofs.ReachedFaults.{turn_texts}
 use Rattle.wit_rules.specs.declared.borrowed.BorrowedFunction.{BorrowedFunction}
 use Rattle.wit_rules.specs.Signatures.{function_view}
-use Rattle.wit_externs.specs.Clash.{all_on, item_names, names_of_items}
+use Rattle.wit_externs.specs.Clash.{item_names}
 use Rattle.wit_arena.proofs.Common.{Item}
 
 -- the key of a label is the label in lower case
@@ -38,8 +38,8 @@ alone Imported xs ids t lower = turn_keys xs ids t lower
 alone Exported xs ids t lower = differ_none
 
 -- the keys of their names differ where none has a letter in upper case
-pub names_alone : (side : WorldSide) (xs : List ScopeName) (ids : List Id) (hs : List BorrowedFunction) → length hs ≡ 0 → IsTurn xs ids → list_any (λ (id : Id). list_any is_ascii_uppercase id.name.now) ids ≡ false → AllDiffer (map name_key (all_on side ids (map SideFunction (map function_view hs))))
-names_alone side xs ids hs none t lower = subst (λ (l : List BorrowedFunction). AllDiffer (map name_key (all_on side ids (map SideFunction (map function_view l))))) (sym (nil_from_length hs none)) (alone side xs ids t lower)
+pub names_alone : (side : WorldSide) (xs : List ScopeName) (ids : List Id) (hs : List BorrowedFunction) → length hs ≡ 0 → IsTurn xs ids → list_any (λ (id : Id). list_any is_ascii_uppercase id.name.now) ids ≡ false → AllDiffer (map name_key (names_on side (map name_of_id ids) ++ flat_map item_names (items_on side (map SideFunction (map function_view hs)))))
+names_alone side xs ids hs none t lower = subst (λ (l : List BorrowedFunction). AllDiffer (map name_key (names_on side (map name_of_id ids) ++ flat_map item_names (items_on side (map SideFunction (map function_view l)))))) (sym (nil_from_length hs none)) (alone side xs ids t lower)
 
 -- Names that are taken on a side, as they are called there: where their keys differ, so do those of all that is called.
 -- what is called, without the word for it
@@ -55,7 +55,7 @@ bare_item (SideFunction fn) = refl
 bare_item (SideLink link) = bare_id link.name
 bare_item (SideInline x name items) = refl
 
-bare_items : (items : List SideItem) → map bare_name (flat_map item_called items) ≡ names_of_items items
+bare_items : (items : List SideItem) → map bare_name (flat_map item_called items) ≡ flat_map item_names items
 bare_items [] = refl
 bare_items (x ∷ items) = map-append bare_name (item_called x) (flat_map item_called items) ∙ ap₂ (λ a b. a ++ b) (bare_item x) (bare_items items)
 
@@ -68,13 +68,13 @@ bare_on Imported xs ids are = bare_names xs ∙ ap (map name_of_id) (sym are)
 bare_on Exported xs ids are = refl
 
 -- the names of a scope in turn on a side, and then those of what comes after them
-pub all_used : (side : WorldSide) (xs : List ScopeName) (items : List SideItem) (order : List ℕ) (ids : List Id) → ids ≡ map local_id (in_turn xs order) → map bare_name (side_called side xs items order) ≡ names_on side (map name_of_id ids) ++ names_of_items items
+pub all_used : (side : WorldSide) (xs : List ScopeName) (items : List SideItem) (order : List ℕ) (ids : List Id) → ids ≡ map local_id (in_turn xs order) → map bare_name (side_called side xs items order) ≡ names_on side (map name_of_id ids) ++ flat_map item_names items
 all_used side xs items order ids are =
     map-append bare_name (map name_called (names_on side (in_turn xs order))) (flat_map item_called items)
     ∙ ap₂ (λ a b. a ++ b) (bare_on side (in_turn xs order) ids are) (bare_items items)
 
 -- where the keys of what is taken on a side differ, so do those of all that is called there
-pub differ_called : (side : WorldSide) (xs : List ScopeName) (items : List SideItem) (order : List ℕ) (ids : List Id) → ids ≡ map local_id (in_turn xs order) → AllDiffer (map name_key (all_on side ids items)) → AllDiffer (map called_key (side_called side xs (items_on side items) order))
+pub differ_called : (side : WorldSide) (xs : List ScopeName) (items : List SideItem) (order : List ℕ) (ids : List Id) → ids ≡ map local_id (in_turn xs order) → AllDiffer (map name_key (names_on side (map name_of_id ids) ++ flat_map item_names (items_on side items))) → AllDiffer (map called_key (side_called side xs (items_on side items) order))
 differ_called side xs items order ids are h = subst AllDiffer (ap (map name_key) (sym (all_used side xs (items_on side items) order ids are)) ∙ map_map name_key bare_name (side_called side xs (items_on side items) order)) h
 
 -- An interface has functions alone on its sides, and they are where imports do.
@@ -87,17 +87,17 @@ pub all_imported : (item : Item) → is_world item ≡ false → on_side Importe
 all_imported item sort = ap (on_side Imported) (functions_parts item) ∙ declared_imported item.declared sort ∙ sym (functions_parts item)
 
 -- the names of functions that a world would import
-names_functions : (fns : List SourceFunction) → names_of_items (items_on Imported (map SideFunction fns)) ≡ map name_of_function (on_side Imported fns)
+names_functions : (fns : List SourceFunction) → flat_map item_names (items_on Imported (map SideFunction fns)) ≡ map name_of_function (on_side Imported fns)
 names_functions [] = refl
 names_functions (fn ∷ fns) =
     let test = same_side Imported (role_side fn.role) in
     let items = items_on Imported (map SideFunction fns) in
     let rest = on_side Imported fns in
     elim (cases_Bool test) [
-      | inl hit ↦ ap names_of_items (cond-true test (SideFunction fn ∷ items) items hit) ∙ ap (λ (l : List Name). name_of_function fn ∷ l) (names_functions fns) ∙ sym (ap (map name_of_function) (cond-true test (fn ∷ rest) rest hit))
-      | inr miss ↦ ap names_of_items (cond-false test (SideFunction fn ∷ items) items miss) ∙ names_functions fns ∙ sym (ap (map name_of_function) (cond-false test (fn ∷ rest) rest miss))
+      | inl hit ↦ ap (λ (items : List SideItem). flat_map item_names items) (cond-true test (SideFunction fn ∷ items) items hit) ∙ ap (λ (l : List Name). name_of_function fn ∷ l) (names_functions fns) ∙ sym (ap (map name_of_function) (cond-true test (fn ∷ rest) rest hit))
+      | inr miss ↦ ap (λ (items : List SideItem). flat_map item_names items) (cond-false test (SideFunction fn ∷ items) items miss) ∙ names_functions fns ∙ sym (ap (map name_of_function) (cond-false test (fn ∷ rest) rest miss))
     ]
 
 -- the names on the side of imports are those of types and of functions
-pub names_imported : (item : Item) → is_world item ≡ false → (ids : List Id) → all_on Imported ids (map SideFunction (functions item)) ≡ map name_of_id ids ++ map name_of_function (functions item)
+pub names_imported : (item : Item) → is_world item ≡ false → (ids : List Id) → (names_on Imported (map name_of_id ids) ++ flat_map item_names (items_on Imported (map SideFunction (functions item)))) ≡ map name_of_id ids ++ map name_of_function (functions item)
 names_imported item sort ids = ap (λ (l : List Name). map name_of_id ids ++ l) (names_functions (functions item) ∙ ap (map name_of_function) (all_imported item sort))

@@ -2,7 +2,7 @@
 use Rattle.std.proofs.Common.{◌≡◌, ℕ, true, List, [], ◌++◌, map, Option, Some, None, refl, sym, ap, ◌∙◌, is_none, zero, suc, ◌∷◌, length, Bool, false, ◌||◌, nat_eq, inl, inr, Contains, ◌+◌, cond, take, subst, arith, append_assoc, zero-add, suc-add, ◌⊎◌}
 use mathlib.Core.Path.{fun_ext}
 use Rattle.std.specs.Prelude.{is_some}
-use Rattle.wit_items.proofs.Common.{Id, Name, Names, Required, ResolvedScope, ScopeName, SourceFunction, TypeDef, TypeOwner, WorldSide, bytes_eq, env_of, find_some, if◌then◌else◌, in_turn, in_turn_among, local_id, local_name, local_names, lookup-place, lost_word, map_at, map_map, meaning, name_itself, names_in, names_on, option_map, slice_get, slice_get-map, word_fault, Address, AreFound, Interface, InterfaceNamed, IsFound, found_resolved_scope, resolved_scope_at, resolved_scopes, Fault, IsPlaced, Source as BorrowedSource, UsedName, any_found, any_some, at_contains, contains_at, false_from_ne_true, function_used, list_any, missing_at, name_cases, name_equal, name_twice, name_word, option_and_then, option_map_or, option_or, pointwise, prefix_of, resolved_scopes_of, source_target, source_view, unresolved_fault, use_view, AllDiffer, AreEnded, Defined, ForeignName, IsStored, Used, all_handles, all_handles-append, append-nil, at_back, at_prefix, at_split, at_take, body_types, defined, ended_append, ended_more, flat_map, flat_map-append, in_order, lookup-insert_entry, map-append, name_types, names-insert_entry, slice_get_within, used, AreDistinct, AtCycle, AtMissing, Defines, Env, Err, Finds, HasNames, InOrder, IsAllocationFailure, IsOrder, IsOutcome, Ok, Outcome, ParseError, Plain, Record, Reports, Result, TypeBody, Variant, all_shapes, all_words, body_of, cyclic_at, defines_more, definition_fault as scope_definition_fault, fault_of, finds_same, first_in, list_fault, local_names_fault, metadata_fault, missing_type_at, none_both, or_none_both, order_fault, order_of, outcome_one, rows_of, shape_of, type_fault, type_kept, type_word, words, words-head, «Type» as Written}
+use Rattle.wit_items.proofs.Common.{Id, Name, Names, Required, ResolvedScope, ScopeName, SourceFunction, TypeDef, TypeOwner, WorldSide, bytes_eq, env_of, find_some, if◌then◌else◌, in_turn, in_turn_among, local_id, local_name, local_names, lookup-place, lost_word, map_at, map_map, meaning, name_itself, names_in, names_on, option_map, slice_get, slice_get-map, word_fault, Address, AreFound, Interface, InterfaceNamed, IsFound, found_resolved_scope, resolved_scope_at, resolved_scopes, Fault, IsPlaced, Source as BorrowedSource, UsedName, any_found, any_some, at_contains, contains_at, false_from_ne_true, function_used, list_any, missing_at, name_cases, name_equal, name_twice, name_word, option_and_then, option_map_or, option_or, pointwise, prefix_of, resolved_scopes_of, source_target, source_view, unresolved_fault, use_view, AllDiffer, AreEnded, Defined, ForeignName, IsStored, Used, all_handles, all_handles-append, append-nil, at_back, at_prefix, at_split, at_take, body_types, defined, ended_append, ended_more, flat_map, flat_map-append, in_order, lookup-insert_entry, map-append, name_types, names-insert_entry, slice_get_within, used, AreDistinct, AtCycle, AtMissing, Defines, Env, Err, Finds, HasNames, InOrder, IsAllocationFailure, IsOrder, IsOutcome, Ok, Outcome, ParseError, Plain, Record, Reports, Result, TypeBody, Variant, all_shapes, all_words, body_of, cyclic_at, defines_more, definition_fault as scope_definition_fault, fault_of, finds_same, first_in, list_fault, local_names_fault, metadata_fault, missing_type_at, none_both, or_none_both, order_fault, order_of, outcome_one, rows_of, shape_of, type_fault, type_kept, type_word, words, words-head, «Type» as Written, source_place}
 use Rattle.wit_arena.proofs.Meant.{free_unmeant}
 use Rattle.wit_sides.specs.SideNames.{defined_on}
 use Rattle.wit_sides.specs.declared.sides.Sides.{Sides}
@@ -11,7 +11,7 @@ use Rattle.wit_signatures.specs.FunctionsOfScope.{name_of_id}
 use Rattle.wit_externs.specs.Clash.{words_in, EndsIn, IsSafe}
 use Rattle.wit_item_entries.specs.AddedNames.{AddsTurn, IsTurn}
 use Rattle.wit_items.specs.declared.interfaces.Interfaces.{Interfaces}
-use Rattle.wit_item_entries.specs.ReachedFaults.{interface_of, lost_name, used_fault, spelled_fault, local_fault, ordered_fault, EndsAlong, EndsInTurn, FindsDefinitions}
+use Rattle.wit_item_entries.specs.ReachedFaults.{lost_name, used_fault, spelled_fault, local_fault, ordered_fault, EndsAlong, EndsInTurn, FindsDefinitions}
 use Rattle.wit_type_tree.specs.declared.types.TypeDef.{TypeDef as Definition}
 use Rattle.wit_first.specs.OrderFaults.{IsTypeOrderFault}
 use Rattle.wit_walk.proofs.SameTypes.{Agree, types_same}
@@ -99,8 +99,8 @@ of_nothing fns id none =
     rw miss refl
 
 -- a used name from an interface that is resolved
-pub used_from : (is : Interfaces) (u : UsedName) (i : Interface) → unresolved_fault is.by_name (source_target u.from) ≡ None → interface_of is u.from ≡ Some i → used_fault is u ≡ (if is_none (env_of i.types u.name.now.name.name.now) then Some (lost_name (free_functions i) u.name.now.name) else None)
-used_from is u i none at = ap (λ (o : Option Fault). option_or o (option_map_or (λ (i : Interface). if is_none (env_of i.types u.name.now.name.name.now) then Some (lost_name (free_functions i) u.name.now.name) else None) (interface_of is u.from) None)) none ∙ ap (λ (o : Option Interface). option_map_or (λ (i : Interface). if is_none (env_of i.types u.name.now.name.name.now) then Some (lost_name (free_functions i) u.name.now.name) else None) o None) at
+pub used_from : (is : Interfaces) (u : UsedName) (i : Interface) → unresolved_fault is.by_name (source_target u.from) ≡ None → option_and_then (slice_get is.arena) (source_place is.by_name u.from) ≡ Some i → used_fault is u ≡ (if is_none (env_of i.types u.name.now.name.name.now) then Some (lost_name (free_functions i) u.name.now.name) else None)
+used_from is u i none at = ap (λ (o : Option Fault). option_or o (option_map_or (λ (i : Interface). if is_none (env_of i.types u.name.now.name.name.now) then Some (lost_name (free_functions i) u.name.now.name) else None) (option_and_then (slice_get is.arena) (source_place is.by_name u.from)) None)) none ∙ ap (λ (o : Option Interface). option_map_or (λ (i : Interface). if is_none (env_of i.types u.name.now.name.name.now) then Some (lost_name (free_functions i) u.name.now.name) else None) o None) at
 
 -- a name is in a table where one of the names there is spelled alike
 any_in : (names : Names) (name : List ℕ) → list_any (λ (k : List ℕ). bytes_eq k name) (names_in names) ≡ is_some (env_of names name)
@@ -132,7 +132,7 @@ local_next is names before u listed =
     ap (λ (b : Bool). option_or (used_fault is u) (if b then Some (name_twice id) else None)) one
 
 -- an interface that is resolved is found
-pub found_of : (is : Interfaces) (from : BorrowedSource) (i : Interface) → IsPlaced (prefix_of is.files) from → interface_of is from ≡ Some i → IsFound (resolved_scopes_of is) (source_view from) (resolved_scope_at (source_view from) i)
+pub found_of : (is : Interfaces) (from : BorrowedSource) (i : Interface) → IsPlaced (prefix_of is.files) from → option_and_then (slice_get is.arena) (source_place is.by_name from) ≡ Some i → IsFound (resolved_scopes_of is) (source_view from) (resolved_scope_at (source_view from) i)
 found_of is (borrowed_source.Declared path) i placed at = by (env_of is.by_name path.name.now) refl at
   where
     by : (o : Option ℕ) → env_of is.by_name path.name.now ≡ o → option_and_then (slice_get is.arena) o ≡ Some i → IsFound (resolved_scopes_of is) (source_view (borrowed_source.Declared path)) (resolved_scope_at (source_view (borrowed_source.Declared path)) i)

@@ -14,7 +14,6 @@ use Rattle.wit_setters.proofs.Results.{lookup-inserted}
 use Rattle.wit_arena.proofs.FunctionNames.{names_differ}
 use Rattle.wit_entries.specs.EntryFaults.{IsExtended, Requires}
 use Rattle.wit_signatures.specs.FunctionsOfScope.{name_of_function, name_of_made, name_key}
-use Rattle.wit_externs.specs.Clash.{all_on}
 use Rattle.wit_item_entries.specs.Body.{AddsBody}
 use Rattle.wit_item_entries.proofs.NameOrder.{differ_called, alone}
 use Rattle.wit_arena.proofs.Common.{world}
@@ -161,7 +160,7 @@ functions_view old mid new cs o item types ids own all fs n adds g q =
     }
 
 -- so its names and its functions were added
-pub body_added : (old mid new : List TypeDef) (cs : List ResolvedScope) (o : TypeOwner) (item : Item) (types : Names) (ids : List Id) (own all : List Required) (fs : List Function) → AddsTurn old mid cs o (scope_names item) types ids own → ((s : Address) → AddsFunctions mid new s types (functions item) fs) → IsExtended mid new → Requires (env_of types) new (all_handles (flat_map written_types (functions item))) own all → map name_of_made fs ≡ map name_of_function (functions item) → ((side : WorldSide) → AllDiffer (map name_key (all_on side ids (side_items item)))) → AddsBody old new cs o item types ids fs all
+pub body_added : (old mid new : List TypeDef) (cs : List ResolvedScope) (o : TypeOwner) (item : Item) (types : Names) (ids : List Id) (own all : List Required) (fs : List Function) → AddsTurn old mid cs o (scope_names item) types ids own → ((s : Address) → AddsFunctions mid new s types (functions item) fs) → IsExtended mid new → Requires (env_of types) new (all_handles (flat_map written_types (functions item))) own all → map name_of_made fs ≡ map name_of_function (functions item) → ((side : WorldSide) → AllDiffer (map name_key (names_on side (map name_of_id ids) ++ flat_map item_names (items_on side (side_items item))))) → AddsBody old new cs o item types ids fs all
 body_added old mid new cs o item types ids own all fs n adds g q named differ = record {
   middle = mid;
   adds = n.adds;
@@ -181,7 +180,7 @@ none_added old mid cs o item types ids own sort none lower n = body_added old mi
     (extended_same mid)
     (subst (λ (fns : List SourceFunction). Requires (env_of types) mid (all_handles (flat_map written_types fns)) own own) (sym none) (requires_none (env_of types) mid own))
     (ap (map name_of_function) (sym none))
-    (λ side. subst (λ (items : List SideItem). AllDiffer (map name_key (all_on side ids items))) (sym (side_items_functions item sort ∙ ap (map SideFunction) none)) (alone side (scope_names item) ids (turn_added old mid cs o (scope_names item) types ids own n) lower))
+    (λ side. subst (λ (items : List SideItem). AllDiffer (map name_key (names_on side (map name_of_id ids) ++ flat_map item_names (items_on side items)))) (sym (side_items_functions item sort ∙ ap (map SideFunction) none)) (alone side (scope_names item) ids (turn_added old mid cs o (scope_names item) types ids own n) lower))
 
 -- where functions alone are on the sides, and all of them are where imports are, their names differ if their keys do
 pub made_differ : (old new : List TypeDef) (cs : List ResolvedScope) (o : TypeOwner) (item : Item) (types : Names) (ids : List Id) (fs : List Function) (rs : List Required) → on_side Imported (functions item) ≡ functions item → side_items item ≡ map SideFunction (functions item) → AddsBody old new cs o item types ids fs rs → AllDiffer (map made_name fs)
@@ -189,5 +188,5 @@ made_differ old new cs o item types ids fs rs imported alone b =
     let xs = scope_names item in
     let fns = functions item in
     let own : map made_name fs ≡ map function_name fns = sym (map_map (λ (n : Name). n.0) name_of_made fs) ∙ ap (map (λ (n : Name). n.0)) b.named ∙ map_map (λ (n : Name). n.0) name_of_function fns in
-    let differ : AllDiffer (map name_key (all_on Imported ids (map SideFunction fns))) = subst (λ (items : List SideItem). AllDiffer (map name_key (all_on Imported ids items))) alone (b.differ Imported) in
+    let differ : AllDiffer (map name_key (names_on Imported (map name_of_id ids) ++ flat_map item_names (items_on Imported (map SideFunction fns)))) = subst (λ (items : List SideItem). AllDiffer (map name_key (names_on Imported (map name_of_id ids) ++ flat_map item_names (items_on Imported items)))) alone (b.differ Imported) in
     subst AllDiffer (ap (map function_name) imported ∙ sym own) (names_differ Imported xs fns b.adds.order (differ_called Imported xs (map SideFunction fns) b.adds.order ids b.turn differ))

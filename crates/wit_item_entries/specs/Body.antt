@@ -1,10 +1,10 @@
 -- What the names and the functions of an item add: the same of an interface and of a world.
-use Rattle.std.specs.Prelude.{◌≡◌, List, Vec, map}
-use Rattle.wit_arena.specs.Common.{AddsAfter, AddsScope, Function, Global, Id, Item, Names, Required, ResolvedScope, TypeDef, TypeOwner, functions, in_turn, local_id, scope_names, side_items, AllDiffer, WorldSide}
-use Rattle.wit_signatures.specs.FunctionsOfScope.{name_of_function, name_of_made, name_key}
+use Rattle.std.specs.Prelude.{◌≡◌, List, Vec, map, ◌++◌}
+use Rattle.wit_arena.specs.Common.{AddsAfter, AddsScope, Function, Global, Id, Item, Names, Required, ResolvedScope, TypeDef, TypeOwner, functions, in_turn, local_id, scope_names, side_items, AllDiffer, WorldSide, flat_map, items_on, names_on}
+use Rattle.wit_signatures.specs.FunctionsOfScope.{name_of_function, name_of_made, name_key, name_of_id}
 use Rattle.wit_item_entries.specs.AddedNames.{AddsTurn}
 use Rattle.wit_item_entries.specs.declared.names.ResolvedNames.{ResolvedNames}
-use Rattle.wit_externs.specs.Clash.{all_on}
+use Rattle.wit_externs.specs.Clash.{item_names}
 
 -- the names of an item were added, which are these in turn, and after them its functions
 pub record AddsBody (old new : List TypeDef) (cs : List ResolvedScope) (o : TypeOwner) (item : Item) (types : Names) (ids : List Id) (fs : List Function) (rs : List Required) : Type 0 where
@@ -13,7 +13,7 @@ pub record AddsBody (old new : List TypeDef) (cs : List ResolvedScope) (o : Type
   pub turn : ids ≡ map local_id (in_turn (scope_names item) adds.order)
   pub rest_after : AddsAfter middle new item adds.order types fs rs
   pub named : map name_of_made fs ≡ map name_of_function (functions item)
-  pub differ : (side : WorldSide) → AllDiffer (map name_key (all_on side ids (side_items item)))
+  pub differ : (side : WorldSide) → AllDiffer (map name_key (names_on side (map name_of_id ids) ++ flat_map item_names (items_on side (side_items item))))
 
 -- the names of an item were added, which are these, and then these types
 abbrev pub HasTurn : ResolvedNames → List TypeDef → Item → List TypeDef → List ResolvedScope → TypeOwner → Type 0

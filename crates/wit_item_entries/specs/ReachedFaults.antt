@@ -5,7 +5,6 @@ use Rattle.std.specs.Str.{bytes_eq}
 use Rattle.wit_first.specs.First.{first_after, repeat_of, Finds, first_in}
 use Rattle.wit_scopes.specs.BorrowedNames.{use_view, Borrowed, name_view, own_use}
 use Rattle.wit_scopes.specs.declared.scope_name.UsedName.{UsedName}
-use Rattle.wit_scopes.specs.declared.scope_name.Source.{Source as BorrowedSource}
 use Rattle.wit_items.specs.ItemPaths.{source_target}
 use Rattle.wit_items.specs.ResolvedInterfaces.{source_place, unresolved_fault, resolved_scopes_of}
 use Rattle.wit_items.specs.declared.interfaces.Interfaces.{Interfaces}
@@ -18,17 +17,13 @@ use Rattle.wit_externs.specs.Clash.{EndsIn, alone_faults, defined_fault}
 use Rattle.wit_walk.specs.Functions.{word_fault}
 use Rattle.wit_signatures.specs.FunctionsOfScope.{name_of_id}
 
--- the interface that a name comes from, where it is resolved
-abbrev pub interface_of : Interfaces → BorrowedSource → Option Interface
-interface_of is from = option_and_then (slice_get is.arena) (source_place is.by_name from)
-
 -- a name that means no type of an interface is that of one of its functions, or of nothing
 abbrev pub lost_name : List (List ℕ) → Id → Fault
 lost_name fns id = if list_any (bytes_eq id.name.now) fns then function_used id else missing_at 12 name_word id
 
 -- of a used name by itself: its interface, and then what it means there
 abbrev pub used_fault : Interfaces → UsedName → Option Fault
-used_fault is u = option_or (unresolved_fault is.by_name (source_target u.from)) (option_map_or (λ (i : Interface). if is_none (env_of i.types u.name.now.name.name.now) then Some (lost_name (free_functions i) u.name.now.name) else None) (interface_of is u.from) None)
+used_fault is u = option_or (unresolved_fault is.by_name (source_target u.from)) (option_map_or (λ (i : Interface). if is_none (env_of i.types u.name.now.name.name.now) then Some (lost_name (free_functions i) u.name.now.name) else None) (option_and_then (slice_get is.arena) (source_place is.by_name u.from)) None)
 
 -- a name of a scope is spelled alike
 abbrev pub spelled_fault : Names → UsedName → Option Fault

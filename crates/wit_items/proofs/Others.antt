@@ -2,7 +2,7 @@
 use Rattle.std.proofs.Common.{◌≡◌, ℕ, ◌<◌, Bool, List, [], ◌∷◌, length, Option, Some, None, inl, inr, refl, sym, ap, ◌∙◌, arith, Bor, zero, suc, ◌+◌, ◌≤◌, true, false, not, cond}
 use Rattle.std.specs.Slice.{IsItemAt}
 use Rattle.std.proofs.lemmas.List.Folds.{find_at as find_here}
-use Rattle.wit_arena.proofs.Common.{Id, Item, Local, PackageFile, Row, Target, all_items, bytes_eq, cases_Bool, find, is_world, is_world_at, item_name, item_named, item_row, item_rows, item_word, length-map, ltb-false, ltb-true, map, map_at, missing_at, name_cases, nat_lt, option_copied, option_map, place_of, position, position-Some, position_or_len, slice_get, slice_get_past, slice_get_read, target, Address, AstItem, Attribute, Contains, DefinitionPart, Extern, ExternPart, Foreign, ForeignNamed, ForeignVisit, FunctionPart, IncludePart, IsVisited, Names, PackageName, Part, UsePart, UsePath, World, WorldNamed, at_back, at_contains, at_side, at_split, env_of, extern_paths, extern_visits, find_at, find_passes, find_some, flat_map, flat_map_at, flat_map_has, foreign_at, foreign_entry, foreign_interfaces, foreign_items, foreign_worlds, inline_uses, kept_has, leads, leads_visited, part_use_at, part_visits, parts, path_among, path_visited, path_visits, same_address, same_address-equal, same_address-from, same_item, side_has, side_itself, slice_get-map, target_scope, use_path, visit_listed, visited, walk, worlds_at}
+use Rattle.wit_arena.proofs.Common.{Id, Item, Local, PackageFile, Row, Target, all_items, bytes_eq, cases_Bool, find, is_world, is_world_at, item_name, item_named, item_row, item_rows, item_word, length-map, ltb-false, ltb-true, map, map_at, missing_at, name_cases, nat_lt, option_copied, option_map, place_of, position, position-Some, position_or_len, slice_get, slice_get_past, slice_get_read, target, Address, AstItem, Attribute, Contains, DefinitionPart, Extern, ExternPart, Foreign, ForeignNamed, ForeignVisit, FunctionPart, IncludePart, IsVisited, Names, PackageName, Part, UsePart, UsePath, World, WorldNamed, at_back, at_contains, at_side, at_split, env_of, extern_paths, extern_visits, find_at, find_passes, find_some, flat_map, flat_map_at, flat_map_has, foreign_at, foreign_entry, foreign_interfaces, foreign_items, foreign_worlds, inline_uses, kept_has, leads, leads_visited, part_use_at, part_visits, parts, path_among, path_visited, path_visits, same_address, same_address-equal, same_address-from, same_item, side_has, side_itself, slice_get-map, target_scope, use_path, visit_listed, visited, walk, worlds_at, Declared, about}
 use Rattle.wit_first.specs.FileFaults.{lost_fault}
 use Rattle.wit_first.specs.UseFaults.{reached_fault}
 use Rattle.wit_first.proofs.FileFaults.{lost_at}
@@ -10,7 +10,7 @@ use Rattle.wit_files.specs.FileNames.{found_at, top_at}
 use Rattle.wit_files.specs.declared.file_names.Found.{Found}
 use Rattle.wit_files.specs.declared.file_names.Found.TheVariants.{Item as ItemAt, Foreign as ForeignAt}
 use Rattle.wit_syntax.proofs.Common.{Use as WrittenUse}
-use Rattle.wit_items.specs.ItemPaths.{HasPart, HasPath, entry_at, world_entry, world_at}
+use Rattle.wit_items.specs.ItemPaths.{HasAmong, HasPath, entry_at, world_entry, world_at}
 use Rattle.wit_model.specs.declared.ast_item.AstItem.TheVariants as entry
 
 -- whether two names are one does not hang on which is first
@@ -243,7 +243,7 @@ visited_here files p id here =
     find_some (is_at s) (foreign_items files) it.0 it.1 it.2 (same_address-from (visited it.1) s (it.3 ∙ here.is))
 
 -- the item of another package where a path of a part leads is visited
-pub part_visited : (files : List PackageFile) (place : ℕ) (part : Part) (attributes : List Attribute) (world : Bool) (from : UsePath) → HasPart files place part → part_visits part ≡ path_visits attributes world from → (p : PackageName) (id : Id) → leads (top_at files place) from ≡ Foreign p id → (v : ForeignVisit) × (foreign_at files (ForeignNamed p id.name.now) ≡ Some v)
+pub part_visited : (files : List PackageFile) (place : ℕ) (part : Part) (attributes : List Attribute) (world : Bool) (from : UsePath) → HasAmong files place (λ (d : Declared). (about d).parts) part → part_visits part ≡ path_visits attributes world from → (p : PackageName) (id : Id) → leads (top_at files place) from ≡ Foreign p id → (v : ForeignVisit) × (foreign_at files (ForeignNamed p id.name.now) ≡ Some v)
 part_visited files place part attributes world from h visits p id lead =
     let item : Item = record { top = top_at files place; declared = h.declared } in
     let q = at_contains (all_items files) item h.item.among in

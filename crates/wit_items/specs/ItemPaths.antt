@@ -38,17 +38,15 @@ pub record HasItem (files : List PackageFile) (place : ℕ) (d : Declared) : Typ
   pub within : place < length files
   pub among : Contains (all_items files) (item_in files place d)
 
--- this is a part of such an item
-pub record HasPart (files : List PackageFile) (place : ℕ) (part : Part) : Type 0 where
+-- this is among what such an item has
+pub record HasAmong {X : Type 0} (files : List PackageFile) (place : ℕ) (of : Declared → List X) (x : X) : Type 0 where
   pub declared : Declared
   pub item : HasItem files place declared
-  pub among : Contains (about declared).parts part
+  pub among : Contains (of declared) x
 
 -- this is a path of such an item that wants an interface
-pub record HasPath (files : List PackageFile) (place : ℕ) (path : UsePath) : Type 0 where
-  pub declared : Declared
-  pub item : HasItem files place declared
-  pub among : Contains (flat_map use_path (about declared).parts) path
+abbrev pub HasPath : List PackageFile → ℕ → UsePath → Type 0
+HasPath files place path = HasAmong files place (λ d. flat_map use_path (about d).parts) path
 
 -- the entry of the item of another package that is where a path leads
 abbrev pub entry_at : List PackageFile → Target → Option AstItem

@@ -1,15 +1,14 @@
 //! Includes of worlds.
 ghost use Rattle.std.specs.Prelude.{◌≡◌, ◌<◌, ◌++◌, IfOk, codes, length, map, string_bytes};
 ghost use Rattle.std.specs.Option.{option_copied};
-ghost use Rattle.wit_syntax.specs.Source.{leads, TheWorld, IncludePart};
+ghost use Rattle.wit_syntax.specs.Source.{leads, TheWorld, IncludePart, about};
 ghost use Rattle.wit_first.specs.First.{Finds};
 ghost use Rattle.wit_arena.specs.Whole.{renamed};
 ghost use Rattle.wit_arena.specs.Made.{include_in, scope_place};
 ghost use Rattle.wit_arena.specs.Resolving.{AreIncludes, GivesPlaces};
 ghost use Rattle.wit_files.specs.FileNames.{top_at};
-ghost use Rattle.wit_items.specs.ItemPaths.{HasItem, HasPart, world_at, world_entry, item_in};
+ghost use Rattle.wit_items.specs.ItemPaths.{HasItem, world_at, world_entry, item_in, HasAmong};
 ghost use Rattle.wit_links.specs.Links.{addresses_of, included_fault, includes_fault};
-
 use crate::worlds::Worlds;
 use std::alloc::{AllocError, Global};
 use wit_items::resolved_path::entry_of;
@@ -23,6 +22,7 @@ use wit_tree::ParseResult;
 use wit_tree::tree::{self, UsePath};
 use wit_types::WorldId;
 use wit_values::{Row, Text};
+
 
 /// What an include renames.
 fn renames(alloc: Global, names: &[tree::IncludeName<'_>]) -> Result<Row<IncludeName>, AllocError>
@@ -82,7 +82,7 @@ fn resolve_include<'f, 'a>(
     place: usize,
     include: &'f tree::Include<'a>,
 ) -> ParseResult<WorldInclude>
-    requires part { HasPart worlds.now.interfaces.now.files place (IncludePart include.now) }
+    requires part { HasAmong worlds.now.interfaces.now.files place (λ d. (about d).parts) (IncludePart include.now) }
     ensures is { IfOk result (λ i. (ws : _) → GivesPlaces (scope_place ws) (addresses_of worlds.now) → i ≡ include_in ws (top_at worlds.now.interfaces.now.files place) include.now) }
     ensures first { Finds (included_fault worlds.now (top_at worlds.now.interfaces.now.files place) include.now) result }
 {

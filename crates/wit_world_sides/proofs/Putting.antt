@@ -1,15 +1,16 @@
 -- What is put on a side of a world, one entry more: where keys differ it comes last.
 use Rattle.std.proofs.Common.{◌≡◌, ◌⊎◌, ℕ, ◌<◌, ◌+◌, Bool, true, false, List, [], ◌∷◌, ◌++◌, length, Some, map, nat_eq, if◌then◌else◌, inl, inr, refl, sym, ap, ◌∙◌, arith, append_assoc, zero, suc, None, subst, Option, take}
-use Rattle.wit_arena.proofs.Common.{AllDiffer, WorldKey, WorldSide, append-nil, at_back, at_prefix, cases_Bool, differ_at, eq-value as key_test, insert_entry, insert_entry-new, name_cases, put_on, same_side, slice_get, slice_get_within, ForeignName, Id, Names, ScopeName, SideItem, differ_by, differ_none, flat_map, flat_map-append, flat_map_has, folded_key, local_id, local_name, local_names, map-append, names_in, type_imports, Function, WorldItem, after_one, at_split, codes, cond-false, cond-true, function_item, function_of, types_stated, Called, Exported, Imported, Link, SideLink, item_side, items_on, link_item, link_key, map_map, names_on, option_map_or, Type_, at_take, key_at, map, pointwise, is_name, lookup, name_itself}
-use Rattle.wit_world_sides.specs.Members.{Entry, inserted_on, key_names, key_places, item_word, AreCalled, AreKeyed, Puts, entry_sorted, entries_of}
+use Rattle.wit_arena.proofs.Common.{AllDiffer, WorldKey, WorldSide, append-nil, at_back, at_prefix, cases_Bool, differ_at, eq-value as key_test, insert_entry, insert_entry-new, name_cases, put_on, same_side, slice_get, slice_get_within, ForeignName, Id, Names, ScopeName, SideItem, differ_by, differ_none, flat_map, flat_map-append, flat_map_has, folded_key, local_id, local_name, local_names, map-append, names_in, type_imports, Function, WorldItem, after_one, at_split, codes, cond-false, cond-true, function_item, function_of, types_stated, Called, Exported, Imported, Link, SideLink, item_side, items_on, link_item, link_key, map_map, names_on, option_map_or, Type_, at_take, key_at, map, pointwise, is_name, lookup, name_itself, option_to_list}
+use Rattle.wit_world_sides.specs.Members.{Entry, inserted_on, key_places, item_word, AreCalled, AreKeyed, Puts, entry_sorted, entries_of}
 use Rattle.wit_refusals.specs.NameScopes.{Name}
 use Rattle.wit_signatures.specs.FunctionsOfScope.{name_of_id, name_key}
-use Rattle.wit_externs.specs.Clash.{item_names, names_of_items, linked_on}
+use Rattle.wit_externs.specs.Clash.{item_names, linked_on}
 use Rattle.wit_walk.proofs.Common.{item_sorted, sort_among, sorted_name}
 use Rattle.wit_sides.specs.SideNames.{defined_on}
 use Rattle.wit_world_sides.specs.declared.members.Members.{Members}
 use Rattle.wit_model.specs.declared.world.WorldKey.TheVariants as key
 use Rattle.wit_model.specs.declared.world.WorldItem.TheVariants as item
+use Rattle.wit_model.specs.ItemsOfWorlds.{name_of}
 
 abbrev pub key_of : Entry → WorldKey
 key_of e = e.0
@@ -55,6 +56,9 @@ put_one s own prefix x differ = sym (append-nil (inserted_on s own x prefix)) �
 
 -- The keys of what a world has on a side differ, where its names do, and the places of interfaces without one.
 -- the names and the places among the keys of entries
+abbrev key_names : WorldKey → List (List ℕ)
+key_names k = option_to_list (name_of k)
+
 abbrev pub names_among : List Entry → List (List ℕ)
 names_among es = flat_map key_names (map key_of es)
 
@@ -102,7 +106,7 @@ pub places_both : (xs ys : List Entry) → places_among (xs ++ ys) ≡ places_am
 places_both xs ys = ap (flat_map key_places) (map-append key_of xs ys) ∙ flat_map-append key_places (map key_of xs) (map key_of ys)
 
 -- those of one entry, or of none
-pub entry_names : (b : Bool) (e : Entry) (x : SideItem) → key_names e.0 ≡ map (λ (n : Name). n.0) (item_names x) → names_among (if b then e ∷ [] else []) ≡ map (λ (n : Name). n.0) (names_of_items (if b then x ∷ [] else []))
+pub entry_names : (b : Bool) (e : Entry) (x : SideItem) → key_names e.0 ≡ map (λ (n : Name). n.0) (item_names x) → names_among (if b then e ∷ [] else []) ≡ map (λ (n : Name). n.0) (flat_map item_names (if b then x ∷ [] else []))
 entry_names true e x one = append-nil (key_names e.0) ∙ one ∙ ap (map (λ (n : Name). n.0)) (sym (append-nil (item_names x)))
 entry_names false e x one = refl
 
@@ -180,13 +184,13 @@ other_called x none f is = absurd (let wrong : None ≡ Some f = sym none ∙ is
 pub keyed_differ : (m : Members) → AreKeyed m → (s : WorldSide) → AllDiffer (map key_of (entries_of s m.sides))
 keyed_differ m keyed s = keys_apart (map key_of (entries_of s m.sides)) (subst AllDiffer (sym (keyed.names s)) (texts_differ (defined_on s m.in_use) (keyed.differ s))) (subst AllDiffer (sym (keyed.places s)) (keyed.apart s))
 
-module _ (m m' : Members) (x : SideItem) (e : Entry) (keyed : AreKeyed m) (in_use : (s : WorldSide) → defined_on s m'.in_use ≡ defined_on s m.in_use ++ names_of_items (items_on s (x ∷ []))) (differ : (s : WorldSide) → AllDiffer (map name_key (defined_on s m'.in_use))) (linked : (s : WorldSide) → linked_on s m'.links ≡ linked_on s m.links ++ (if same_side s (item_side x) then key_places e.0 else [])) (apart : (s : WorldSide) → AllDiffer (linked_on s m'.links)) (names : key_names e.0 ≡ map (λ (n : Name). n.0) (item_names x)) (called : IsCalled e) (sorts : entry_sorted e ≡ item_sorted x) (inserted : (s : WorldSide) → entries_of s m'.sides ≡ inserted_on s (item_side x) e (entries_of s m.sides)) where
+module _ (m m' : Members) (x : SideItem) (e : Entry) (keyed : AreKeyed m) (in_use : (s : WorldSide) → defined_on s m'.in_use ≡ defined_on s m.in_use ++ flat_map item_names (items_on s (x ∷ []))) (differ : (s : WorldSide) → AllDiffer (map name_key (defined_on s m'.in_use))) (linked : (s : WorldSide) → linked_on s m'.links ≡ linked_on s m.links ++ (if same_side s (item_side x) then key_places e.0 else [])) (apart : (s : WorldSide) → AllDiffer (linked_on s m'.links)) (names : key_names e.0 ≡ map (λ (n : Name). n.0) (item_names x)) (called : IsCalled e) (sorts : entry_sorted e ≡ item_sorted x) (inserted : (s : WorldSide) → entries_of s m'.sides ≡ inserted_on s (item_side x) e (entries_of s m.sides)) where
   names_then : (s : WorldSide) → names_among (entries_of s m.sides ++ put_on s (item_side x) e []) ≡ map (λ (n : Name). n.0) (defined_on s m'.in_use)
   names_then s =
       names_both (entries_of s m.sides) (put_on s (item_side x) e [])
       ∙ ap (λ (l : List (List ℕ)). l ++ names_among (put_on s (item_side x) e [])) (keyed.names s)
       ∙ ap (λ (l : List (List ℕ)). map (λ (n : Name). n.0) (defined_on s m.in_use) ++ l) (entry_names (same_side s (item_side x)) e x names)
-      ∙ sym (map-append (λ (n : Name). n.0) (defined_on s m.in_use) (names_of_items (items_on s (x ∷ []))))
+      ∙ sym (map-append (λ (n : Name). n.0) (defined_on s m.in_use) (flat_map item_names (items_on s (x ∷ []))))
       ∙ ap (map (λ (n : Name). n.0)) (sym (in_use s))
 
   places_then : (s : WorldSide) → places_among (entries_of s m.sides ++ put_on s (item_side x) e []) ≡ linked_on s m'.links

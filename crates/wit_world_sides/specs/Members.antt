@@ -1,6 +1,6 @@
 -- What a world has on its sides, with the names and the interfaces there, while one after another is put there, and its first fault: E43, E44 and E17.
 use Rattle.std.specs.Prelude.{◌≡◌, Bool, List, if◌then◌else◌, ℕ, true, false, [], ◌∷◌, Some, slice_get, ◌++◌, Option, codes, map, ◌&&◌, nat_eq, None, is_none}
-use Rattle.wit_arena.specs.Common.{AllDiffer, Exported, Fault, Function, Id, Imported, Include, Link, SideItem, SideLink, WorldItem, WorldKey, WorldSide, extern_link, flat_map, function_of, insert_entry, item_side, items_on, link_item, linked_twice, list_any, option_or, path_id, put_on, same_side, settled}
+use Rattle.wit_arena.specs.Common.{AllDiffer, Exported, Fault, Function, Id, Imported, Include, Link, SideItem, SideLink, WorldItem, WorldKey, WorldSide, extern_link, flat_map, function_of, insert_entry, item_side, items_on, link_item, linked_twice, list_any, option_or, path_id, put_on, same_side, settled, option_to_list}
 use Rattle.wit_model.specs.contracts.world.WorldKeyPartialEq.TheImpl.{eq-value as key_test}
 use Rattle.wit_world_sides.specs.declared.sides.WorldSides.{WorldSides}
 use Rattle.wit_walk.specs.Members.{is_extern}
@@ -8,13 +8,14 @@ use Rattle.wit_walk.specs.Sorts.{Sorted, item_sorted, crossed_among}
 use Rattle.wit_refusals.specs.NameScopes.{Name}
 use Rattle.wit_sides.specs.SideNames.{defined_on}
 use Rattle.wit_signatures.specs.FunctionsOfScope.{name_key, name_of_id}
-use Rattle.wit_externs.specs.Clash.{item_names, names_of_items, linked_on, again_fault}
+use Rattle.wit_externs.specs.Clash.{item_names, linked_on, again_fault}
 use Rattle.wit_world_sides.specs.declared.members.Members.{Members}
 use Rattle.wit_world_sides.specs.declared.members.PathExtern.{PathExtern}
 use Rattle.wit_first.specs.First.{first_in, repeat_of}
 use Rattle.wit_sides.specs.declared.sides.Sides.{Sides}
 use Rattle.wit_model.specs.declared.world.WorldKey.TheVariants as key
 use Rattle.wit_model.specs.declared.world.WorldItem.TheVariants as item
+use Rattle.wit_model.specs.ItemsOfWorlds.{name_of}
 
 -- whether there is no include
 abbrev pub none_of : List Include → Bool
@@ -50,17 +51,12 @@ item_word (item.Type_ id span) = codes "type"
 
 -- the name at a key, with the word for what is there
 abbrev pub entry_sorted : Entry → List Sorted
-entry_sorted (key.Name name, it) = (name, item_word it) ∷ []
-entry_sorted (key.Interface id, it) = []
+entry_sorted e = map (λ name. (name, item_word e.1)) (option_to_list (name_of e.0))
 
 abbrev pub sorted_on : WorldSide → WorldSides → List Sorted
 sorted_on side sides = flat_map entry_sorted (entries_of side sides)
 
--- the name that a key is, or the place
-abbrev pub key_names : WorldKey → List (List ℕ)
-key_names (key.Name n) = n ∷ []
-key_names (key.Interface i) = []
-
+-- the place that a key is, if it is no name
 abbrev pub key_places : WorldKey → List ℕ
 key_places (key.Name n) = []
 key_places (key.Interface i) = i ∷ []
@@ -68,7 +64,7 @@ key_places (key.Interface i) = i ∷ []
 -- the keys on each side are the names and the interfaces that are there, in order, of which no two are one; and functions are at
 -- their names
 pub record AreKeyed (m : Members) : Type 0 where
-  pub names : (s : WorldSide) → flat_map key_names (map (λ e. e.0) (entries_of s m.sides)) ≡ map (λ n. n.0) (defined_on s m.in_use)
+  pub names : (s : WorldSide) → flat_map (λ k. option_to_list (name_of k)) (map (λ e. e.0) (entries_of s m.sides)) ≡ map (λ n. n.0) (defined_on s m.in_use)
   pub places : (s : WorldSide) → flat_map key_places (map (λ e. e.0) (entries_of s m.sides)) ≡ linked_on s m.links
   pub differ : (s : WorldSide) → AllDiffer (map name_key (defined_on s m.in_use))
   pub apart : (s : WorldSide) → AllDiffer (linked_on s m.links)
@@ -76,7 +72,7 @@ pub record AreKeyed (m : Members) : Type 0 where
 
 -- one more was put on its side, as this entry: its name is there, or else the place that is its key
 pub record Puts (m m' : Members) (x : SideItem) (e : Entry) : Type 0 where
-  pub in_use : (s : WorldSide) → defined_on s m'.in_use ≡ defined_on s m.in_use ++ names_of_items (items_on s (x ∷ []))
+  pub in_use : (s : WorldSide) → defined_on s m'.in_use ≡ defined_on s m.in_use ++ flat_map item_names (items_on s (x ∷ []))
   pub linked : (s : WorldSide) → linked_on s m'.links ≡ linked_on s m.links ++ (if same_side s (item_side x) then key_places e.0 else [])
   pub put : (s : WorldSide) → entries_of s m'.sides ≡ entries_of s m.sides ++ put_on s (item_side x) e []
   pub sorted : entry_sorted e ≡ item_sorted x

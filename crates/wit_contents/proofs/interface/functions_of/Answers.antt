@@ -1,8 +1,8 @@
 use Rattle.std.proofs.Common.{◌≡◌, List, ◌++◌, Option, map, refl, sym, ap, ◌∙◌, subst}
-use Rattle.wit_contents.proofs.Names.{Fault, Imported, IsTurn, ScopeName, SideFunction, SourceFunction, env_of, err_from_is_err_and, functions, none_both, option_or, scope_item, side_items_functions}
+use Rattle.wit_contents.proofs.Names.{Fault, Imported, IsTurn, ScopeName, SideFunction, SourceFunction, env_of, err_from_is_err_and, functions, none_both, option_or, scope_item, side_items_functions, flat_map, items_on, names_on}
 use Rattle.wit_rules.specs.Signatures.{function_view}
 use Rattle.wit_signatures.specs.FunctionsOfScope.{name_of_id, name_of_function}
-use Rattle.wit_externs.specs.Clash.{lone_setters, all_on}
+use Rattle.wit_externs.specs.Clash.{lone_setters, item_names}
 use Rattle.wit_externs.proofs.AloneFaults.{safe_of}
 use Rattle.wit_item_entries.proofs.NameOrder.{all_imported, names_imported}
 use Rattle.wit_item_entries.proofs.ScopeFunctions.{turn_added, made_differ}
@@ -27,7 +27,7 @@ check_pairs-requires c = λ some.
     let ids = c.args.names.now.turn.items in
     let e = rw c.deref.ensures.value at c.in_ok-own.ensures in
     let fns : map function_view c.deref-2.result.now ≡ functions item = ap (map function_view) c.deref-2.ensures.value ∙ e.written in
-    let in_use : c.in_ok-own.own.in_use.imports ≡ map name_of_id ids ++ map name_of_function (functions item) = e.in_use (rw c.deref-2.ensures.value at some) Imported ∙ ap (λ (fns : List SourceFunction). all_on Imported ids (map SideFunction fns)) e.written ∙ names_imported item c.requires.sort ids in
+    let in_use : c.in_ok-own.own.in_use.imports ≡ map name_of_id ids ++ map name_of_function (functions item) = e.in_use (rw c.deref-2.ensures.value at some) Imported ∙ ap (λ (fns : List SourceFunction). (names_on Imported (map name_of_id ids) ++ flat_map item_names (items_on Imported (map SideFunction fns)))) e.written ∙ names_imported item c.requires.sort ids in
     rw (c.deref-3.ensures.value, fns) in_use
 
 pub function_table-requires : goal.function_table-requires

@@ -1,9 +1,9 @@
 use Rattle.std.proofs.Common.{◌++◌, [], List, sym, ap, ◌∙◌}
-use Rattle.wit_contents.proofs.Names.{IsStart, ItemWalk, Name, err_from_is_err_and, first_after, item_view, items_on, none_both, option_or, reports_back, reports_prefix, reports_same, setters_fault, side_items}
+use Rattle.wit_contents.proofs.Names.{IsStart, ItemWalk, Name, err_from_is_err_and, first_after, item_view, items_on, none_both, option_or, reports_back, reports_prefix, reports_same, setters_fault, side_items, flat_map}
 use Rattle.wit_contents.specs.declared.walk.Walked.{Walked}
-use Rattle.wit_externs.specs.Clash.{names_of_items}
 use Rattle.wit_contents.proofs.WorldFaults.{texts_differ, next_all, setters_closed}
 use Rattle.wit_contents.proofs.sides.walk_sides.Goals as goal
+use Rattle.wit_externs.specs.Clash.{item_names}
 
 pub declared_world-world-requires : goal.declared_world-world-requires
 declared_world-world-requires c = c.requires.world.sort
@@ -25,7 +25,7 @@ check_closed-requires c =
     let e = rw c.deref-turn.ensures.value at c.in_ok-members.ensures in
     let start : Walked = record { members = c.in_ok-members.members; required = c.new.result; seen = c.none.result } in
     let all = side_items (item_view w.item) in
-    rw (c.deref-turn.ensures.value, c.deref-functions.ensures.value) (all, sym c.requires.functions, λ s. (c.in_ok-walk_parts.ensures.adds (next_all w start c.requires c.none.ensures e.keyed)).in_use s ∙ ap (λ (l : List Name). l ++ names_of_items (items_on s all)) (e.in_use s))
+    rw (c.deref-turn.ensures.value, c.deref-functions.ensures.value) (all, sym c.requires.functions, λ s. (c.in_ok-walk_parts.ensures.adds (next_all w start c.requires c.none.ensures e.keyed)).in_use s ∙ ap (λ (l : List Name). l ++ flat_map item_names (items_on s all)) (e.in_use s))
 
 pub returns-clause-adds : goal.returns-clause-adds
 returns-clause-adds c =

@@ -1,12 +1,12 @@
 use Rattle.std.proofs.Common.{◌≡◌, ◌∷◌, ◌++◌, ◌+◌, [], List, ℕ, Option, inl, inr, refl, sym, ap, ◌∙◌, map, take, arith}
-use Rattle.wit_arena.proofs.Common.{Fault, SideFunction, SideItem, SourceFunction, WorldSide, env_of, err_from_is_err_and, items_on, length-map, option_or, role_side, slice_get_read, take-map, take_all, take_next}
+use Rattle.wit_arena.proofs.Common.{Fault, SideFunction, SideItem, SourceFunction, WorldSide, env_of, err_from_is_err_and, items_on, length-map, option_or, role_side, slice_get_read, take-map, take_all, take_next, flat_map}
 use Rattle.wit_refusals.specs.NameScopes.{Name}
 use Rattle.wit_sides.specs.SideNames.{defined_on}
 use Rattle.wit_rules.specs.Signatures.{function_view, functions_view}
 use Rattle.wit_walk.proofs.Common.{after-at, after-more, function_fault, none_both}
 use Rattle.wit_signatures.specs.FunctionsOfScope.{name_of_function}
 use Rattle.wit_entries.proofs.Requiring.{extended_then}
-use Rattle.wit_externs.specs.Clash.{again_fault, alone_faults, signed_by, words_in, names_of_items}
+use Rattle.wit_externs.specs.Clash.{again_fault, alone_faults, signed_by, words_in, item_names}
 use Rattle.wit_externs.proofs.AloneFaults.{function_safe, function_same, safe_arena, safe_of}
 use Rattle.wit_externs.proofs.Clashing.{sides_more}
 use Rattle.wit_externs.proofs.DoneFunctions.{next_place, item_next, place_within, done_more, done_all, same_name}
@@ -39,8 +39,8 @@ returns-in_err-function-clause-first c =
       | inr wrong ↦ inr (λ handle ends. (
           let none = c.loop-borrowed.invariant.first xs scope handle (safe_arena env c.loop-borrowed.types new handle c.in_err-function.ensures.finds.extended (safe_of env new handle ends)) in
           let own = function_same env new handle xs ends fns c.len.result fn next.2 ∙ ap (λ (n : ℕ). function_fault (signed_by (words_in env) handle (take n fns ++ fn ∷ [])) xs fn) next.0 in
-          let again = again_fault (old (role_side fn.role) ++ names_of_items (items_on (role_side fn.role) (map SideFunction (take i fns)))) (name_of_function fn) in
-          after-at (λ (before : List SourceFunction) (fn : SourceFunction). option_or (function_fault (signed_by (words_in env) handle (before ++ fn ∷ [])) xs fn) (again_fault (old (role_side fn.role) ++ names_of_items (items_on (role_side fn.role) (map SideFunction before))) (name_of_function fn))) fns i fn _ next.1 none (ap (λ (o : Option Fault). option_or o again) (sym own ∙ wrong))))
+          let again = again_fault (old (role_side fn.role) ++ flat_map item_names (items_on (role_side fn.role) (map SideFunction (take i fns)))) (name_of_function fn) in
+          after-at (λ (before : List SourceFunction) (fn : SourceFunction). option_or (function_fault (signed_by (words_in env) handle (before ++ fn ∷ [])) xs fn) (again_fault (old (role_side fn.role) ++ flat_map item_names (items_on (role_side fn.role) (map SideFunction before))) (name_of_function fn))) fns i fn _ next.1 none (ap (λ (o : Option Fault). option_or o again) (sym own ∙ wrong))))
     ])
 
 pub define_alone-requires-clause-mangled : goal.define_alone-requires-clause-mangled
@@ -58,8 +58,8 @@ pub returns-in_err-define_alone-clause-extended : goal.returns-in_err-define_alo
 returns-in_err-define_alone-clause-extended c = extended_then c.args.types.now c.loop-borrowed.types c.resolve_function.new.types c.loop-borrowed.invariant.done.extended c.in_ok-function.ensures.finds.extended
 
 -- the names on the side of a function, once those before it are defined
-names_before : (old mid : WorldSide → List Name) (fns : List SourceFunction) (i : ℕ) → ((s : WorldSide) → mid s ≡ old s ++ names_of_items (items_on s (take i (map SideFunction fns)))) → (s : WorldSide) → mid s ≡ old s ++ names_of_items (items_on s (map SideFunction (take i fns)))
-names_before old mid fns i defined s = defined s ∙ ap (λ (l : List SideItem). old s ++ names_of_items (items_on s l)) (take-map SideFunction i fns)
+names_before : (old mid : WorldSide → List Name) (fns : List SourceFunction) (i : ℕ) → ((s : WorldSide) → mid s ≡ old s ++ flat_map item_names (items_on s (take i (map SideFunction fns)))) → (s : WorldSide) → mid s ≡ old s ++ flat_map item_names (items_on s (map SideFunction (take i fns)))
+names_before old mid fns i defined s = defined s ∙ ap (λ (l : List SideItem). old s ++ flat_map item_names (items_on s l)) (take-map SideFunction i fns)
 
 pub returns-in_err-define_alone-clause-first : goal.returns-in_err-define_alone-clause-first
 returns-in_err-define_alone-clause-first c =
@@ -81,8 +81,8 @@ returns-in_err-define_alone-clause-first c =
           let safe = safe_of env new handle ends in
           let none = c.loop-borrowed.invariant.first xs scope handle (safe_arena env c.loop-borrowed.types new handle c.in_ok-function.ensures.finds.extended safe) in
           let own = ap (λ (n : ℕ). function_fault (signed_by (words_in env) handle (take n fns ++ fn ∷ [])) xs fn) (sym next.0) ∙ function_safe env new handle xs safe fns c.len.result fn next.2 (c.in_ok-function.ensures.finds.first xs scope fn next.2) in
-          let again = again_fault (old side ++ names_of_items (items_on side (map SideFunction (take i fns)))) (name_of_function fn) in
-          after-at (λ (before : List SourceFunction) (fn : SourceFunction). option_or (function_fault (signed_by (words_in env) handle (before ++ fn ∷ [])) xs fn) (again_fault (old (role_side fn.role) ++ names_of_items (items_on (role_side fn.role) (map SideFunction before))) (name_of_function fn))) fns i fn _ next.1 none (ap (λ (o : Option Fault). option_or o again) own ∙ sym named ∙ wrong)))
+          let again = again_fault (old side ++ flat_map item_names (items_on side (map SideFunction (take i fns)))) (name_of_function fn) in
+          after-at (λ (before : List SourceFunction) (fn : SourceFunction). option_or (function_fault (signed_by (words_in env) handle (before ++ fn ∷ [])) xs fn) (again_fault (old (role_side fn.role) ++ flat_map item_names (items_on (role_side fn.role) (map SideFunction before))) (name_of_function fn))) fns i fn _ next.1 none (ap (λ (o : Option Fault). option_or o again) own ∙ sym named ∙ wrong)))
     ])
 
 pub returns-in_err-reserve-clause-extended : goal.returns-in_err-reserve-clause-extended
@@ -117,7 +117,7 @@ loop-borrowed-preserved c =
           let none = was.first zs scope_is handle (safe_arena env c.loop-borrowed.types new handle says.finds.extended safe) in
           let own = ap (λ (n : ℕ). function_fault (signed_by (words_in env) handle (take n fns ++ fn ∷ [])) zs fn) (sym next.0) ∙ function_safe env new handle zs safe fns c.len.result fn next.2 (says.finds.first zs scope_is fn next.2) in
           let named = ap (λ (l : List Name). again_fault l (name_of_function fn)) (names_before old (λ s. defined_on s c.loop-borrowed.in_use) fns i was.defined side) in
-          ap (alone_faults (words_in env) handle zs old) (take_next fns i fn next.1) ∙ after-more (λ (before : List SourceFunction) (fn : SourceFunction). option_or (function_fault (signed_by (words_in env) handle (before ++ fn ∷ [])) zs fn) (again_fault (old (role_side fn.role) ++ names_of_items (items_on (role_side fn.role) (map SideFunction before))) (name_of_function fn))) (take i fns) fn none ∙ none_both own (sym named ∙ c.in_ok-define_alone.ensures.first));
+          ap (alone_faults (words_in env) handle zs old) (take_next fns i fn next.1) ∙ after-more (λ (before : List SourceFunction) (fn : SourceFunction). option_or (function_fault (signed_by (words_in env) handle (before ++ fn ∷ [])) zs fn) (again_fault (old (role_side fn.role) ++ flat_map item_names (items_on (role_side fn.role) (map SideFunction before))) (name_of_function fn))) (take i fns) fn none ∙ none_both own (sym named ∙ c.in_ok-define_alone.ensures.first));
     }
 
 pub returns-clause-adds : goal.returns-clause-adds
@@ -134,7 +134,7 @@ returns-clause-defined c = λ s.
     let fns = functions_view c.args.scope in
     let count = length-map c.args.scope.functions.now function_view in
     let items = length-map fns SideFunction in
-    c.loop-borrowed.invariant.defined s ∙ ap (λ (l : List SideItem). defined_on s c.args.in_use.now ++ names_of_items (items_on s l)) (take_all c.loop-borrowed.borrowed-index (map SideFunction fns) (omega (arith, count, items)))
+    c.loop-borrowed.invariant.defined s ∙ ap (λ (l : List SideItem). defined_on s c.args.in_use.now ++ flat_map item_names (items_on s l)) (take_all c.loop-borrowed.borrowed-index (map SideFunction fns) (omega (arith, count, items)))
 
 pub returns-clause-first : goal.returns-clause-first
 returns-clause-first c = λ xs scope handle safe.

@@ -5,7 +5,7 @@ use Rattle.wit_sides.specs.SideNames.{defined_on}
 use Rattle.wit_rules.specs.Signatures.{function_view, HaveOwners}
 use Rattle.wit_entries.proofs.Resolves.{extended_same}
 use Rattle.wit_signatures.specs.FunctionsOfScope.{name_key, name_of_function, name_of_id}
-use Rattle.wit_externs.specs.Clash.{again, alone_faults, defined_fault, words_in, all_on, names_of_items}
+use Rattle.wit_externs.specs.Clash.{again, alone_faults, defined_fault, words_in}
 use Rattle.wit_item_entries.specs.AddedNames.{IsTurn}
 use Rattle.wit_item_entries.specs.ReachedFaults.{functions_fault}
 use Rattle.wit_item_entries.proofs.ReachedFaults.{all_names, used_before, words_same}
@@ -97,15 +97,15 @@ returns-clause-adds c = λ old cs o n.
     let differ = λ (side : WorldSide).
     let items = map SideFunction (map function_view c.deref.result.now) in
     let none : AllDiffer (map name_key (defined_on side c.new-in_use.result)) = subst (λ (l : List Name). AllDiffer (map name_key l)) (sym (c.new-in_use.ensures side)) differ_none in
-    let all : defined_on side c.resolve_functions.new.in_use ≡ all_on side ids items = e.defined side ∙ ap (λ (l : List Name). l ++ names_of_items (items_on side items)) (before side) in
+    let all : defined_on side c.resolve_functions.new.in_use ≡ (names_on side (map name_of_id ids) ++ flat_map item_names (items_on side items)) = e.defined side ∙ ap (λ (l : List Name). l ++ flat_map item_names (items_on side items)) (before side) in
     subst (λ (l : List Name). AllDiffer (map name_key l)) all (e.differ side (c.in_ok-define_names.ensures.differ side none)) in
-    body_added old c.args.types.now c.resolve_functions.new.types cs o item c.args.names.now ids c.args.required.now.items c.resolve_functions.new.required.items c.in_ok-functions.functions.items n (rw fns at e.adds) e.extended (rw fns at e.handled) (e.named ∙ ap (map name_of_function) fns) (subst (λ (items : List SideItem). (side : WorldSide) → AllDiffer (map name_key (all_on side ids items))) (sym alone) differ)
+    body_added old c.args.types.now c.resolve_functions.new.types cs o item c.args.names.now ids c.args.required.now.items c.resolve_functions.new.required.items c.in_ok-functions.functions.items n (rw fns at e.adds) e.extended (rw fns at e.handled) (e.named ∙ ap (map name_of_function) fns) (subst (λ (items : List SideItem). (side : WorldSide) → AllDiffer (map name_key (names_on side (map name_of_id ids) ++ flat_map item_names (items_on side items)))) (sym alone) differ)
 
 pub returns-clause-in_use : goal.returns-clause-in_use
 returns-clause-in_use c = λ some side.
     let items = map SideFunction (map function_view c.deref.result.now) in
     let before = used_before side c.new-in_use.result c.define_names.new.in_use c.args.turn.now c.args.turn.now c.new-in_use.ensures c.in_ok-define_names.ensures.defined refl in
-    let all : defined_on side c.resolve_functions.new.in_use ≡ all_on side c.args.turn.now items = c.in_ok-functions.ensures.defined side ∙ ap (λ (l : List Name). l ++ names_of_items (items_on side items)) before in
+    let all : defined_on side c.resolve_functions.new.in_use ≡ (names_on side (map name_of_id c.args.turn.now) ++ flat_map item_names (items_on side items)) = c.in_ok-functions.ensures.defined side ∙ ap (λ (l : List Name). l ++ flat_map item_names (items_on side items)) before in
     rw c.deref.ensures.value at all
 
 pub returns-clause-first : goal.returns-clause-first
