@@ -8,7 +8,7 @@ use Rattle.wit_contents.specs.declared.walk.Walked.{Walked}
 use Rattle.wit_signatures.specs.FunctionsOfScope.{name_key, name_of_id}
 use Rattle.wit_sides.specs.SideNames.{defined_on}
 use Rattle.wit_externs.specs.Clash.{again_fault as twice_fault, EndsIn, item_names, linked_on, again as same_again, signed_by}
-use Rattle.wit_item_entries.proofs.NameOrder.{all_used, bare_item, bare_name}
+use Rattle.wit_item_entries.proofs.NameOrder.{all_used, bare_name}
 use Rattle.wit_world_sides.specs.declared.members.Members.{Members}
 use Rattle.wit_contents.proofs.PathsWalked.{in_same}
 use Rattle.wit_contents.proofs.Walked.{repeat-made}
@@ -205,7 +205,6 @@ put_walked m xs order ids before x are state sorts =
     let wrong = (λ (n : Name). option_or (if is_extern x then repeat_of (λ (m : Name). m.0) (λ (m : Name). crossed_among side (map sorted_name all) m.0 m.1) (map bare_name all) n else None) (again_fault (map bare_name all) n)) in
     ap (λ (l : List Sorted). first_in (λ (n : Name). option_or (if is_extern x then repeat_of (λ (m : Name). m.0) (λ (m : Name). crossed_among side l m.0 m.1) (defined_on side m.in_use) n else None) (again_fault (defined_on side m.in_use) n)) (item_names x)) (sorts side ∙ sides_sorted side xs there order)
     ∙ ap (λ (l : List Name). first_in (λ (n : Name). option_or (if is_extern x then repeat_of (λ (m : Name). m.0) (λ (m : Name). crossed_among side (map sorted_name all) m.0 m.1) l n else None) (again_fault l n)) (item_names x)) (state side ∙ sym (all_used side xs there order ids are))
-    ∙ ap (first_in wrong) (sym (bare_item x))
     ∙ in-map wrong bare_name (item_called x)
     ∙ in_same (λ (c : Called). wrong (bare_name c)) (called_fault (is_extern x) (crossed side) all) (item_called x) (λ k c at. named_walked (is_extern x) side all c)
 

@@ -1,6 +1,6 @@
 -- The first setter without its getter, by the names of a scope or of a side among which are those of functions, in their order.
 use Rattle.std.proofs.Common.{◌≡◌, ◌⊎◌, ◌||◌, ◌&&◌, not, ℕ, suc, Bool, true, false, List, [], ◌∷◌, ◌++◌, map, take, Option, Some, None, Result, Ok, Err, inl, inr, refl, sym, ap, ◌∙◌, subst, arith, Contains}
-use Rattle.wit_arena.proofs.Common.{Exported, Fault, Id, IfErr, Imported, OnOk, ParseError, Refused, SideFunction, SideInline, SideItem, SideLink, SourceFunction, WorldSide, and_parts, any_found, at_contains, at_take, bytes_eq, cases_Bool, cond-false, cond-true, contains_at, false_from_ne_true, fault_of, flat_map, getter_of, if◌then◌else◌, is_label, is_setter, item_function, item_side, items_on, kept_at, list_any, lone_setter, map_at, name_equal, name_itself, names_on, not-true, on_side, option_map_or, option_or, or_parts, role_side, same_side, slice_get}
+use Rattle.wit_arena.proofs.Common.{Exported, Fault, Id, IfErr, Imported, OnOk, ParseError, Refused, SideFunction, SideInline, SideItem, SideLink, SourceFunction, WorldSide, and_parts, any_found, at_contains, at_take, bytes_eq, cases_Bool, cond-false, cond-true, contains_at, false_from_ne_true, fault_of, flat_map, getter_of, if◌then◌else◌, is_label, is_setter, item_function, item_side, items_on, kept_at, list_any, lone_setter, map_at, name_equal, name_itself, names_on, not-true, on_side, option_map_or, option_or, or_parts, role_side, same_side, slice_get, codes, Called}
 use Rattle.wit_walk.proofs.Common.{Finds, any-map, any_some, first_in, in-at, in_some, is_setter as form_sets, setter_fault}
 use Rattle.wit_functions.proofs.InTurn.{list_any-filter_none}
 use Rattle.wit_walk.proofs.ScopeFaults.{if_some}
@@ -73,7 +73,7 @@ merged_after [] ns gs rest = rest
 merged_after (id ∷ ids) ns gs rest = inl (id, refl, merged_after ids ns gs rest)
 
 -- those on a side
-merged_link : (name : Option Id) (ns : List Name) (gs : List SourceFunction) → AreMerged ns gs → AreMerged (option_map_or (λ id. name_of_id id ∷ []) name [] ++ ns) gs
+merged_link : (name : Option Id) (ns : List Name) (gs : List SourceFunction) → AreMerged ns gs → AreMerged (map (λ (c : Called). (c.name, c.span)) (option_map_or (λ (id : Id). (record { name = id.name.now; span = id.span; sort = codes "interface" } ∷ [])) name []) ++ ns) gs
 merged_link None ns gs rest = rest
 merged_link (Some id) ns gs rest = inl (id, refl, rest)
 

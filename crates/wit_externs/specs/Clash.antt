@@ -1,6 +1,6 @@
 -- What is on the sides of a scope, of which no two names may have one key, and the first fault of its functions where nothing else is there, E17, E22, E26 to E42, and of setters, E18.
 use Rattle.std.specs.Prelude.{◌≡◌, ◌++◌, List, [], ◌∷◌, map, ℕ, Option, Contains, ◌⊎◌, codes, MatchResult, None, Result, Some, Vec}
-use Rattle.wit_arena.specs.Common.{AllDiffer, Env, Exported, Fault, Global, Id, Imported, Names, ParseError, Required, ScopeName, SideFunction, SideInline, SideItem, SideLink, SourceFunction, TypeDef, UsePath, WorldSide, all_handles, env_of, fault_in, fault_of, flat_map, item_function, items_on, keys_of, names_on, on_side, option_map_or, option_or, option_to_list, role_side, written_types}
+use Rattle.wit_arena.specs.Common.{AllDiffer, Env, Exported, Fault, Global, Id, Imported, Names, ParseError, Required, ScopeName, SideFunction, SideItem, SideLink, SourceFunction, TypeDef, UsePath, WorldSide, all_handles, env_of, fault_in, fault_of, flat_map, item_function, items_on, keys_of, names_on, on_side, option_map_or, option_or, option_to_list, role_side, written_types}
 use Rattle.wit_refusals.specs.NameScopes.{Name}
 use Rattle.wit_sides.specs.SideNames.{defined_on}
 use Rattle.wit_sides.specs.declared.sides.Sides.{Sides}
@@ -16,12 +16,11 @@ use Rattle.wit_walk.specs.Setters.{setter_fault}
 use Rattle.wit_rules.specs.Signatures.{IsScopeOf, functions_view}
 use Rattle.wit_rules.specs.declared.function_scope.FunctionScope.{FunctionScope}
 use Rattle.wit_entries.specs.EntryFaults.{end_fault, end_in, name_fault, Requires}
+use Rattle.wit_syntax.specs.Sides.{item_called}
 
 -- the name that it has: an interface may have none of its own
 abbrev pub item_names : SideItem → List Name
-item_names (SideFunction fn) = name_of_function fn ∷ []
-item_names (SideLink link) = option_map_or (λ id. name_of_id id ∷ []) link.name []
-item_names (SideInline x name items) = name_of_id name ∷ []
+item_names x = map (λ c. (c.name, c.span)) (item_called x)
 
 -- after the names on each side those of these were defined there
 abbrev pub DefinesNames : Sides → Sides → List SideItem → Type 0

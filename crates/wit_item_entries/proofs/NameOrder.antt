@@ -1,7 +1,7 @@
 -- Names on a side, as they are called there, and their keys.
-use Rattle.std.proofs.Common.{◌≡◌, ℕ, false, List, [], ◌∷◌, ◌++◌, map, refl, sym, ap, ◌∙◌, subst, length, Option, Some, None, inl, inr, ap₂, codes}
+use Rattle.std.proofs.Common.{◌≡◌, ℕ, false, List, [], ◌∷◌, ◌++◌, map, refl, sym, ap, ◌∙◌, subst, length, inl, inr, ap₂}
 use denote.Ref.{Bor}
-use Rattle.wit_items.proofs.Common.{any-map, AllDiffer, Id, ScopeName, append-nil, in_turn_distinct, is_ascii_uppercase, list_any, lower_case, map_map, Exported, Imported, SideFunction, WorldSide, differ_none, names_on, nil_from_length, Called, Name, SideInline, SideItem, SideLink, called_key, flat_map, in_turn, item_called, items_on, local_id, map-append, name_called, option_map_or, side_called, Declared, SourceFunction, TheInline, TheInterface, TheWorld, about, cases_Bool, cond-false, cond-true, functions, interface_imported, is_world, on_side, part_functions, role_side, same_side, functions_parts}
+use Rattle.wit_items.proofs.Common.{any-map, AllDiffer, Id, ScopeName, append-nil, in_turn_distinct, is_ascii_uppercase, list_any, lower_case, map_map, Exported, Imported, SideFunction, WorldSide, differ_none, names_on, nil_from_length, Called, Name, SideItem, called_key, flat_map, in_turn, item_called, items_on, local_id, map-append, name_called, side_called, Declared, SourceFunction, TheInline, TheInterface, TheWorld, about, cases_Bool, cond-false, cond-true, functions, interface_imported, is_world, on_side, part_functions, role_side, same_side, functions_parts}
 use Rattle.wit_names.proofs.Labels.{folded_key-label}
 use Rattle.wit_refusals.proofs.Cases.{texts-lower, names-folded}
 use Rattle.wit_signatures.specs.FunctionsOfScope.{name_of_id, name_key, name_of_function}
@@ -46,18 +46,9 @@ names_alone side xs ids hs none t lower = subst (λ (l : List BorrowedFunction).
 abbrev pub bare_name : Called → Name
 bare_name c = (c.name, c.span)
 
-bare_id : (o : Option Id) → map bare_name (option_map_or (λ (id : Id). (record { name = id.name.now; span = id.span; sort = codes "interface" } ∷ [])) o []) ≡ option_map_or (λ id. name_of_id id ∷ []) o []
-bare_id None = refl
-bare_id (Some id) = refl
-
-pub bare_item : (x : SideItem) → map bare_name (item_called x) ≡ item_names x
-bare_item (SideFunction fn) = refl
-bare_item (SideLink link) = bare_id link.name
-bare_item (SideInline x name items) = refl
-
 bare_items : (items : List SideItem) → map bare_name (flat_map item_called items) ≡ flat_map item_names items
 bare_items [] = refl
-bare_items (x ∷ items) = map-append bare_name (item_called x) (flat_map item_called items) ∙ ap₂ (λ a b. a ++ b) (bare_item x) (bare_items items)
+bare_items (x ∷ items) = map-append bare_name (item_called x) (flat_map item_called items) ∙ ap (λ (l : List Name). item_names x ++ l) (bare_items items)
 
 bare_names : (xs : List ScopeName) → map bare_name (map name_called xs) ≡ map name_of_id (map local_id xs)
 bare_names [] = refl

@@ -232,17 +232,17 @@ put_itself m m' link id item bare is put =
     let entry : (key.Interface id, item) ≡ link_item link id = ap (λ (n : Option Id). (link_key n id, item)) (sym bare) ∙ ap (λ (i : WorldItem). (link_key link.name id, i)) is in
     subst (Puts m m' (SideLink link)) entry put
 
--- the names of a link
-pub names_under : (link : Link) (own : Id) → link.name ≡ Some own → item_names (SideLink link) ≡ name_of_id own ∷ []
-names_under link own named = ap (λ (n : Option Id). option_map_or (λ (id : Id). name_of_id id ∷ []) n []) named
-
-pub names_itself : (link : Link) → link.name ≡ None → item_names (SideLink link) ≡ []
-names_itself link bare = ap (λ (n : Option Id). option_map_or (λ (id : Id). name_of_id id ∷ []) n []) bare
-
--- and with the word for an interface
 abbrev called_by : Option Id → List Called
 called_by o = option_map_or (λ (id : Id). (record { name = id.name.now; span = id.span; sort = codes "interface" } ∷ [])) o []
 
+-- the names of a link
+pub names_under : (link : Link) (own : Id) → link.name ≡ Some own → item_names (SideLink link) ≡ name_of_id own ∷ []
+names_under link own named = ap (λ (n : Option Id). map (λ (c : Called). (c.name, c.span)) (called_by n)) named
+
+pub names_itself : (link : Link) → link.name ≡ None → item_names (SideLink link) ≡ []
+names_itself link bare = ap (λ (n : Option Id). map (λ (c : Called). (c.name, c.span)) (called_by n)) bare
+
+-- and with the word for an interface
 pub sorted_under : (link : Link) (own : Id) → link.name ≡ Some own → item_sorted (SideLink link) ≡ (own.name.now, codes "interface") ∷ []
 sorted_under link own named = ap (λ (n : Option Id). map sorted_name (called_by n)) named
 
