@@ -54,11 +54,11 @@ pub struct ItemFunctions<'t, 'a> {
 }
 
 /// What is stated of an item, and its names, with what is in them.
-pub fn resolve_head<'a>(
+pub fn resolve_head<'f, 'a>(
     alloc: Global,
-    item: &ItemScope<'_, 'a, '_>,
+    item: &ItemScope<'f, 'a, '_>,
     types: &mut Entries,
-    interfaces: &Interfaces<'_, '_, '_, '_>,
+    interfaces: &Interfaces<'f, 'a, '_, '_>,
     owner: TypeOwner,
 ) -> ParseResult<Head<'a>>
     requires named { map name_view item.now.names.now ≡ the_names (scope_item item.now) }

@@ -88,7 +88,7 @@ pub fn resolve_names<'f, 'a>(
     alloc: Global,
     names: &[ScopeName<'f, 'a>],
     types: &mut Entries,
-    interfaces: &Interfaces<'_, '_, '_, '_>,
+    interfaces: &Interfaces<'f, 'a, '_, '_>,
     owner: TypeOwner,
 ) -> ParseResult<ResolvedNames<'a>>
     requires placed { AreNamesPlaced (prefix_of interfaces.now.files) names.now }

@@ -91,7 +91,7 @@ fn resolve_use<'f, 'a>(
     alloc: Global,
     used: &UsedName<'f, 'a>,
     types: &mut Entries,
-    interfaces: &Interfaces<'_, '_, '_, '_>,
+    interfaces: &Interfaces<'f, 'a, '_, '_>,
     scope: &mut Scope,
 ) -> ParseResult<()>
     requires placed { IsPlaced (prefix_of interfaces.now.files) used.now.from }
@@ -127,7 +127,7 @@ pub fn resolve_uses<'f, 'a>(
     alloc: Global,
     uses: &[UsedName<'f, 'a>],
     types: &mut Entries,
-    interfaces: &Interfaces<'_, '_, '_, '_>,
+    interfaces: &Interfaces<'f, 'a, '_, '_>,
     scope: &mut Scope,
 ) -> ParseResult<()>
     requires placed { (k : _) (u : _) → slice_get uses.now k ≡ Some u → IsPlaced (prefix_of interfaces.now.files) u.from }

@@ -106,10 +106,10 @@ pub fn path_source<'f, 'a>(
 }
 
 /// The id of the interface that is borrowed; refuses one that is not resolved (7).
-pub fn source_id(
+pub fn source_id<'f, 'a>(
     alloc: Global,
-    interfaces: &Interfaces<'_, '_, '_, '_>,
-    source: &Source<'_, '_>,
+    interfaces: &Interfaces<'f, 'a, '_, '_>,
+    source: &Source<'f, 'a>,
 ) -> ParseResult<InterfaceId>
     requires { IsPlaced (prefix_of interfaces.now.files) source.now }
     ensures id { IfOk result (λ id. source_place interfaces.now.by_name source.now ≡ Some id) }
