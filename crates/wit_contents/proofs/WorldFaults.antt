@@ -221,8 +221,8 @@ put_none (x ∷ xs) all =
     let both = and_parts (puts_nothing x) (list_all puts_nothing xs) all in
     ap (λ (l : List SideItem). l ++ world_sides xs) (nil_from_length (part_items (world_part x)) (eqb-true (length (part_items (world_part x))) 0 both.0)) ∙ put_none xs both.1
 
-pub none_there : (i : BorrowedItem) (world : Written) (xs : List WorldItem) → declared_view i.declared ≡ TheWorld world → xs ≡ world.items.items → list_all puts_nothing xs ≡ true → side_items (item_view i) ≡ []
-none_there i world xs is same all = ap (λ (d : Declared). flat_map part_items (about d).parts) is ∙ ap world_sides (sym same) ∙ put_none xs all
+pub none_there : (i : BorrowedItem) (world : Written) → declared_view i.declared ≡ TheWorld world → list_all puts_nothing world.items.items ≡ true → side_items (item_view i) ≡ []
+none_there i world is all = ap (λ (d : Declared). flat_map part_items (about d).parts) is ∙ put_none world.items.items all
 
 -- the names of a world differ
 pub texts_differ : (xs : List ScopeName) (ids : List Id) → IsTurn xs ids → AllDiffer (map (λ id. id.name.now) ids)

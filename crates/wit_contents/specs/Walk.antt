@@ -11,7 +11,6 @@ use Rattle.wit_links.specs.Links.{IsSeen}
 use Rattle.wit_item_entries.specs.AddedNames.{IsTurn}
 use Rattle.wit_contents.specs.Interfaces.{AddsAt, IsRightOf}
 use Rattle.wit_contents.specs.declared.walk.Growing.{Growing}
-use Rattle.wit_contents.specs.declared.walk.Walk.{Walk}
 use Rattle.wit_contents.specs.declared.walk.Walked.{Walked}
 use Rattle.wit_contents.specs.declared.walk.WorldScope.{WorldScope}
 use Rattle.wit_first.specs.AttributeFaults.{metadata_fault}
@@ -28,8 +27,8 @@ pub record ItemWalk : Type 0 where
   pub scope : WorldScope
   pub interfaces : Interfaces
 
-abbrev pub walk_of : BorrowedItem → Walk → ItemWalk
-walk_of i w = record { item = i; scope = w.scope.now; interfaces = w.interfaces.now }
+abbrev pub walk_of : BorrowedItem → WorldScope → ItemWalk
+walk_of i s = record { item = i; scope = s; interfaces = s.interfaces.now }
 
 -- the place of the interface that a path of it leads to
 abbrev pub lead : ItemWalk → UsePath → Option ℕ
@@ -88,7 +87,7 @@ pub record AddsMembers (w : ItemWalk) (prefix xs : List SideItem) (a b : Stage) 
   pub leads : (link : Link) → Contains xs (SideLink link) → (id : ℕ) × (lead w link.path ≡ Some id)
 
 -- the next of what is on the sides are added
-abbrev pub AddsItems : BorrowedItem → Walk → List SideItem → Growing → Walked → Growing → Walked → Type 0
+abbrev pub AddsItems : BorrowedItem → WorldScope → List SideItem → Growing → Walked → Growing → Walked → Type 0
 AddsItems i w xs old a new b = (n : IsNext (walk_of i w) xs a) → AddsMembers (walk_of i w) n.prefix xs (stage old a) (stage new b)
 
 -- at first the names of the scope are imported, and nothing is exported

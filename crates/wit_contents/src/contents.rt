@@ -81,12 +81,14 @@ fn resolve_named<'f, 'a>(
     ensures first { FindsAfter 6 names.now result }
 {
     let order = names.item_order();
+    // Most items have a type at least.
+    types.reserve(order.len())?;
     let mut prefix = ForeignArenas::of_items(alloc, names.foreign(), order.len())?;
     let gathered = Files::of(names, &prefix.entries);
     let mut items = declared_items(alloc, files, &gathered, order.len())?;
     drop(gathered);
     let lent: &mut [Item<'_, '_>] = &mut items;
-    prefix.add_used_by_items(alloc, types, lent)?;
+    ForeignArenas::add_used_by_items(alloc, lent, &mut prefix, types)?;
     let ForeignArenas {
         interfaces,
         worlds,
@@ -99,9 +101,10 @@ fn resolve_named<'f, 'a>(
         arena: interfaces,
         by_name: TextTable::new(alloc),
     };
+    let known: &mut Interfaces<'_, '_, '_, '_> = &mut interfaces;
     let mut required = Vec::new(alloc);
-    resolve_interfaces(lent, types, &mut required, &mut interfaces, order)?;
-    let made = resolve_worlds(lent, types, &interfaces, worlds, order)?;
+    resolve_interfaces(lent, types, &mut required, known, order)?;
+    let made = resolve_worlds(lent, types, known, worlds, order)?;
     let named = foreign_deps(alloc, names.foreign_visits());
     let all = made_of(interfaces.arena, made, spans, required, named)?;
     Ok(all)
@@ -118,8 +121,6 @@ fn resolve_gathered<'f, 'a>(
     ensures first { FindsAfter 1 files.now result }
 {
     let names = FileNames::gather(alloc, files)?;
-    // Most items have a type at least.
-    types.reserve(names.item_order().len())?;
     resolve_named(alloc, &names, files, types)
 }
 

@@ -1,11 +1,10 @@
 //! What a world has on its sides: the names of its scope, and after them what it imports and exports.
 ghost use Rattle.std.specs.Prelude.{◌≡◌, IfOk};
 ghost use Rattle.std.specs.List.{list_all};
-ghost use Rattle.wit_contents.specs.Walk.{AddsSidesOf, IsWalk, puts_nothing};
+ghost use Rattle.wit_contents.specs.Walk.{AddsSidesOf, IsWalk, puts_nothing, walk_of};
 ghost use Rattle.wit_contents.specs.Worlds.{FindsSides};
 
-use crate::walk::{Growing, Walk, Walked, WorldScope, walk_parts};
-use wit_items::interfaces::Interfaces;
+use crate::walk::{Growing, Walked, WorldScope, walk_parts};
 use wit_items::items::Item;
 use wit_links::inside::{Seen, declared_world};
 use wit_notes::is_same_side;
@@ -37,8 +36,12 @@ fn is_interface_on(written: &Extern<'_>, side: WorldSide) -> bool {
     }
 }
 
-/// How much a world has on a side, after the names of its types.
-fn side_room(world: &World<'_>, functions: &[BorrowedFunction<'_, '_>], side: WorldSide) -> usize {
+/// How much a world with these functions has on a side, after the names of its types.
+fn side_room<'f, 'a>(
+    functions: &[BorrowedFunction<'f, 'a>],
+    world: &'f World<'a>,
+    side: WorldSide,
+) -> usize {
     let mut count = function_count(functions, side);
     for part in world_items(world) {
         if let WorldItem::Extern(written) = part {
@@ -65,11 +68,11 @@ fn puts_nothing(part: &WorldItem<'_>) -> bool
     }
 }
 
-/// Whether a world with these parts has nothing on its sides, after the names of its types.
-pub(crate) fn put_nothing(parts: &[WorldItem<'_>]) -> bool
-    ensures { result ≡ list_all puts_nothing parts.now }
+/// Whether a world has nothing on its sides, after the names of its types.
+pub(crate) fn has_nothing(world: &World<'_>) -> bool
+    ensures { result ≡ list_all puts_nothing world.now.items.items }
 {
-    parts.iter().all(|part| puts_nothing(part))
+    world_items(world).iter().all(|part| puts_nothing(part))
 }
 
 /// What is on the sides of a world, after the names of its scope, which are resolved. Where it includes
@@ -79,28 +82,26 @@ pub(crate) fn put_nothing(parts: &[WorldItem<'_>]) -> bool
 /// E18 at a setter without its getter.
 pub fn walk_sides<'f, 'a>(
     item: &Item<'f, 'a>,
-    scope: &WorldScope<'f, 'a>,
-    interfaces: &Interfaces<'f, 'a, '_, '_>,
+    scope: &WorldScope<'f, 'a, '_, '_, '_>,
     growing: &mut Growing,
 ) -> ParseResult<Walked>
-    requires { IsWalk (record { item = item.now; scope = scope.now; interfaces = interfaces.now }) }
-    ensures adds { IfOk result (AddsSidesOf item.now scope.now interfaces.now growing.old growing.new) }
-    ensures first { FindsSides (record { item = item.now; scope = scope.now; interfaces = interfaces.now }) growing.old result }
+    requires { IsWalk (walk_of item.now scope.now) }
+    ensures adds { IfOk result (AddsSidesOf item.now scope.now scope.now.interfaces.now growing.old growing.new) }
+    ensures first { FindsSides (walk_of item.now scope.now) growing.old result }
 {
-    let walk = Walk { scope, interfaces };
-    let alloc = *interfaces.by_name.allocator();
+    let alloc = *scope.interfaces.by_name.allocator();
     let turn: &[Id<'_>] = &scope.names.turn;
     let world = declared_world(&item.declared);
     let functions: &[BorrowedFunction<'_, '_>] = &scope.functions;
-    let imports = side_room(world, functions, WorldSide::Imported);
-    let exports = side_room(world, functions, WorldSide::Exported);
+    let imports = side_room(functions, world, WorldSide::Imported);
+    let exports = side_room(functions, world, WorldSide::Exported);
     let members = named_members(alloc, turn, &scope.names.types, imports, exports)?;
     let mut walked = Walked {
         members,
         required: Vec::new(alloc),
         seen: Seen::none(),
     };
-    walk_parts(item, &walk, growing, &mut walked)?;
+    walk_parts(item, scope, growing, &mut walked)?;
     check_closed(scope.closed, functions, &walked.members.in_use, turn)?;
     Ok(walked)
 }

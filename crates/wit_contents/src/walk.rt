@@ -33,22 +33,16 @@ use wit_tree::tree::{
 use wit_types::{Arena, InterfaceId, InterfacePlace};
 use wit_world_sides::members::{Members, PathExtern, put_function, put_inline, put_link};
 
-/// What the functions of a world are read in: its names, which are resolved, the definitions that are
-/// written as results, and its functions as they are written. Where it includes nothing, it is
-/// `closed`.
+/// What a world is walked over in: its names, which are resolved, the definitions that are written as
+/// results, its functions as they are written, and the interfaces that are resolved. Where it includes
+/// nothing, it is `closed`.
 #[derive(Drop)]
-pub struct WorldScope<'f, 'a> {
+pub struct WorldScope<'f, 'a, 'i, 'n, 'e> {
     pub names: ResolvedNames<'a>,
     pub results: TextTable<&'f Type<'a>>,
     pub functions: Vec<BorrowedFunction<'f, 'a>>,
+    pub interfaces: &'i Interfaces<'f, 'a, 'n, 'e>,
     pub closed: bool,
-}
-
-/// What the imports and exports of a world are resolved in.
-#[derive(Clone, Copy)]
-pub struct Walk<'f, 'a, 'w, 'n, 'e> {
-    pub scope: &'w WorldScope<'f, 'a>,
-    pub interfaces: &'w Interfaces<'f, 'a, 'n, 'e>,
 }
 
 /// What grows while worlds are resolved, for all of them.
@@ -107,7 +101,7 @@ fn resolve_inline<'f, 'a>(
 /// A refusal is one of `resolve_function` or of `put_function`.
 fn walk_function<'f, 'a>(
     item: &Item<'f, 'a>,
-    walk: &Walk<'f, 'a, '_, '_, '_>,
+    walk: &WorldScope<'f, 'a, '_, '_, '_>,
     borrowed: BorrowedFunction<'f, 'a>,
     growing: &mut Growing,
     walked: &mut Walked,
@@ -119,9 +113,9 @@ fn walk_function<'f, 'a>(
     let alloc = *walk.interfaces.by_name.allocator();
     let place = walked.seen.functions;
     let scope = FunctionScope {
-        names: &walk.scope.names.types,
-        results: &walk.scope.results,
-        functions: &walk.scope.functions,
+        names: &walk.names.types,
+        results: &walk.results,
+        functions: &walk.functions,
     };
     let function = resolve_function(
         alloc,
@@ -141,7 +135,7 @@ fn walk_function<'f, 'a>(
 /// A refusal is E30 to E35, where its attributes break a rule, one of `linked_id`, or of `put_link`.
 fn walk_link<'f, 'a>(
     item: &Item<'f, 'a>,
-    walk: &Walk<'f, 'a, '_, '_, '_>,
+    walk: &WorldScope<'f, 'a, '_, '_, '_>,
     link: PathExtern<'f, 'a>,
     walked: &mut Walked,
 ) -> ParseResult<()>
@@ -164,7 +158,7 @@ fn walk_link<'f, 'a>(
 /// `put_inline`.
 fn walk_inline<'f, 'a>(
     item: &Item<'f, 'a>,
-    walk: &Walk<'f, 'a, '_, '_, '_>,
+    walk: &WorldScope<'f, 'a, '_, '_, '_>,
     inline: InlineInterface<'f, 'a>,
     growing: &mut Growing,
     walked: &mut Walked,
@@ -207,7 +201,7 @@ fn extern_part_function<'f, 'a>(
 /// Resolves what a world imports or exports next, by its kind.
 fn walk_extern<'f, 'a>(
     item: &Item<'f, 'a>,
-    walk: &Walk<'f, 'a, '_, '_, '_>,
+    walk: &WorldScope<'f, 'a, '_, '_, '_>,
     written: &'f Extern<'a>,
     growing: &mut Growing,
     walked: &mut Walked,
@@ -267,7 +261,7 @@ fn resource_functions<'t, 'a>(definition: &'t TypeDef<'a>) -> &'t [ResourceFunc<
 /// Resolves the functions of a definition, which come next: those of a resource.
 fn walk_definition<'f, 'a>(
     item: &Item<'f, 'a>,
-    walk: &Walk<'f, 'a, '_, '_, '_>,
+    walk: &WorldScope<'f, 'a, '_, '_, '_>,
     definition: &'f TypeDef<'a>,
     growing: &mut Growing,
     walked: &mut Walked,
@@ -286,7 +280,7 @@ fn walk_definition<'f, 'a>(
 /// Resolves all that is on the sides of a world, in source order.
 pub(crate) fn walk_parts<'f, 'a>(
     item: &Item<'f, 'a>,
-    walk: &Walk<'f, 'a, '_, '_, '_>,
+    walk: &WorldScope<'f, 'a, '_, '_, '_>,
     growing: &mut Growing,
     walked: &mut Walked,
 ) -> ParseResult<()>

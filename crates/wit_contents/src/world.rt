@@ -16,7 +16,7 @@ ghost use Rattle.wit_world_sides.specs.Members.{AreKeyed, AreSettled};
 ghost use Rattle.wit_contents.specs.Worlds.{AddsContent, AddsNamesOf, AddsTo, AddsWorldsAmong, AreIndexed, HasContent, FindsWorld, FindsWorlds};
 ghost use Rattle.wit_contents.specs.Walk.{IsWorldOf};
 
-use crate::sides::{put_nothing, walk_sides};
+use crate::sides::{has_nothing, walk_sides};
 use crate::walk::{Growing, Walked, WorldScope};
 use std::alloc::{AllocError, Global};
 use std::mem::replace;
@@ -36,7 +36,6 @@ use wit_maps::TextTable;
 use wit_model::{Interface, World, WorldInclude};
 use wit_rules::borrowed::BorrowedFunction;
 use wit_scopes::scope_name::ScopeName;
-use wit_top_names::declaration::world_items;
 use wit_tree::ParseResult;
 use wit_tree::tree::{self, Id, Type};
 use wit_types::{Arena, InterfacePlace, TypeOwner, WorldPlace};
@@ -125,8 +124,8 @@ struct WrittenFunctions<'f, 'a> {
 /// Those of a world with these names.
 fn written_functions<'f, 'a>(
     alloc: Global,
-    world: &'f tree::World<'a>,
     names: &[ScopeName<'f, 'a>],
+    world: &'f tree::World<'a>,
 ) -> Result<WrittenFunctions<'f, 'a>, AllocError>
     requires { AllDiffer (map local_name (map name_view names.now)) }
     ensures functions { IfOk result (λ w. map function_view w.functions.items ≡ flat_map part_functions (map world_part world.now.items.items)) }
@@ -143,7 +142,7 @@ fn written_functions<'f, 'a>(
 /// The error is a failed allocation.
 fn settled_content(
     alloc: Global,
-    scope: &WorldScope<'_, '_>,
+    scope: &WorldScope<'_, '_, '_, '_, '_>,
     walked: Walked,
     includes: Row<WorldInclude>,
     required: &mut Vec<Required>,
@@ -173,23 +172,25 @@ fn world_content<'f, 'a>(
     let alloc = *worlds.by_name.allocator();
     let names = world_names(item, &mut resolving.growing.types, worlds)?;
     let world = declared_world(&item.declared);
-    let includes = resolve_includes(alloc, world, worlds, item.place)?;
-    if put_nothing(world_items(world)) {
+    let includes = resolve_includes(alloc, worlds, world, item.place)?;
+    if has_nothing(world) {
         if !have_upper_case(&names.turn) {
             let sides = sides_of_names(alloc, &names, &mut resolving.required)?;
             return Ok(WorldContent { sides, includes });
         }
     }
     let closed = is_closed(includes.as_slice());
-    let written = written_functions(alloc, world, &item.names)?;
+    let written = written_functions(alloc, &item.names, world)?;
     let scope = WorldScope {
         names,
         results: written.results,
         functions: written.functions,
+        interfaces: worlds.interfaces,
         closed,
     };
-    let walked = walk_sides(item, &scope, worlds.interfaces, &mut resolving.growing)?;
-    let content = settled_content(alloc, &scope, walked, includes, &mut resolving.required)?;
+    let lent: &WorldScope<'_, '_, '_, '_, '_> = &scope;
+    let walked = walk_sides(item, lent, &mut resolving.growing)?;
+    let content = settled_content(alloc, lent, walked, includes, &mut resolving.required)?;
     Ok(content)
 }
 

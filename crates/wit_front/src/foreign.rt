@@ -182,19 +182,19 @@ impl ForeignArenas {
     ///
     /// The error is a failed allocation.
     fn add_used_by_name(
-        &mut self,
         alloc: Global,
-        types: &mut Entries,
         name: &ScopeName<'_, '_>,
+        arenas: &mut ForeignArenas,
+        types: &mut Entries,
     ) -> Result<(), AllocError>
-        requires { HasUsed types.old self.old (λ p. IsNamePlaced p name.now) }
-        ensures { OnOk result (AddsUsed types.old self.old types.new self.new (λ p. IsNamePlaced p name.now) (name_foreign_uses (name_view name.now))) }
+        requires { HasUsed types.old arenas.old (λ p. IsNamePlaced p name.now) }
+        ensures { OnOk result (AddsUsed types.old arenas.old types.new arenas.new (λ p. IsNamePlaced p name.now) (name_foreign_uses (name_view name.now))) }
     {
         match name {
             ScopeName::Used(used) => match used.from {
                 Source::Declared(_) => Ok(()),
                 Source::Foreign { place, .. } => {
-                    self.add_used_type(alloc, types, place, used.attributes, used.name)
+                    arenas.add_used_type(alloc, types, place, used.attributes, used.name)
                 }
             },
             ScopeName::Defined(_) => Ok(()),
@@ -205,16 +205,16 @@ impl ForeignArenas {
     ///
     /// The error is a failed allocation.
     fn add_used_by_names(
-        &mut self,
         alloc: Global,
-        types: &mut Entries,
         names: &[ScopeName<'_, '_>],
+        arenas: &mut ForeignArenas,
+        types: &mut Entries,
     ) -> Result<(), AllocError>
-        requires { HasUsed types.old self.old (λ p. AreNamesPlaced p names.now) }
-        ensures { OnOk result (AddsUsed types.old self.old types.new self.new (λ p. AreNamesPlaced p names.now) (flat_map name_foreign_uses (map name_view names.now))) }
+        requires { HasUsed types.old arenas.old (λ p. AreNamesPlaced p names.now) }
+        ensures { OnOk result (AddsUsed types.old arenas.old types.new arenas.new (λ p. AreNamesPlaced p names.now) (flat_map name_foreign_uses (map name_view names.now))) }
     {
         for name in names {
-            self.add_used_by_name(alloc, types, name)?;
+            ForeignArenas::add_used_by_name(alloc, name, arenas, types)?;
         }
         Ok(())
     }
@@ -223,16 +223,16 @@ impl ForeignArenas {
     ///
     /// The error is a failed allocation.
     fn add_used_inside(
-        &mut self,
         alloc: Global,
-        types: &mut Entries,
         inside: &[Vec<ScopeName<'_, '_>>],
+        arenas: &mut ForeignArenas,
+        types: &mut Entries,
     ) -> Result<(), AllocError>
-        requires { HasUsed types.old self.old (λ p. ArePlacedInside p inside.now) }
-        ensures { OnOk result (AddsUsed types.old self.old types.new self.new (λ p. ArePlacedInside p inside.now) (inside_uses inside.now)) }
+        requires { HasUsed types.old arenas.old (λ p. ArePlacedInside p inside.now) }
+        ensures { OnOk result (AddsUsed types.old arenas.old types.new arenas.new (λ p. ArePlacedInside p inside.now) (inside_uses inside.now)) }
     {
         for names in inside {
-            self.add_used_by_names(alloc, types, names)?;
+            ForeignArenas::add_used_by_names(alloc, names, arenas, types)?;
         }
         Ok(())
     }
@@ -242,33 +242,33 @@ impl ForeignArenas {
     ///
     /// The error is a failed allocation.
     fn add_used_by_item(
-        &mut self,
         alloc: Global,
-        types: &mut Entries,
         item: &Item<'_, '_>,
+        arenas: &mut ForeignArenas,
+        types: &mut Entries,
     ) -> Result<(), AllocError>
-        requires { HasUsed types.old self.old (λ p. IsItemPlaced p item.now) }
-        ensures { OnOk result (AddsUsed types.old self.old types.new self.new (λ p. IsItemPlaced p item.now) (borrowed_foreign_uses item.now)) }
+        requires { HasUsed types.old arenas.old (λ p. IsItemPlaced p item.now) }
+        ensures { OnOk result (AddsUsed types.old arenas.old types.new arenas.new (λ p. IsItemPlaced p item.now) (borrowed_foreign_uses item.now)) }
     {
-        self.add_used_by_names(alloc, types, &item.names)?;
-        self.add_used_inside(alloc, types, &item.imported)?;
-        self.add_used_inside(alloc, types, &item.exported)
+        ForeignArenas::add_used_by_names(alloc, &item.names, arenas, types)?;
+        ForeignArenas::add_used_inside(alloc, &item.imported, arenas, types)?;
+        ForeignArenas::add_used_inside(alloc, &item.exported, arenas, types)
     }
 
     /// Adds the types that items use from interfaces of other packages, in the order of their visits.
     ///
     /// The error is a failed allocation.
     pub fn add_used_by_items(
-        &mut self,
         alloc: Global,
-        types: &mut Entries,
         items: &[Item<'_, '_>],
+        arenas: &mut ForeignArenas,
+        types: &mut Entries,
     ) -> Result<(), AllocError>
-        requires { HasUsed types.old self.old (λ p. All (IsItemPlaced p) items.now) }
-        ensures { OnOk result (AddsPrefix types.old self.old types.new self.new items.now) }
+        requires { HasUsed types.old arenas.old (λ p. All (IsItemPlaced p) items.now) }
+        ensures { OnOk result (AddsPrefix types.old arenas.old types.new arenas.new items.now) }
     {
         for item in items {
-            self.add_used_by_item(alloc, types, item)?;
+            ForeignArenas::add_used_by_item(alloc, item, arenas, types)?;
         }
         Ok(())
     }

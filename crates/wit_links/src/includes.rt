@@ -116,8 +116,8 @@ fn include_count(world: &tree::World<'_>) -> usize {
 /// The includes of a declared world.
 pub fn resolve_includes<'f, 'a>(
     alloc: Global,
-    world: &'f tree::World<'a>,
     worlds: &Worlds<'f, 'a, '_, '_, '_>,
+    world: &'f tree::World<'a>,
     place: usize,
 ) -> ParseResult<Row<WorldInclude>>
     requires item { HasItem worlds.now.interfaces.now.files place (TheWorld world.now) }

@@ -1,5 +1,5 @@
 use Rattle.std.proofs.Common.{◌++◌, [], List, sym, ap, ◌∙◌}
-use Rattle.wit_contents.proofs.Names.{IsStart, ItemWalk, Name, err_from_is_err_and, first_after, item_view, items_on, none_both, option_or, reports_back, reports_prefix, reports_same, setters_fault, side_items, flat_map}
+use Rattle.wit_contents.proofs.Names.{IsStart, ItemWalk, Name, err_from_is_err_and, first_after, item_view, items_on, none_both, option_or, reports_back, reports_prefix, reports_same, setters_fault, side_items, flat_map, walk_of}
 use Rattle.wit_contents.specs.declared.walk.Walked.{Walked}
 use Rattle.wit_contents.proofs.WorldFaults.{texts_differ, next_all, setters_closed}
 use Rattle.wit_contents.proofs.sides.walk_sides.Goals as goal
@@ -17,11 +17,11 @@ named_members-requires-clause-listed c = rw c.deref-turn.ensures.value c.args.sc
 pub walk_parts-requires : goal.walk_parts-requires
 walk_parts-requires c =
     let start : Walked = record { members = c.in_ok-members.members; required = c.new.result; seen = c.none.result } in
-    next_all (record { item = c.args.item.now; scope = c.args.scope.now; interfaces = c.args.interfaces.now }) start c.requires c.none.ensures c.in_ok-members.ensures.keyed
+    next_all (walk_of c.args.item.now c.args.scope.now) start c.requires c.none.ensures c.in_ok-members.ensures.keyed
 
 pub check_closed-requires : goal.check_closed-requires
 check_closed-requires c =
-    let w : ItemWalk = record { item = c.args.item.now; scope = c.args.scope.now; interfaces = c.args.interfaces.now } in
+    let w : ItemWalk = walk_of c.args.item.now c.args.scope.now in
     let e = rw c.deref-turn.ensures.value at c.in_ok-members.ensures in
     let start : Walked = record { members = c.in_ok-members.members; required = c.new.result; seen = c.none.result } in
     let all = side_items (item_view w.item) in
@@ -29,7 +29,7 @@ check_closed-requires c =
 
 pub returns-clause-adds : goal.returns-clause-adds
 returns-clause-adds c =
-    let w : ItemWalk = record { item = c.args.item.now; scope = c.args.scope.now; interfaces = c.args.interfaces.now } in
+    let w : ItemWalk = walk_of c.args.item.now c.args.scope.now in
     let e = rw c.deref-turn.ensures.value at c.in_ok-members.ensures in
     let start : Walked = record { members = c.in_ok-members.members; required = c.new.result; seen = c.none.result } in
     let begun : IsStart w start = record { required = c.new.ensures.items; seen = c.none.ensures; keyed = e.keyed; in_use = e.in_use; linked = e.linked; imports = e.imports; exports = e.exports } in
@@ -46,7 +46,7 @@ returns-in_err-members-clause-first c =
 pub returns-in_err-walk_parts-clause-first : goal.returns-in_err-walk_parts-clause-first
 returns-in_err-walk_parts-clause-first c =
     let p = err_from_is_err_and c.from_residual-in_err-walk_parts.result c.from_residual-in_err-walk_parts.ensures.1 in
-    let w : ItemWalk = record { item = c.args.item.now; scope = c.args.scope.now; interfaces = c.args.interfaces.now } in
+    let w : ItemWalk = walk_of c.args.item.now c.args.scope.now in
     let e = rw c.deref-turn.ensures.value at c.in_ok-members.ensures in
     let start : Walked = record { members = c.in_ok-members.members; required = c.new.result; seen = c.none.result } in
     let begun : IsStart w start = record { required = c.new.ensures.items; seen = c.none.ensures; keyed = e.keyed; in_use = e.in_use; linked = e.linked; imports = e.imports; exports = e.exports } in
@@ -56,7 +56,7 @@ returns-in_err-walk_parts-clause-first c =
 pub returns-in_err-check_closed-clause-first : goal.returns-in_err-check_closed-clause-first
 returns-in_err-check_closed-clause-first c =
     let p = err_from_is_err_and c.from_residual-in_err-check_closed.result c.from_residual-in_err-check_closed.ensures.1 in
-    let w : ItemWalk = record { item = c.args.item.now; scope = c.args.scope.now; interfaces = c.args.interfaces.now } in
+    let w : ItemWalk = walk_of c.args.item.now c.args.scope.now in
     let e = rw c.deref-turn.ensures.value at c.in_ok-members.ensures in
     let start : Walked = record { members = c.in_ok-members.members; required = c.new.result; seen = c.none.result } in
     let begun : IsStart w start = record { required = c.new.ensures.items; seen = c.none.ensures; keyed = e.keyed; in_use = e.in_use; linked = e.linked; imports = e.imports; exports = e.exports } in
@@ -66,7 +66,7 @@ returns-in_err-check_closed-clause-first c =
 
 pub returns-clause-first : goal.returns-clause-first
 returns-clause-first c = λ member right.
-    let w : ItemWalk = record { item = c.args.item.now; scope = c.args.scope.now; interfaces = c.args.interfaces.now } in
+    let w : ItemWalk = walk_of c.args.item.now c.args.scope.now in
     let e = rw c.deref-turn.ensures.value at c.in_ok-members.ensures in
     let start : Walked = record { members = c.in_ok-members.members; required = c.new.result; seen = c.none.result } in
     let begun : IsStart w start = record { required = c.new.ensures.items; seen = c.none.ensures; keyed = e.keyed; in_use = e.in_use; linked = e.linked; imports = e.imports; exports = e.exports } in

@@ -32,7 +32,7 @@ returns-then-not-have_upper_case-clause-adds c =
     let item = item_view c.args.item.now in
     let names = c.in_ok-names.names in
     let n = c.in_ok-names.ensures.adds in
-    let empty = none_there c.args.item.now c.declared_world-world.result.now c.world_items.result.now c.declared_world-world.ensures c.world_items.ensures (sym c.put_nothing.ensures ∙ c.if-put_nothing.true) in
+    let empty = none_there c.args.item.now c.declared_world-world.result.now c.declared_world-world.ensures (sym c.has_nothing.ensures ∙ c.if-has_nothing.true) in
     let are = subst (λ (w : Item). AreIncludes (addresses_of c.args.worlds.now) w c.in_ok-includes.includes) (item_here c.args.item.now c.declared_world-world.result.now c.requires.item c.declared_world-world.ensures) c.in_ok-includes.ensures.are in
     let alone = c.in_ok-sides.ensures in
     λ world has ss known. record {
@@ -46,7 +46,7 @@ returns-then-not-have_upper_case-clause-first c = λ stable wrong right.
     let i = c.args.item.now in
     let names = c.in_ok-names.names in
     let n = c.in_ok-names.ensures.adds in
-    let empty = none_there i c.declared_world-world.result.now c.world_items.result.now c.declared_world-world.ensures c.world_items.ensures (sym c.put_nothing.ensures ∙ c.if-put_nothing.true) in
+    let empty = none_there i c.declared_world-world.result.now c.declared_world-world.ensures (sym c.has_nothing.ensures ∙ c.if-has_nothing.true) in
     let lower = ap has_upper (sym c.deref.ensures.value) ∙ sym c.have_upper_case.ensures ∙ c.if-not-have_upper_case.true in
     let included = sym (ap (includes_fault c.args.worlds.now) (item_here c.args.item.now c.declared_world-world.result.now c.requires.item c.declared_world-world.ensures)) ∙ c.in_ok-includes.ensures.first in
     world_alone c.args.worlds.now i c.args.resolving.now.growing wrong right c.requires.item.named stable names c.world_names.new.types n c.in_ok-names.ensures.first included (done names) (alone_none (item_view i) empty names.turn.items (turn_added _ _ _ _ _ _ _ _ n) lower right.member)
@@ -60,7 +60,7 @@ written_functions-requires c =
 pub walk_sides-requires : goal.walk_sides-requires
 walk_sides-requires c =
     let are = subst (λ (w : Item). AreIncludes (addresses_of c.args.worlds.now) w c.in_ok-includes.includes) (item_here c.args.item.now c.declared_world-world.result.now c.requires.item c.declared_world-world.ensures) c.in_ok-includes.ensures.are in
-    let scope : WorldScope = record { names = c.in_ok-names.names; results = c.in_ok-written.written.results; functions = c.in_ok-written.written.functions; closed = c.is_closed-closed.result } in
+    let scope : WorldScope = record { names = c.in_ok-names.names; results = c.in_ok-written.written.results; functions = c.in_ok-written.written.functions; interfaces = c.args.worlds.now.interfaces; closed = c.is_closed-closed.result } in
     let closed = c.is_closed-closed.ensures (written_includes (item_view c.args.item.now)) (ap length c.as_slice.ensures ∙ are.count) in
     let walks = walk_there c.args.worlds.now.interfaces.now c.args.item.now scope _ _ c.requires c.declared_world-world.ensures (turn_added _ _ _ _ _ _ _ _ c.in_ok-names.ensures.adds) c.in_ok-written.ensures.functions c.deref-2.ensures.value c.in_ok-written.ensures.results closed in
     walks
@@ -77,7 +77,7 @@ returns-clause-adds c =
     let m = c.in_ok-walked.walked in
     let h = c.in_ok-walked.ensures.adds in
     let are = subst (λ (w : Item). AreIncludes (addresses_of c.args.worlds.now) w c.in_ok-includes.includes) (item_here c.args.item.now c.declared_world-world.result.now c.requires.item c.declared_world-world.ensures) c.in_ok-includes.ensures.are in
-    let scope : WorldScope = record { names = c.in_ok-names.names; results = c.in_ok-written.written.results; functions = c.in_ok-written.written.functions; closed = c.is_closed-closed.result } in
+    let scope : WorldScope = record { names = c.in_ok-names.names; results = c.in_ok-written.written.results; functions = c.in_ok-written.written.functions; interfaces = c.args.worlds.now.interfaces; closed = c.is_closed-closed.result } in
     let closed = c.is_closed-closed.ensures (written_includes (item_view c.args.item.now)) (ap length c.as_slice.ensures ∙ are.count) in
     let walks = walk_there c.args.worlds.now.interfaces.now c.args.item.now scope _ _ c.requires c.declared_world-world.ensures (turn_added _ _ _ _ _ _ _ _ c.in_ok-names.ensures.adds) c.in_ok-written.ensures.functions c.deref-2.ensures.value c.in_ok-written.ensures.results closed in
     let made = c.in_ok-content.ensures in
@@ -112,7 +112,7 @@ returns-in_err-walked-clause-first c =
     let e = c.in_ok-names.ensures in
     let included = sym (ap (includes_fault c.args.worlds.now) (item_here c.args.item.now c.declared_world-world.result.now c.requires.item c.declared_world-world.ensures)) ∙ c.in_ok-includes.ensures.first in
     let are = subst (λ (w : Item). AreIncludes (addresses_of c.args.worlds.now) w c.in_ok-includes.includes) (item_here c.args.item.now c.declared_world-world.result.now c.requires.item c.declared_world-world.ensures) c.in_ok-includes.ensures.are in
-    let scope : WorldScope = record { names = c.in_ok-names.names; results = c.in_ok-written.written.results; functions = c.in_ok-written.written.functions; closed = c.is_closed-closed.result } in
+    let scope : WorldScope = record { names = c.in_ok-names.names; results = c.in_ok-written.written.results; functions = c.in_ok-written.written.functions; interfaces = c.args.worlds.now.interfaces; closed = c.is_closed-closed.result } in
     let closed = c.is_closed-closed.ensures (written_includes (item_view c.args.item.now)) (ap length c.as_slice.ensures ∙ are.count) in
     let walks = walk_there c.args.worlds.now.interfaces.now c.args.item.now scope _ _ c.requires c.declared_world-world.ensures (turn_added _ _ _ _ _ _ _ _ c.in_ok-names.ensures.adds) c.in_ok-written.ensures.functions c.deref-2.ensures.value c.in_ok-written.ensures.results closed in
     rw (p.1, p.2) (λ stable wrong right. world_found c.args.worlds.now c.args.item.now c.args.resolving.now.growing wrong right c.requires.item.named stable scope c.world_names.new.types e.adds e.first included (failed _) walks c.in_err-walked.ensures.first)
@@ -122,7 +122,7 @@ returns-clause-first c = λ stable wrong right.
     let e = c.in_ok-names.ensures in
     let included = sym (ap (includes_fault c.args.worlds.now) (item_here c.args.item.now c.declared_world-world.result.now c.requires.item c.declared_world-world.ensures)) ∙ c.in_ok-includes.ensures.first in
     let are = subst (λ (w : Item). AreIncludes (addresses_of c.args.worlds.now) w c.in_ok-includes.includes) (item_here c.args.item.now c.declared_world-world.result.now c.requires.item c.declared_world-world.ensures) c.in_ok-includes.ensures.are in
-    let scope : WorldScope = record { names = c.in_ok-names.names; results = c.in_ok-written.written.results; functions = c.in_ok-written.written.functions; closed = c.is_closed-closed.result } in
+    let scope : WorldScope = record { names = c.in_ok-names.names; results = c.in_ok-written.written.results; functions = c.in_ok-written.written.functions; interfaces = c.args.worlds.now.interfaces; closed = c.is_closed-closed.result } in
     let closed = c.is_closed-closed.ensures (written_includes (item_view c.args.item.now)) (ap length c.as_slice.ensures ∙ are.count) in
     let walks = walk_there c.args.worlds.now.interfaces.now c.args.item.now scope _ _ c.requires c.declared_world-world.ensures (turn_added _ _ _ _ _ _ _ _ c.in_ok-names.ensures.adds) c.in_ok-written.ensures.functions c.deref-2.ensures.value c.in_ok-written.ensures.results closed in
     world_found c.args.worlds.now c.args.item.now c.args.resolving.now.growing wrong right c.requires.item.named stable scope c.world_names.new.types e.adds e.first included (done c.in_ok-walked.walked) walks c.in_ok-walked.ensures.first

@@ -35,4 +35,4 @@ returns c =
     let first = (rw c.deref.ensures.value at c.in_ok-add_used_by_names.ensures) vs ts apart placed.own before in
     let second = (rw c.deref-2.ensures.value at c.in_ok-add_used_inside.ensures) vs (ts ++ own) apart (placed.inside Imported) first in
     let third = in_use vs ((ts ++ own) ++ imported) apart (placed.inside Exported) second in
-    subst (λ (l : List ForeignUse). AreAdded vs l c.add_used_inside-2.new.types c.add_used_inside-2.new.self) (append_assoc (ts ++ own) imported exported ∙ append_assoc ts own (imported ++ exported)) third)) last
+    subst (λ (l : List ForeignUse). AreAdded vs l c.add_used_inside-2.new.types c.add_used_inside-2.new.arenas) (append_assoc (ts ++ own) imported exported ∙ append_assoc ts own (imported ++ exported)) third)) last

@@ -25,7 +25,7 @@ loop-item-preserved c = λ vs ts apart placed before. (
     let prefix = flat_map borrowed_foreign_uses (take i xs) in
     let next = c.in_ok-add_used_by_item.ensures vs (ts ++ prefix) apart own (c.loop-item.invariant vs ts apart placed before) in
     let extended : ts ++ flat_map borrowed_foreign_uses (take (i + 1) xs) ≡ (ts ++ prefix) ++ borrowed_foreign_uses x = ap (λ (l : List ForeignUse). ts ++ l) (flat_more borrowed_foreign_uses (take i xs) (take (i + 1) xs) x more) ∙ sym (append_assoc ts prefix (borrowed_foreign_uses x)) in
-    subst (λ (l : List ForeignUse). AreAdded vs l c.add_used_by_item.new.types c.add_used_by_item.new.self) (sym extended) next)
+    subst (λ (l : List ForeignUse). AreAdded vs l c.add_used_by_item.new.types c.add_used_by_item.new.arenas) (sym extended) next)
 
 pub returns : goal.returns
 returns c = λ files before are all. (
@@ -34,4 +34,4 @@ returns c = λ files before are all. (
     let whole : take i xs ≡ xs = take_all i xs (omega arith) in
     let added = c.loop-item.invariant (foreign_items files) [] (interfaces_differ files) (items_placed files xs are) before in
     let foreign_uses = ap (flat_map borrowed_foreign_uses) whole ∙ all-foreign_uses files xs are all in
-    prefix_used files c.loop-item.types c.loop-item.self (subst (λ (l : List ForeignUse). AreAdded (foreign_items files) l c.loop-item.types c.loop-item.self) foreign_uses added))
+    prefix_used files c.loop-item.types c.loop-item.arenas (subst (λ (l : List ForeignUse). AreAdded (foreign_items files) l c.loop-item.types c.loop-item.arenas) foreign_uses added))

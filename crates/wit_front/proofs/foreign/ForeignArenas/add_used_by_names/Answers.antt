@@ -13,7 +13,7 @@ loop-name-preserved c = λ vs ts apart placed before. (
     let at : slice_get xs i ≡ Some x = slice_get-get_or xs i x c.loop-name-test.true ∙ ap Some (sym c.name-item.is) in
     let next = c.in_ok-add_used_by_name.ensures vs (ts ++ flat_map name_foreign_uses (map name_view (take i xs))) apart (placed.each i x at) (c.loop-name.invariant vs ts apart placed before) in
     let extended : ts ++ flat_map name_foreign_uses (map name_view (take (i + 1) xs)) ≡ (ts ++ flat_map name_foreign_uses (map name_view (take i xs))) ++ name_foreign_uses (name_view x) = ap (λ (l : List ScopeName). ts ++ flat_map name_foreign_uses (map name_view l)) more ∙ foreign_uses-next name_foreign_uses name_view ts (take i xs) x in
-    subst (λ (l : List ForeignUse). AreAdded vs l c.add_used_by_name.new.types c.add_used_by_name.new.self) (sym extended) next)
+    subst (λ (l : List ForeignUse). AreAdded vs l c.add_used_by_name.new.types c.add_used_by_name.new.arenas) (sym extended) next)
 
 pub returns : goal.returns
-returns c = λ vs ts apart placed before. subst (λ (l : List ScopeName). AreAdded vs (ts ++ flat_map name_foreign_uses (map name_view l)) c.loop-name.types c.loop-name.self) (take_all c.loop-name.name-index c.args.names.now c.loop-name-test.false) (c.loop-name.invariant vs ts apart placed before)
+returns c = λ vs ts apart placed before. subst (λ (l : List ScopeName). AreAdded vs (ts ++ flat_map name_foreign_uses (map name_view l)) c.loop-name.types c.loop-name.arenas) (take_all c.loop-name.name-index c.args.names.now c.loop-name-test.false) (c.loop-name.invariant vs ts apart placed before)

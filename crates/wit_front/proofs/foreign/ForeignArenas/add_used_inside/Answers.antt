@@ -25,7 +25,7 @@ loop-names-preserved c = λ vs ts apart placed before. (
     let more : take (i + 1) xs ≡ take i xs ++ x ∷ [] = take_more xs i x c.loop-names-test.true ∙ ap (λ (y : Vec Borrowed Global). take i xs ++ y ∷ []) (sym c.names-item.is) in
     let next = (rw c.deref.ensures.value at c.in_ok-add_used_by_names.ensures) vs (ts ++ prefix) apart own (c.loop-names.invariant vs ts apart placed before) in
     let extended : ts ++ flat_map (flat_map name_foreign_uses) (map seen (take (i + 1) xs)) ≡ (ts ++ prefix) ++ flat_map name_foreign_uses (seen x) = ap (λ (l : List ForeignUse). ts ++ l) (flat_more (flat_map name_foreign_uses) (map seen (take i xs)) (map seen (take (i + 1) xs)) (seen x) (ap (map seen) more ∙ map-append seen (take i xs) (x ∷ []))) ∙ sym (append_assoc ts prefix (flat_map name_foreign_uses (seen x))) in
-    subst (λ (l : List ForeignUse). AreAdded vs l c.add_used_by_names.new.types c.add_used_by_names.new.self) (sym extended) next)
+    subst (λ (l : List ForeignUse). AreAdded vs l c.add_used_by_names.new.types c.add_used_by_names.new.arenas) (sym extended) next)
 
 pub returns : goal.returns
-returns c = λ vs ts apart placed before. subst (λ (l : List (Vec Borrowed Global)). AreAdded vs (ts ++ flat_map (flat_map name_foreign_uses) (map seen l)) c.loop-names.types c.loop-names.self) (take_all c.loop-names.names-index c.args.inside.now c.loop-names-test.false) (c.loop-names.invariant vs ts apart placed before)
+returns c = λ vs ts apart placed before. subst (λ (l : List (Vec Borrowed Global)). AreAdded vs (ts ++ flat_map (flat_map name_foreign_uses) (map seen l)) c.loop-names.types c.loop-names.arenas) (take_all c.loop-names.names-index c.args.inside.now c.loop-names-test.false) (c.loop-names.invariant vs ts apart placed before)

@@ -4,4 +4,4 @@ use Rattle.wit_front.specs.ForeignPrefix.{AreAdded, addresses_among, name_foreig
 use Rattle.wit_front.proofs.foreign.ForeignArenas.add_used_inside.Given as goal
 
 abbrev pub invariant-loop-names : goal.invariant-loop-names
-invariant-loop-names l = (vs : List ForeignVisit) (ts : List ForeignUse) → AllDiffer (addresses_among vs) → All (λ ns. AreNamesPlaced (addresses_among vs) ns.items) l.inside → AreAdded vs ts l.fn.types l.fn.self → AreAdded vs (ts ++ flat_map (flat_map name_foreign_uses) (map (λ ns. map name_view ns.items) (take l.names-index l.inside))) l.types l.self
+invariant-loop-names l = (vs : List ForeignVisit) (ts : List ForeignUse) → AllDiffer (addresses_among vs) → All (λ ns. AreNamesPlaced (addresses_among vs) ns.items) l.inside → AreAdded vs ts l.fn.types l.fn.arenas → AreAdded vs (ts ++ flat_map (flat_map name_foreign_uses) (map (λ ns. map name_view ns.items) (take l.names-index l.inside))) l.types l.arenas
