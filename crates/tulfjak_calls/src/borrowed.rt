@@ -7,7 +7,7 @@ use tulfjak::refs::{FunctionRef, InterfaceRef, ItemRef, TypeRef, WorldRef};
 use tulfjak::{PackageRef, ResolvedGroup};
 
 /// Adds the owner of a type, and the resource of a handle.
-fn push_owner(text: &mut String, ty: &TypeRef<'_>) -> Result<(), AllocError> {
+fn push_owner(ty: &TypeRef<'_>, text: &mut String) -> Result<(), AllocError> {
     push_answer(text, "TypeRef::owner_name", &ty.owner_name())?;
     if let Some(interface) = ty.interface() {
         push_answer(text, "TypeRef::interface", &interface.id())?;
@@ -22,19 +22,19 @@ fn push_owner(text: &mut String, ty: &TypeRef<'_>) -> Result<(), AllocError> {
 }
 
 /// Adds what calls on a type return.
-fn push_type(text: &mut String, ty: &TypeRef<'_>) -> Result<(), AllocError> {
+fn push_type(ty: &TypeRef<'_>, text: &mut String) -> Result<(), AllocError> {
     push_answer(text, "TypeRef::id", &ty.id())?;
     push_answer(text, "TypeRef::name", &ty.name())?;
     push_answer(text, "TypeRef::get", &ty.get().kind.as_str())?;
     push_answer(text, "TypeRef::end", &ty.end().id())?;
-    push_owner(text, ty)
+    push_owner(ty, text)
 }
 
 /// Adds what calls on a function return.
 fn push_function(
     alloc: Global,
-    text: &mut String,
     function: &FunctionRef<'_>,
+    text: &mut String,
 ) -> Result<(), AllocError> {
     push_answer(text, "FunctionRef::get", &function.get().name)?;
     push_answer(text, "FunctionRef::item_name", &function.item_name())?;
@@ -48,8 +48,8 @@ fn push_function(
 /// Adds the names of an interface.
 fn push_path(
     alloc: Global,
-    text: &mut String,
     interface: &InterfaceRef<'_>,
+    text: &mut String,
 ) -> Result<(), AllocError> {
     push_answer(text, "InterfaceRef::id", &interface.id())?;
     push_answer(text, "InterfaceRef::name", &interface.name())?;
@@ -65,21 +65,21 @@ fn push_path(
 /// Adds what calls on an interface return.
 fn push_interface(
     alloc: Global,
-    text: &mut String,
     interface: &InterfaceRef<'_>,
+    text: &mut String,
 ) -> Result<(), AllocError> {
-    push_path(alloc, text, interface)?;
+    push_path(alloc, interface, text)?;
     for (name, ty) in interface.types() {
         push_answer(text, "InterfaceRef::types", &(name, ty.id()))?;
     }
     for function in interface.functions() {
-        push_function(alloc, text, &function)?;
+        push_function(alloc, &function, text)?;
     }
     Ok(())
 }
 
 /// Adds the entry of an import or an export.
-fn push_entry(text: &mut String, item: &ItemRef<'_>) -> Result<(), AllocError> {
+fn push_entry(item: &ItemRef<'_>, text: &mut String) -> Result<(), AllocError> {
     push_answer(text, "ItemRef::get", &item.get().span())?;
     if let Some(interface) = item.interface() {
         push_answer(text, "ItemRef::interface", &interface.id())?;
@@ -94,28 +94,28 @@ fn push_entry(text: &mut String, item: &ItemRef<'_>) -> Result<(), AllocError> {
 }
 
 /// Adds what calls on an import or an export return.
-fn push_item(alloc: Global, text: &mut String, item: &ItemRef<'_>) -> Result<(), AllocError> {
+fn push_item(alloc: Global, item: &ItemRef<'_>, text: &mut String) -> Result<(), AllocError> {
     push_answer(text, "ItemRef::key", item.key())?;
     push_answer(text, "ItemRef::name", &item.name(alloc)?)?;
-    push_entry(text, item)
+    push_entry(item, text)
 }
 
 /// Adds what calls on a world return.
-fn push_world(alloc: Global, text: &mut String, world: &WorldRef<'_>) -> Result<(), AllocError> {
+fn push_world(alloc: Global, world: &WorldRef<'_>, text: &mut String) -> Result<(), AllocError> {
     push_answer(text, "WorldRef::id", &world.id())?;
     push_answer(text, "WorldRef::name", &world.name())?;
     push_answer(text, "WorldRef::get", &world.get().span)?;
     for item in world.imports() {
-        push_item(alloc, text, &item)?;
+        push_item(alloc, &item, text)?;
     }
     for item in world.exports() {
-        push_item(alloc, text, &item)?;
+        push_item(alloc, &item, text)?;
     }
     Ok(())
 }
 
 /// Adds what a package has under a name.
-fn push_found(text: &mut String, package: &PackageRef<'_>) -> Result<(), AllocError> {
+fn push_found(package: &PackageRef<'_>, text: &mut String) -> Result<(), AllocError> {
     if let Some(interface) = package.interface("goods") {
         push_answer(text, "PackageRef::interface", &interface.id())?;
     }
@@ -126,10 +126,10 @@ fn push_found(text: &mut String, package: &PackageRef<'_>) -> Result<(), AllocEr
 }
 
 /// Adds the entries of a package.
-fn push_entries(text: &mut String, package: &PackageRef<'_>) -> Result<(), AllocError> {
+fn push_entries(package: &PackageRef<'_>, text: &mut String) -> Result<(), AllocError> {
     for ty in package.types() {
         if let Some(entry) = package.entry(Type::Id(ty.id())) {
-            push_type(text, &entry)?;
+            push_type(&entry, text)?;
         }
     }
     Ok(())
@@ -138,17 +138,17 @@ fn push_entries(text: &mut String, package: &PackageRef<'_>) -> Result<(), Alloc
 /// Adds what calls on a package return.
 fn push_package(
     alloc: Global,
-    text: &mut String,
     package: &PackageRef<'_>,
+    text: &mut String,
 ) -> Result<(), AllocError> {
     push_shown(text, "PackageRef::get", &package.get().name)?;
-    push_found(text, package)?;
-    push_entries(text, package)?;
+    push_found(package, text)?;
+    push_entries(package, text)?;
     for interface in package.interfaces() {
-        push_interface(alloc, text, &interface)?;
+        push_interface(alloc, &interface, text)?;
     }
     for world in package.worlds() {
-        push_world(alloc, text, &world)?;
+        push_world(alloc, &world, text)?;
     }
     Ok(())
 }
@@ -156,12 +156,12 @@ fn push_package(
 /// Adds what calls on a group return.
 pub fn push_borrowed(
     alloc: Global,
-    text: &mut String,
     group: &ResolvedGroup,
+    text: &mut String,
 ) -> Result<(), AllocError> {
-    push_package(alloc, text, &group.main())?;
+    push_package(alloc, &group.main(), text)?;
     for package in group.nested() {
-        push_package(alloc, text, &package)?;
+        push_package(alloc, &package, text)?;
     }
     Ok(())
 }

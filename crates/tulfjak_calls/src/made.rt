@@ -104,14 +104,14 @@ fn push_group(
 ) -> ParseResult<()> {
     push_ways(alloc, text, source, group.get())?;
     push_package(alloc, text, &group.get().main)?;
-    push_borrowed(alloc, text, group)?;
+    push_borrowed(alloc, group, text)?;
     Ok(())
 }
 
 /// Adds what calls on a group with a nested package return.
 fn push_nested(alloc: Global, text: &mut String) -> ParseResult<()> {
     let group = group_of(alloc, NESTED)?;
-    push_borrowed(alloc, text, &group)?;
+    push_borrowed(alloc, &group, text)?;
     Ok(())
 }
 
