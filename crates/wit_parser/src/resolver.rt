@@ -86,8 +86,8 @@ fn check_nested(alloc: Global, nested: &[NestedPackage<'_>]) -> ParseResult<()>
 /// The name and the docs of a package, by its last header and its files.
 fn package_heading(
     alloc: Global,
-    header: &tree::PackageName<'_>,
     files: &[PackageFile<'_>],
+    header: &tree::PackageName<'_>,
 ) -> Result<(PackageName, Docs), AllocError>
     ensures name { IfOk result (λ heading. heading.0 ≡ package_of header.now) }
     ensures docs { IfOk result (λ heading. heading.1 ≡ first_docs (headers files.now)) }
@@ -108,7 +108,7 @@ fn resolve_named(
     ensures first { FindsBy (ComesTo files.now) result }
 {
     let made = resolve_contents(alloc, files)?;
-    let (contents, heading) = pair_with(made, package_heading(alloc, header, files))?;
+    let (contents, heading) = pair_with(made, package_heading(alloc, files, header))?;
     Ok(UnresolvedPackage::new(
         heading.0,
         contents.arenas,
