@@ -47,6 +47,7 @@ pub mod Occurrence
 pub mod Placing
 pub mod PlacingFunctions
 pub mod Keyed
+pub mod OneByOne
 pub mod MadeScopes
 pub mod MadeInterfaces
 pub mod Members

@@ -22,7 +22,7 @@ pub use Rattle.wit_arena.specs.Faithful.{HasArena, HasType, IsAnonymousForm, IsF
 pub use Rattle.wit_arena.specs.Made.{IsEntryOf, Makes, entries_on, entry, foreign_interface, foreign_world, function_in, include_in, interface, interface_scopes, interface_turn, item_turns, member_turns, name_imports, name_places, names_in_turn, own_interface, own_interfaces, own_world, role_kind, scope_place, turns_of_world, world, world_entries, world_scopes}
 pub use Rattle.wit_arena.proofs.Keyed.{AreAt, IsAt, IsEntry, IsKeyed, all_seen, one, seen}
 pub use Rattle.wit_arena.proofs.Members.{entries_walked, side_entries, turns_on_sides, turns_walked, walked_entries, walked_turns}
-pub use Rattle.wit_arena.specs.OneByOne.{OneByOne}
+pub use Rattle.wit_arena.proofs.OneByOne.{OneByOne}
 pub use Rattle.wit_arena.specs.SourceFunctions.{AreSideItems, HasSide, inline_entry, link_item, link_key, put_on, settled, by_name, freestanding_names, function_item, kinds_of, placed_functions}
 pub use Rattle.wit_arena.specs.UnfoldedTypes.{At, IsBelow, dep_items, entry_head, entry_node, foreign_owner, function_types, functions_of, import_types, inline_owner, interface_at, interface_functions, interface_items, interfaces_from, is_interface_item, item_functions, keyed, named_interface, named_world, names_of, owner_of, package_node, package_tree, same_entry, world_functions, world_interfaces, world_types}
 pub use Rattle.wit_arena.specs.Whole.{AreRequired, HandleRequires, Turned, all_occurrences, declarations, dep, dep_item, first_docs, foreign_entry, functions_at, owner_at, place_at, renamed, turn_handles, turn_occurrences, type_imports}

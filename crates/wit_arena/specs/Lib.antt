@@ -2,7 +2,6 @@ pub mod Kind
 pub mod Occurrences
 pub mod SourceFunctions
 pub mod UnfoldedTypes
-pub mod OneByOne
 pub mod Whole
 pub mod Made
 pub mod Faithful

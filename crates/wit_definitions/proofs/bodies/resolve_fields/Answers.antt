@@ -9,6 +9,7 @@ use Rattle.wit_entries.proofs.Requiring.{extended_then}
 use Rattle.wit_entries.proofs.Resolves.{memory_stopped, types_more, types_none}
 use Rattle.wit_definitions.specs.Bodies.{field_member}
 use Rattle.wit_definitions.proofs.bodies.resolve_fields.Goals as goal
+use Rattle.wit_first.specs.First.{first_in}
 
 pub loop-written-init : goal.loop-written-init
 loop-written-init c = rw c.in_ok-resolved.ensures.items (record { members = refl; types = types_none c.args.scope.now c.args.given.now c.args.types.now c.args.required.now.items })

@@ -1,11 +1,11 @@
 use Rattle.std.proofs.Common.{◌≡◌, ◌++◌, Bool, List, [], Option, None, map, false, inl, inr, refl, sym, ap, ◌∙◌, subst, arith}
 use mathlib.Core.Path.{fun_ext}
-use Rattle.wit_items.proofs.Common.{AllDiffer, Fault, Id, Imported, Name, Names, ScopeName, SideFunction, SourceFunction, WorldSide, append-nil, differ_none, env_of, err_from_is_err_and, functions, is_ascii_uppercase, items_on, list_any, name_view, names_in, names_on, no_clashes, none_both, option_or, scope_item, scope_names, side_items, side_items_functions, word_fault}
+use Rattle.wit_items.proofs.Common.{AllDiffer, Fault, Id, Imported, Name, Names, ScopeName, SideFunction, SourceFunction, WorldSide, append-nil, differ_none, env_of, err_from_is_err_and, functions, is_ascii_uppercase, items_on, list_any, name_view, names_in, names_on, no_clashes, none_both, option_or, scope_item, scope_names, side_items, side_items_functions, word_fault, flat_map, SideItem}
 use Rattle.wit_sides.specs.SideNames.{defined_on}
 use Rattle.wit_rules.specs.Signatures.{function_view, HaveOwners}
 use Rattle.wit_entries.proofs.Resolves.{extended_same}
 use Rattle.wit_signatures.specs.FunctionsOfScope.{name_key, name_of_function, name_of_id}
-use Rattle.wit_externs.specs.Clash.{again, alone_faults, defined_fault, words_in}
+use Rattle.wit_externs.specs.Clash.{again, alone_faults, defined_fault, words_in, item_names}
 use Rattle.wit_item_entries.specs.AddedNames.{IsTurn}
 use Rattle.wit_item_entries.specs.ReachedFaults.{functions_fault}
 use Rattle.wit_item_entries.proofs.ReachedFaults.{all_names, used_before, words_same}

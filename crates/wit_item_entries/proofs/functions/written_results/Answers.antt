@@ -6,6 +6,7 @@ use Rattle.wit_item_entries.proofs.functions.written_results.Goals.{in-Defined+i
 use Rattle.wit_item_entries.proofs.functions.written_results.Goals as goal
 use denote.Ref.{Bor}
 use Rattle.wit_type_tree.specs.declared.types.«Type».{«Type» as Written}
+use Rattle.wit_syntax.specs.SignatureRules.{ok_of}
 
 pub loop-name-preserved : goal.loop-name-preserved
 loop-name-preserved c =

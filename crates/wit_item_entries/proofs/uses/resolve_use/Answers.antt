@@ -1,5 +1,5 @@
 use Rattle.std.proofs.Common.{◌≡◌, true, None, Some, inl, inr, refl, sym, ap, ◌∙◌, rules, ℕ, Option}
-use Rattle.wit_items.proofs.Common.{Fault, Id, codes, defined_twice, env_of, err_from_is_err_and, free_functions, if◌then◌else◌, is_none, name_twice, option_and_then, option_map_or, reports_back, reports_prefix, reports_same, resolved_scope_at, slice_get, source_view, source_within}
+use Rattle.wit_items.proofs.Common.{Fault, Id, codes, defined_twice, env_of, err_from_is_err_and, free_functions, if◌then◌else◌, is_none, name_twice, option_and_then, option_map_or, reports_back, reports_prefix, reports_same, resolved_scope_at, slice_get, source_view, source_within, source_place}
 use Rattle.std.specs.Prelude.{is_some}
 use Rattle.wit_item_entries.specs.ReachedFaults.{lost_name, used_fault, spelled_fault}
 use Rattle.wit_item_entries.proofs.ReachedFaults.{found_of, used_from}
