@@ -107,8 +107,7 @@ DefinesOne a b old new d r = Resolves (env_of a.names) old new a.required.items 
 -- a stability, where it is known
 abbrev pub known : Stability → Option Stability
 known stability.Unknown = None
-known (stability.Unstable feature deprecated) = Some (stability.Unstable feature deprecated)
-known (stability.Stable since deprecated) = Some (stability.Stable since deprecated)
+known s = Some s
 
 -- the stability of what is in a slot of a kind; of an empty one none is known
 abbrev pub slot_stability : List TypeDef → Option Ty → Stability

@@ -55,9 +55,8 @@ entry_at files (Foreign p id) = option_map (foreign_entry files) (foreign_at fil
 
 -- where that is a world, its place
 abbrev pub world_entry : Option AstItem → Option ℕ
-world_entry None = None
-world_entry (Some (entry.Interface i)) = None
 world_entry (Some (entry.World w)) = Some w
+world_entry x = None
 
 -- the world to which a path leads, where the declared ones have these places
 abbrev pub world_at : List PackageFile → Names → Target → Option ℕ
