@@ -1,39 +1,76 @@
 -- Interfaces that were added are done.
-use Rattle.std.proofs.Common.{◌≡◌, ℕ, ◌+◌, true, false, List, [], ◌∷◌, ◌++◌, length, map, Option, Some, inl, inr, refl, sym, ap, ◌∙◌, subst, append_assoc, length-append, suc, ◌⊎◌, arith}
-use Rattle.wit_arena.proofs.Names.{Address, AddsDeclared, AddsForeign, AddsInterfaces, Decls, Defines, Imported, Interface, InterfaceNamed, Item, Names, Occurrence, PackageFile, Required, ResolvedScope, ScopeName, TypeDef, TypeOwner, World, about, address, all_items, all_occurrences, append-cancel, append-nil, at_back, at_part, at_prefix, declarations, declared_metadata, flat_map, foreign_interfaces, foreign_use_occurrence, foreign_uses, foreign_worlds, functions, functions_imported, in_turn, inline_items, interface_functions, is_foreign, length-map, map-append, option_map, owner_at, placed_functions, resolved_scope, resolved_scopes, scope, scope_names, slice_get, slice_get-map, unwrap_or, visited, AreIncludes, AreRequired, Collects, Exported, Function, FunctionKey, HasSide, Id, Turned, WorldArenas, WorldInclude, WorldItem, WorldKey, WorldNamed, after_one, all_handles, at_either, at_split, flat_map-append, flat_map_at, flat_map_has, import_types, includes, keys, local_names, map_at, name_types, side_items, turn_handles, turn_occurrences, type_imports, world_functions, world_types, «Type» as Written, ForeignVisit, slice_get_within, interface, world}
+use Rattle.std.proofs.Common.{◌≡◌, ℕ, ◌+◌, true, false, List, [], ◌∷◌, ◌++◌, length, map, Option, Some, inl, inr, refl, sym, ap, ◌∙◌, subst, append_assoc, length-append, suc, ◌⊎◌, arith, add-zero, zero-add}
+use Rattle.wit_arena.proofs.Names.{Address, AddsDeclared, AddsForeign, AddsInterfaces, Decls, Imported, Interface, InterfaceNamed, Item, Names, Occurrence, PackageFile, Required, ResolvedScope, ScopeName, TypeDef, TypeOwner, World, address, all_items, all_occurrences, append-cancel, append-nil, at_back, at_part, at_prefix, declarations, flat_map, foreign_interfaces, foreign_use_occurrence, foreign_uses, foreign_worlds, functions, in_turn, inline_items, interface_functions, is_foreign, length-map, map-append, option_map, owner_at, resolved_scope, resolved_scopes, scope, scope_names, slice_get, slice_get-map, unwrap_or, visited, AreRequired, Function, FunctionKey, Id, Turned, WorldArenas, WorldItem, WorldKey, WorldNamed, after_one, all_handles, at_either, at_split, flat_map-append, flat_map_at, flat_map_has, import_types, keys, local_names, name_types, side_items, turn_handles, turn_occurrences, type_imports, world_functions, world_types, «Type» as Written, AddsEach, AddsInterface, GivesPlaces, IsOrder, Key, all_types, at_seam, own_interface, own_world, rows_of, scope_place}
 use Rattle.wit_arena.proofs.FreeNames.{free_of, free_keyed}
-use Rattle.wit_arena.proofs.Settled.{stated_placed, world_types-all}
+use Rattle.wit_arena.proofs.Settled.{world_types-all}
 use Rattle.wit_arena.proofs.Ordered.{Ordered, OrderedWorld, addresses, turned, side_turns, world_turns, all_turns, all_inside}
 use Rattle.wit_arena.proofs.Adding.{After, adds_after}
 use Rattle.wit_arena.proofs.Indexing.{resolved_scopes-append}
-use Rattle.wit_arena.proofs.Resolving.{DoneScope, resolved_scope_of, IsDone}
-use Rattle.wit_arena.proofs.Interfaces.{AreItems, AreOfSort, AreAddresses, item_scopes, interface_address, declared_called, own_address, interface_owner_at, world_owner_at, scope_addresses}
+use Rattle.wit_arena.proofs.Resolving.{DoneScope, resolved_scope_of, IsDone, IsTurn, done_as, turn_of}
+use Rattle.wit_arena.proofs.Interfaces.{AreItems, AreOfSort, AreAddresses, item_scopes, interface_address, declared_called, own_address, interface_owner_at, world_owner_at, scope_addresses, scope_of}
 use Rattle.wit_arena.proofs.Visits.{AreUsableUses, visited_addresses, addresses_join, visited_foreign, address_own}
-use Rattle.wit_arena.proofs.Prefix.{interface_scopes, world_scopes, prefix_scopes, resolved_scopes-interface_scopes, prefix_at, PrefixInterface, PrefixWorld, prefix_done, interface_scope, interface_scope_at, interfaces_count, worlds_count}
-use Rattle.wit_arena.proofs.ScopesInTurn.{AreDone, IsNextDone, done_prefix, AreLaid}
-use Rattle.wit_arena.proofs.Inside.{AreInside, HasInside, inside_at, inside_count}
-use Rattle.wit_arena.proofs.Required.{in_scope}
+use Rattle.wit_arena.proofs.Prefix.{interface_scopes, world_scopes, prefix_scopes, resolved_scopes-interface_scopes, prefix_at, prefix_done, interfaces_count, worlds_count, PrefixInterface, PrefixWorld}
+use Rattle.wit_arena.proofs.ScopesInTurn.{AreLaid, in_turn_is, laid_more, laid_none, laid_scope, more_occurrences, none_is_next, turned_handles}
+use Rattle.wit_arena.proofs.Required.{in_scope, required_append, required_extended, required_none}
 use Rattle.wit_arena.proofs.Turns.{item_of, own_item, names_turn, occurrences, all_name_occurrences}
+use Rattle.wit_arena.proofs.OneKind.{Extended}
+use Rattle.wit_arena.proofs.DoneNames.{are_known, are_new, are_owned, none_named, required_there, scope_done, seen_in_turn}
+use Rattle.wit_arena.proofs.Occurrence.{collects_extended}
+use Rattle.wit_arena.proofs.Placing.{gives_fewer, gives_in, place_in}
+use Rattle.wit_arena.proofs.PlacingFunctions.{types_present}
 use Rattle.wit_types.specs.declared.types.TypeOwner.TheVariants as owner
 use Rattle.wit_syntax.specs.Source as source
 
--- an interface of the arena is the item
-abbrev pub SaysInterface : Ordered → Interface → Type 0
-SaysInterface o i = i ≡ interface (about o.item.declared).called i.types i.functions (declared_metadata o.item.declared) (about o.item.declared).id.span
+-- an interface over places, with its names in its order
+abbrev pub ordered_interface : (Key → ℕ) → Ordered → Interface
+ordered_interface id o = own_interface id (λ i. o.order) o.item
 
--- it has the functions of a scope
-pub record MakesInterface (o : Ordered) (c : DoneScope) (i : Interface) : Type 0 where
-  pub functions : i.functions ≡ placed_functions c.made
-  pub stated : c.stated ≡ interface_functions i
+-- a world over places, where the interfaces and the worlds have these addresses
+abbrev pub ordered_world : (Key → ℕ) → List Address → List Address → OrderedWorld → World
+ordered_world id ss ws o = own_world id (λ i. o.own.order) ss ws o.own.item
 
--- what names define beside some scopes, they define beside more
-pub defines_wider : (old new : List TypeDef) (cs ds : List ResolvedScope) (o : TypeOwner) (s : Address) (names names' : Names) (xs : List ScopeName) → ((t : ℕ) (c : ResolvedScope) → slice_get cs t ≡ Some c → (j : ℕ) × (slice_get ds j ≡ Some c)) → Defines old new cs o s names names' xs → Defines old new ds o s names names' xs
-defines_wider old new cs ds o s names names' xs among d = record {
-  from = λ decls ms declared distinct fresh known occurrence present. d.from decls ms declared distinct fresh (record {
-    names = λ t c at. (let it = among t c at in known.names it.0 c it.1);
-    others = λ t c at same. (let it = among t c at in known.others it.0 c it.1 same);
-  }) occurrence present;
-}
+-- The first of some interfaces are done after others, in some orders of their names: over the places of what occurred these are they, and this
+-- is what their handles require.
+pub record AreInterfacesDone (files : List PackageFile) (decls : Decls) (first : List DoneScope) (is us : List Item) (es : List TypeDef) (xs : List Interface) (rs : List Required) : Type 0 where
+  pub ordered : List Ordered
+  pub scopes : List DoneScope
+  pub all : map item_of ordered ≡ us
+  pub laid : AreLaid resolved_scope is ordered xs scopes
+  pub done : IsDone files decls (all_occurrences files (map turned ordered)) (first ++ scopes) es
+  pub made : (id : Key → ℕ) → GivesPlaces id (keys done.seen) → xs ≡ map (ordered_interface id) ordered
+  pub required : AreRequired files (keys done.seen) (flat_map turn_handles (map turned ordered)) rs
+
+-- an interface that comes next is done, at a scope
+pub record IsNextDone (files : List PackageFile) (decls : Decls) (written : List Occurrence) (cs : List DoneScope) (before : List Key) (new : List TypeDef) (added : Interface) (rs : List Required) (o : Ordered) : Type 0 where
+  pub scope : DoneScope
+  pub turn : turn_of scope ≡ turned o
+  pub is : resolved_scope_of scope ≡ record { address = address o.item; types = added.types; functions = free_of (interface_functions added) }
+  pub done : IsDone files decls (written ++ turn_occurrences (turned o)) (cs ++ scope ∷ []) new
+  pub extended : Extended before (keys done.seen)
+  pub made : (id : Key → ℕ) → GivesPlaces id (keys done.seen) → added ≡ ordered_interface id o
+  pub required : AreRequired files (keys done.seen) (turn_handles (turned o)) rs
+
+-- so is one that is at no address of those that are done, once it was added
+pub next_scope : (files : List PackageFile) (decls : Decls) (written : List Occurrence) (cs : List DoneScope) (old : List TypeDef) (d : IsDone files decls written cs old) (known : List ResolvedScope) → ((t : ℕ) (c : ResolvedScope) → slice_get known t ≡ Some c → (j : ℕ) × (slice_get (map resolved_scope_of cs) j ≡ Some c)) → (place : ℕ) (new : List TypeDef) (added : Interface) (rs : List Required) (w : Item) → ((t : ℕ) (b : DoneScope) → slice_get cs t ≡ Some b → b.address ≡ address w → ⊥) → decls (address w) ≡ (scope files (address w), owner.Interface place) → scope files (address w) ≡ scope_names w → (a : AddsInterface known place old new added rs w) → IsNextDone files decls written cs (keys d.seen) new added rs (record { item = w; order = a.order })
+next_scope files decls written cs old d known among place new added rs w fresh own has a =
+    let s = address w in
+    let o : Ordered = record { item = w; order = a.order } in
+    let names = in_turn (scope_names w) a.order in
+    let turn : IsTurn (scope files s) names = subst (λ (l : List ScopeName). IsTurn l names) (sym has) (in_turn_is (scope_names w) a.order a.least a.distinct) in
+    let whose = owner.Interface place in
+    let x = a.from decls d.seen (are_owned files decls written cs old d s whose names fresh own turn) (are_new files decls written cs old d s whose names fresh own turn) (are_known files decls written cs old d s whose names fresh own turn known among) d.occurrence (none_named files decls written cs old d s whose names fresh own turn) in
+    let c = laid_scope whose o added.types [] (interface_functions added) [] in
+    let listed = (types_present (keys x.now) x.occurrence.once (turned o) added.types (λ id gives. ap (λ (i : Interface). i.types) (x.holds.1 id gives))).names in
+    let done = scope_done files decls written cs old d s whose names fresh own turn new c refl refl refl (turn_occurrences (turned o)) (seen_in_turn s names (functions w)) x x.holds.0 listed in
+    record {
+      scope = c;
+      turn = refl;
+      is = refl;
+      done = done;
+      extended = collects_extended (turn_occurrences (turned o)) d.seen x.now x.collects;
+      made = x.holds.1;
+      required = required_there files decls (written ++ turn_occurrences (turned o)) (cs ++ c ∷ []) new done (length cs) c (at_seam cs c) (all_handles (all_types names (functions w))) rs a.ended;
+    }
 
 abbrev called_resolved_scope : Names → List (List ℕ) → Option (List ℕ) → ResolvedScope
 called_resolved_scope types names name = record { address = InterfaceNamed (unwrap_or name []); types = types; functions = names }
@@ -75,7 +112,7 @@ last_after prefix xs xs' x last = append-cancel prefix xs' (xs ++ x ∷ []) (las
 module _ (files : List PackageFile) (is ws : List Item) where
   -- the first interfaces are done, after these of other packages
   abbrev pub InterfacesDone : List Interface → List Item → List TypeDef → List Interface → List Required → Type 0
-  InterfacesDone prefix us es xs rs = AreDone (InterfaceOwner files) SaysInterface resolved_scope MakesInterface files (decls files is ws) (prefix_scopes files prefix) is us es xs rs
+  InterfacesDone prefix us es xs rs = AreInterfacesDone files (decls files is ws) (prefix_scopes files prefix) is us es xs rs
 
   module _ (interfaces : AreOfSort false is) (worlds : AreOfSort true ws) (is_items : AreItems files is) (ws_items : AreItems files ws) where
     -- no two addresses are one
@@ -138,54 +175,88 @@ module _ (files : List PackageFile) (is ws : List Item) where
       pub next_world : (xs : List World) → owner.World (length (wprefix ++ xs)) ≡ WorldOwner files (length xs)
       next_world xs = ap owner.World (length-append wprefix xs ∙ ap (λ n. n + length xs) (worlds_count foreign ∙ sym (length-map (foreign_worlds files) visited)))
 
-      -- what an interface adds is done
-      interface_next : (us : List Item) (old new : List TypeDef) (xs xs' : List Interface) (qs rs : List Required) (w : Item) → slice_get is (length us) ≡ Some w → (d : InterfacesDone prefix us old xs qs) → After (AddsDeclared (map visited (foreign_interfaces files))) (interface_extends (map visited (foreign_interfaces files))) prefix old new xs xs' rs w → IsNextDone (InterfaceOwner files) SaysInterface resolved_scope MakesInterface files (decls files is ws) (prefix_scopes files prefix) is us old new xs xs' qs rs w d
-      interface_next us old new xs xs' qs rs w there d b =
-          let a = b.adds in
-          let added = b.added in
-          let sort = interfaces.each (length us) w there in
-          let names = in_turn (scope_names w) a.adds.order in
-          record {
-            order = a.adds.order;
-            least = a.adds.least;
-            distinct = a.adds.distinct;
-            types = added.types;
-            middle = a.middle;
-            defines = subst (λ (o : TypeOwner). Defines old a.middle (map resolved_scope_of (prefix_scopes files prefix ++ d.scopes)) o (address w) [] added.types names) (next_interface xs) (defines_wider old a.middle (resolved_scopes (map visited (foreign_interfaces files)) (prefix ++ xs)) (map resolved_scope_of (prefix_scopes files prefix ++ d.scopes)) (owner.Interface (length (prefix ++ xs))) (address w) [] added.types names (resolved_scopes_among xs d.scopes d.laid.types) (a.adds.defines (address w)));
-            made = a.functions;
-            rest_after = a.rest_after;
-            stated = interface_functions added;
-            are_stated = stated_placed (functions w) a.functions added (functions_imported w sort) a.are_present;
-            added = added;
-            last = last_after prefix xs xs' added b.last;
-            says = λ listed. a.says;
-            is_resolved_scope = λ listed. (
-                let names = free_of (interface_functions added) in
-                ap (λ (s : Address). record { address = s; types = added.types; functions = names }) (interface_address files is is_items (length us) w there sort)
-                ∙ ap (called_resolved_scope added.types names) (sym (ap (λ (x : Interface). x.name) a.says ∙ declared_called files is is_items (length us) w there))
-                ∙ ap (λ (l : List (List ℕ)). called_resolved_scope added.types l added.name) (free_keyed Imported added.functions));
-            makes = λ listed. record { functions = a.are_present; stated = refl };
-          }
+      module _ (us : List Item) (old : List TypeDef) (xs : List Interface) (qs : List Required) (w : Item) (there : slice_get is (length us) ≡ Some w) (d : InterfacesDone prefix us old xs qs) where
+        abbrev names_before : List DoneScope
+        names_before = prefix_scopes files prefix ++ d.scopes
+
+        next_item : slice_get is (length d.ordered) ≡ Some w
+        next_item = subst (λ (n : ℕ). slice_get is n ≡ Some w) (sym (ap length d.all) ∙ length-map d.ordered item_of) there
+
+        -- an interface that comes next is at no address of those that are done
+        pub interface_fresh : (t : ℕ) (c : DoneScope) → slice_get names_before t ≡ Some c → c.address ≡ address w → ⊥
+        interface_fresh t c at same = elim (at_part (prefix_scopes files prefix) d.scopes t c at) [
+          | inl h ↦ prefix_apart w h.0 c h.1 same
+          | inr h ↦ none_is_next d.laid (item_scopes files is is_items).unique w next_item h.0 c h.1 same
+        ]
+
+        at_place : slice_get is (length xs) ≡ Some w
+        at_place = subst (λ (n : ℕ). slice_get is n ≡ Some w) (sym d.laid.count) next_item
+
+        pub interface_owned : decls files is ws (address w) ≡ (scope files (address w), owner.Interface (length (prefix ++ xs)))
+        interface_owned = item_declared (length xs) w at_place ∙ ap (λ (o : TypeOwner). (scope files (address w), o)) (sym (next_interface xs))
+
+        pub interface_scoped : scope files (address w) ≡ scope_names w
+        interface_scoped = scope_of files is (item_scopes files is is_items) (length xs) w at_place
+
+        pub interface_among : (t : ℕ) (c : ResolvedScope) → slice_get (resolved_scopes (map visited (foreign_interfaces files)) (prefix ++ xs)) t ≡ Some c → (j : ℕ) × (slice_get (map resolved_scope_of names_before) j ≡ Some c)
+        interface_among = resolved_scopes_among xs d.scopes d.laid.types
+
+        -- once it was added, it is done
+        interface_next : (new : List TypeDef) (xs' : List Interface) (rs : List Required) → After (AddsDeclared (map visited (foreign_interfaces files))) (interface_extends (map visited (foreign_interfaces files))) prefix old new xs xs' rs w → InterfacesDone prefix (us ++ w ∷ []) new xs' (qs ++ rs)
+        interface_next new xs' rs b =
+            let added = b.added in
+            let a = b.adds in
+            let o : Ordered = record { item = w; order = a.order } in
+            let known = resolved_scopes (map visited (foreign_interfaces files)) (prefix ++ xs) in
+            let sort = interfaces.each (length xs) w at_place in
+            let next = next_scope files (decls files is ws) (all_occurrences files (map turned d.ordered)) names_before old d.done known interface_among (length (prefix ++ xs)) new added rs w interface_fresh interface_owned interface_scoped a in
+            let last = last_after prefix xs xs' added b.last in
+            let handles = turned_handles d.ordered o in
+            record {
+              ordered = d.ordered ++ o ∷ [];
+              scopes = d.scopes ++ next.scope ∷ [];
+              all = map-append item_of d.ordered (o ∷ []) ∙ ap (λ (l : List Item). l ++ w ∷ []) d.all;
+              laid = subst (λ (l : List Interface). AreLaid resolved_scope is (d.ordered ++ o ∷ []) l (d.scopes ++ next.scope ∷ [])) (sym last) (laid_more resolved_scope is d.ordered xs d.scopes o next.scope added d.laid next_item a.least next.turn (next.is ∙
+                  let names = free_of (interface_functions added) in
+                  ap (λ (s : Address). record { address = s; types = added.types; functions = names }) (interface_address files is is_items (length xs) w at_place sort)
+                  ∙ ap (called_resolved_scope added.types names) (sym (a.called ∙ declared_called files is is_items (length xs) w at_place))
+                  ∙ ap (λ (l : List (List ℕ)). called_resolved_scope added.types l added.name) (free_keyed Imported added.functions)));
+              done = done_as (sym (more_occurrences files d.ordered o)) (append_assoc (prefix_scopes files prefix) d.scopes (next.scope ∷ [])) next.done;
+              made = λ id gives. last ∙ ap (λ (l : List Interface). l ++ added ∷ []) (d.made id (gives_fewer next.extended id gives)) ∙ ap (λ (i : Interface). map (ordered_interface id) d.ordered ++ i ∷ []) (next.made id gives) ∙ sym (map-append (ordered_interface id) d.ordered (o ∷ []));
+              required = subst (λ (hs : List (Address × Id)). AreRequired files (keys next.done.seen) hs (qs ++ rs)) (sym handles) (required_append files (keys next.done.seen) (flat_map turn_handles (map turned d.ordered)) (turn_handles (turned o)) qs rs (required_extended files next.extended (flat_map turn_handles (map turned d.ordered)) qs d.required) next.required);
+            }
+
+      -- all that are left
+      more_interfaces : (us : List Item) (old new : List TypeDef) (xs own : List Interface) (qs rs : List Required) (vs : List Item) → ((k : ℕ) (w : Item) → slice_get vs k ≡ Some w → slice_get is (length us + k) ≡ Some w) → InterfacesDone prefix us old xs qs → AddsEach (After (AddsDeclared (map visited (foreign_interfaces files))) (interface_extends (map visited (foreign_interfaces files))) prefix) old new xs own rs vs → InterfacesDone prefix (us ++ vs) new own (qs ++ rs)
+      more_interfaces us old new xs own qs rs [] there d a = rw (append-nil us, a.0, a.1, a.2, append-nil qs) d
+      more_interfaces us old new xs own qs rs (w ∷ vs) there d a =
+          let at : slice_get is (length us) ≡ Some w = subst (λ (m : ℕ). slice_get is m ≡ Some w) (add-zero (length us)) (there 0 w refl) in
+          let longer : length (us ++ w ∷ []) ≡ length us + 1 = length-append us (w ∷ []) in
+          let rest = λ (k : ℕ) (v : Item) (h : slice_get vs k ≡ Some v). subst (λ (m : ℕ). slice_get is m ≡ Some v) (let same : length us + suc k ≡ length (us ++ w ∷ []) + k = omega arith in same) (there (suc k) v h) in
+          let more : (qs ++ a.2) ++ a.3 ≡ qs ++ rs = append_assoc qs a.2 a.3 ∙ ap (λ (x : List Required). qs ++ x) (sym a.4) in
+          let whole = more_interfaces (us ++ w ∷ []) a.0 new a.1 own (qs ++ a.2) a.3 vs rest (interface_next us old xs qs w at d a.0 a.1 a.2 a.5) a.6 in
+          subst (λ (x : List Item). InterfacesDone prefix x new own (qs ++ rs)) (append_assoc us (w ∷ []) vs) (subst (λ (x : List Required). InterfacesDone prefix ((us ++ w ∷ []) ++ vs) new own x) more whole)
+
+      -- none is done yet
+      no_interface : InterfacesDone prefix [] es [] []
+      no_interface = record {
+        ordered = [];
+        scopes = [];
+        all = refl;
+        laid = laid_none resolved_scope is;
+        done = done_as refl (sym (append-nil (prefix_scopes files prefix))) foreign_done;
+        made = λ id gives. refl;
+        required = required_none files (keys foreign_done.seen);
+      }
 
       -- the first interfaces, after those of other packages
       pub interfaces_done : (new : List TypeDef) (all : List Interface) (rs : List Required) (vs : List Item) → ((k : ℕ) (w : Item) → slice_get vs k ≡ Some w → slice_get is k ≡ Some w) → AddsInterfaces (map visited (foreign_interfaces files)) es new prefix all rs vs → (own : List Interface) × (all ≡ prefix ++ own) × InterfacesDone prefix vs new own rs
       interfaces_done new all rs vs there a =
           let ss = map visited (foreign_interfaces files) in
           let own = adds_after (AddsDeclared ss) (interface_extends ss) prefix [] all es new rs vs (subst (λ (l : List Interface). AddsInterfaces ss es new l all rs vs) (sym (append-nil prefix)) a) in
-          (own.0, own.1, done_prefix (InterfaceOwner files) SaysInterface resolved_scope MakesInterface files (decls files is ws) (prefix_scopes files prefix) is (item_scopes files is is_items) item_declared (λ t w at. prefix_apart w) (After (AddsDeclared ss) (interface_extends ss) prefix) interface_next es new own.0 rs vs there foreign_done own.2)
+          (own.0, own.1, more_interfaces [] es new [] own.0 [] rs vs (λ k w h. subst (λ (m : ℕ). slice_get is m ≡ Some w) (sym (zero-add k)) (there k w h)) no_interface own.2)
 
 -- What is once worlds are done, each with the interfaces that are written in it.
--- a world of the arena is the item, with its includes, where the worlds have these addresses
-pub record SaysWorld (worlds : List Address) (o : Ordered) (w : World) : Type 0 where
-  pub says : w ≡ world (about o.item.declared).id.name.now w.imports w.exports w.includes (declared_metadata o.item.declared) (about o.item.declared).id.span
-  pub includes : AreIncludes worlds o.item w.includes
-
--- it has the types of a scope as its imports, and then, on its sides, what the item has there; the interfaces have these addresses
-pub record MakesWorld (interfaces : List Address) (o : Ordered) (c : DoneScope) (w : World) : Type 0 where
-  pub imports : HasSide interfaces (map address (inline_items o.item)) o.item Imported c.made (type_imports c.names c.types) w.imports
-  pub exports : HasSide interfaces (map address (inline_items o.item)) o.item Exported c.made [] w.exports
-  pub stated : c.stated ≡ world_functions w
-
 -- a world that was resolved, as a scope
 abbrev pub world_resolved_scope : World → ResolvedScope
 world_resolved_scope w = record { address = WorldNamed w.name; types = world_types w; functions = free_of (world_functions w) }
@@ -209,7 +280,8 @@ all_within ws = flat_map (λ w. w.inside) ws
 abbrev pub own_order : OrderedWorld → Ordered
 own_order w = w.own
 
--- the first of some worlds are done, in some orders of their names, after interfaces
+-- The first of some worlds are done after interfaces, in some orders of their names: over the places of what occurred, and wherever the
+-- interfaces and the worlds are, these are they and the interfaces that are written in them.
 pub record AreWorldsDone (files : List PackageFile) (is ws : List Item) (wprefix : List World) (base : List Ordered) (first : List DoneScope) (us : List Item) (es : List TypeDef) (a : WorldArenas) (rs : List Required) : Type 0 where
   pub ordered : List OrderedWorld
   pub scopes : List DoneWorld
@@ -218,15 +290,14 @@ pub record AreWorldsDone (files : List PackageFile) (is ws : List Item) (wprefix
   pub all : map own_item ordered ≡ us
   pub each_inside : (t : ℕ) (o : OrderedWorld) → slice_get ordered t ≡ Some o → map item_of o.inside ≡ inline_items o.own.item
   pub inside : map item_of (all_inside ordered) ≡ inside_of us
-  pub laid : AreLaid (WorldOwner files) (SaysWorld (world_list files ws)) world_resolved_scope (MakesWorld (interface_list files is (inside_of ws))) ws (map own_order ordered) own (map own_scope scopes)
-  pub laid_inside : AreInside (length (map visited (foreign_interfaces files)) + length is) (all_inside ordered) (all_within scopes) a.inside
+  pub laid : AreLaid world_resolved_scope ws (map own_order ordered) own (map own_scope scopes)
+  pub inside_turns : map turn_of (all_within scopes) ≡ map turned (all_inside ordered)
+  pub inside_least : (t : ℕ) (o : Ordered) → slice_get (all_inside ordered) t ≡ Some o → IsOrder (rows_of (scope_names o.item)) o.order
   pub addresses : a.addresses ≡ map address (inside_of us)
   pub done : IsDone files (decls files is ws) (all_occurrences files (all_turns base ordered)) (first ++ flat_map scopes_of scopes) es
-  pub required : (seen : List Occurrence) → Collects [] (all_occurrences files (all_turns base ordered)) seen → AreRequired files (keys seen) (flat_map turn_handles (flat_map world_turns ordered)) rs
-
--- the includes of an item lead to the same worlds among more of them
-pub includes_wider : (some all : List Address) (item : Item) (is : List WorldInclude) → ((t : ℕ) (a : Address) → slice_get some t ≡ Some a → slice_get all t ≡ Some a) → AreIncludes some item is → AreIncludes all item is
-includes_wider some all item is wider h ws gives = h ws (record { at = λ t a at. gives.at t a (wider t a at) })
+  pub made : (id : Key → ℕ) → GivesPlaces id (keys done.seen) → (ss vs : List Address) → GivesPlaces (scope_place ss) (interface_list files is (inside_of ws)) → GivesPlaces (scope_place vs) (world_list files ws) → own ≡ map (ordered_world id ss vs) ordered
+  pub inside_made : (id : Key → ℕ) → GivesPlaces id (keys done.seen) → a.inside ≡ map (ordered_interface id) (all_inside ordered)
+  pub required : AreRequired files (keys done.seen) (flat_map turn_handles (flat_map world_turns ordered)) rs
 
 abbrev pub named_world : Names → List (FunctionKey × Function) → List ℕ → ResolvedScope
 named_world types stated name = record { address = WorldNamed name; types = types; functions = free_of stated }
@@ -296,58 +367,3 @@ scope_either ws k c at =
       | inl own ↦ inl (it.0, slice_get-map own_scope ws it.0 ∙ ap (option_map own_scope) it.2 ∙ ap Some own)
       | inr h ↦ inr (flat_map_has (λ (w : DoneWorld). w.inside) ws it.0 h.0 it.1 c it.2 h.1)
     ]
-
--- and both are scopes of worlds
-pub own_among : (ws : List DoneWorld) (t : ℕ) (c : DoneScope) → slice_get (map own_scope ws) t ≡ Some c → (k : ℕ) × (slice_get (flat_map scopes_of ws) k ≡ Some c)
-own_among ws t c at =
-    let w = map_at own_scope ws t c at in
-    flat_map_has scopes_of ws t 0 w.0 c w.1 (ap Some w.2)
-
-pub within_among : (ws : List DoneWorld) (j : ℕ) (c : DoneScope) → slice_get (all_within ws) j ≡ Some c → (k : ℕ) × (slice_get (flat_map scopes_of ws) k ≡ Some c)
-within_among ws j c at =
-    let it = flat_map_at (λ (w : DoneWorld). w.inside) ws j c at in
-    flat_map_has scopes_of ws it.0 (suc it.3.0) it.1 c it.2 it.3.1
-
--- a scope among some, one more, and others
-pub one_of_three : (first ds : List DoneScope) (c : DoneScope) (t : ℕ) (b : DoneScope) → slice_get ((first ++ c ∷ []) ++ ds) t ≡ Some b → ((k : ℕ) × (slice_get first k ≡ Some b)) ⊎ ((b ≡ c) ⊎ ((k : ℕ) × (slice_get ds k ≡ Some b)))
-one_of_three first ds c t b at = elim (at_part (first ++ c ∷ []) ds t b at) [
-  | inl h ↦ elim (at_either first c h.0 b h.1) [ inl old ↦ inl (h.0, old) | inr new ↦ inr (inl new.1) ]
-  | inr h ↦ inr (inr h)
-]
-
--- Where scopes are among all, once all interfaces and all worlds are done.
-pub types_of_resolved_scope : (c : DoneScope) (x : ResolvedScope) → x ≡ resolved_scope_of c → x.types ≡ c.types
-types_of_resolved_scope c x same = ap (λ (y : ResolvedScope). y.types) same
-
-module _ (files : List PackageFile) (is ws : List Item) (middle new : List TypeDef) (prefix xs : List Interface) (wprefix : List World) (irs wrs : List Required) (a : WorldArenas) (d : InterfacesDone files is ws prefix is middle xs irs) (e : AreWorldsDone files is ws wprefix d.ordered (prefix_scopes files prefix ++ d.scopes) ws new a wrs) where
-  abbrev ahead : List DoneScope
-  ahead = prefix_scopes files prefix
-
-  abbrev scopes : List DoneScope
-  scopes = (ahead ++ d.scopes) ++ flat_map scopes_of e.scopes
-
-  abbrev ss : List Address
-  ss = map visited (foreign_interfaces files)
-
-  -- where the scopes in front are among all
-  in_prefix : (k : ℕ) (c : DoneScope) → slice_get ahead k ≡ Some c → slice_get scopes k ≡ Some c
-  in_prefix k c at = at_prefix (ahead ++ d.scopes) (flat_map scopes_of e.scopes) k c (at_prefix ahead d.scopes k c at)
-
-  pub prefix_interface_at : (t : ℕ) (v : ForeignVisit) (i : Interface) → slice_get (foreign_interfaces files) t ≡ Some v → slice_get prefix t ≡ Some i → slice_get scopes t ≡ Some (interface_scope files t v i)
-  prefix_interface_at t v i v_at i_at = in_prefix t (interface_scope files t v i) (at_prefix (interface_scopes files 0 (foreign_interfaces files) prefix) (world_scopes 0 (foreign_worlds files)) t (interface_scope files t v i) (interface_scope_at files (foreign_interfaces files) prefix t v i v_at i_at))
-
-  -- a scope of a world, and one that is written in a world, among all
-  pub world_scope_among : (t : ℕ) (c : DoneScope) → slice_get (map own_scope e.scopes) t ≡ Some c → (k : ℕ) × (slice_get scopes k ≡ Some c)
-  world_scope_among t c at = (let k = own_among e.scopes t c at in (length (ahead ++ d.scopes) + k.0, at_back (ahead ++ d.scopes) (flat_map scopes_of e.scopes) k.0 c k.1))
-
-  pub inside_scope_among : (t : ℕ) (c : DoneScope) → slice_get (all_within e.scopes) t ≡ Some c → (k : ℕ) × (slice_get scopes k ≡ Some c)
-  inside_scope_among t c at = (let k = within_among e.scopes t c at in (length (ahead ++ d.scopes) + k.0, at_back (ahead ++ d.scopes) (flat_map scopes_of e.scopes) k.0 c k.1))
-
-  -- the entry of an interface that is written in a world
-  pub inside_entry : (k : ℕ) (i : Interface) → slice_get a.inside k ≡ Some i → (h : HasInside (length ss + length is) (all_inside e.ordered) (all_within e.scopes) a.inside k) × (h.i ≡ i)
-  inside_entry k i at =
-      let lt = slice_get_within a.inside k i at in
-      let count = inside_count (length ss + length is) (all_inside e.ordered) (all_within e.scopes) a.inside e.laid_inside in
-      let it = inside_at (length ss + length is) (all_inside e.ordered) (all_within e.scopes) a.inside e.laid_inside k (omega (arith, lt, count)) in
-      let both : Some it.i ≡ Some i = sym it.at_i ∙ at in
-      (it, (let same : it.i ≡ i = cc in same))

@@ -1,7 +1,8 @@
 -- Where the interfaces that are written in worlds are among what these have on their sides.
 use Rattle.std.proofs.Common.{◌≡◌, ℕ, zero, suc, true, false, List, [], ◌∷◌, ◌++◌, ◌+◌, length, map, Option, Some, None, ◌⊎◌, inl, inr, refl, sym, ap, ◌∙◌, arith, length-append}
-use Rattle.wit_arena.proofs.Names.{Address, AreSideItems, Exported, Foreign, Function, Id, Imported, Include, InlineAt, InterfaceNamed, Item, Link, Local, Names, ScopeName, SideFunction, SideInline, SideItem, SideLink, SourceFunction, Target, World, WorldItem, WorldKey, WorldSide, address, at_back, at_part, at_prefix, cases_Bool, cond-false, cond-true, filter, filter-append, function_item, inline_after, inline_entry, inline_items, interface_at, interface_items, interfaces_from, interfaces_on, interfaces_on-append, is_inside, is_interface, is_interface_item, item_name, item_side, leads, link_item, option_map_or, path_scope, put_on, role_side, same_side, same_side-equal, settled, side_items, side_itself, slice_get, target_scope, type_imports, world_interfaces}
+use Rattle.wit_arena.proofs.Names.{Address, Exported, Foreign, Function, Id, Imported, Include, InlineAt, InterfaceNamed, Item, Link, Local, Names, ScopeName, SideFunction, SideInline, SideItem, SideLink, SourceFunction, Target, World, WorldItem, WorldKey, WorldSide, address, at_back, at_part, at_prefix, cases_Bool, cond-false, cond-true, filter, filter-append, function_item, inline_after, inline_entry, inline_items, interface_at, interface_items, interfaces_from, interfaces_on, interfaces_on-append, is_inside, is_interface, is_interface_item, item_name, item_side, leads, link_item, option_map_or, path_scope, put_on, role_side, same_side, same_side-equal, settled, side_items, side_itself, slice_get, target_scope, type_imports, world_interfaces}
 use Rattle.wit_arena.proofs.Settled.{settled_interfaces}
+use Rattle.wit_arena.proofs.MadeSides.{AreSideItems}
 
 abbrev Entry : Type 0
 Entry = WorldKey × WorldItem

@@ -1,6 +1,6 @@
 -- Where items are by their names and by their scopes.
 use Rattle.std.proofs.Common.{◌≡◌, ℕ, zero, suc, ◌+◌, Bool, true, false, not, cond, List, [], ◌∷◌, ◌++◌, length, Option, Some, None, inl, inr, refl, sym, ap, ◌∙◌, subst, arith, get_or}
-use Rattle.wit_arena.proofs.Names.{Address, AllDiffer, AreDeclared, Declared, ForeignNamed, InlineAt, InterfaceNamed, Item, PackageFile, TheInline, TheInterface, TheWorld, WorldNamed, about, address, addresses_differ, all_declared, all_items, all_scopes, at_split, bytes_eq, cases_Bool, cond-true, differ_join, filter, find_at, find_passes, flat_map, flat_map_at, functions, functions_at, inline_differ, inline_items, inside_one, interfaces_of, is_foreign, is_inside, is_world, item_at, item_name, item_named, kept_at, kept_differ, lt-ltb, map, map-append, map_at, nat_lt, none_if, not-true, option_map, option_map_or, option_or, owner_at, place_at, position, position-Some, prefix_len, same_address, same_address-equal, same_address-itself, scope, scope_item_at, scope_names, slice_get, slice_get-get_or, slice_get_within, unwrap_or, worlds_of}
+use Rattle.wit_arena.proofs.Names.{Address, AllDiffer, AreDeclared, Declared, ForeignNamed, InlineAt, InterfaceNamed, Item, PackageFile, TheInline, TheInterface, TheWorld, WorldNamed, about, address, addresses_differ, all_declared, all_items, all_scopes, at_split, bytes_eq, cases_Bool, cond-true, differ_join, filter, find_at, find_passes, flat_map, flat_map_at, functions, functions_at, inline_differ, inline_items, inside_one, interfaces_of, is_foreign, is_inside, is_world, item_at, item_name, item_named, kept_at, kept_differ, lt-ltb, map, map-append, map_at, nat_lt, none_if, not-true, option_map, option_map_or, option_or, owner_at, place_at, position, position-Some, prefix_len, same_address, same_address-equal, same_address-itself, scope, scope_item_at, scope_names, slice_get, slice_get-get_or, slice_get_within, unwrap_or, worlds_of, GivesPlaces, scope_place}
 use Rattle.wit_types.specs.declared.types.TypeOwner.TheVariants as owner
 
 -- the only one that passes comes after those that fail
@@ -118,6 +118,14 @@ place_at-none ss s other = none_if (place_at ss s) (λ i some. (
 -- the place of one of them, where they differ
 pub place_at-found : (ss : List Address) (s : Address) (t : ℕ) → AllDiffer ss → slice_get ss t ≡ Some s → place_at ss s ≡ Some t
 place_at-found ss s t differ at = position-only (λ (a : Address). same_address a s) ss t s at (same_address-itself s) (λ i a iat same. differ.differ i t s (iat ∙ ap Some (same_address-equal a s same)) at)
+
+-- the place of a scope among such as differ
+pub scope_place-found : (ss : List Address) (s : Address) (i : ℕ) → AllDiffer ss → slice_get ss i ≡ Some s → scope_place ss s ≡ i
+scope_place-found ss s i differ at = ap (λ (o : Option ℕ). unwrap_or o 0) (place_at-found ss s i differ at)
+
+-- so each of them is where it is
+pub scopes_placed : (ss : List Address) → AllDiffer ss → GivesPlaces (scope_place ss) ss
+scopes_placed ss differ = record { at = λ i s at. scope_place-found ss s i differ at }
 
 -- the package knows the interface at a place by that place
 owner_of_interface : (is ws : List Address) (s : Address) (t : ℕ) → place_at is s ≡ Some t → owner_at is ws s ≡ owner.Interface t

@@ -16,7 +16,6 @@ pub mod Required
 pub mod Parts
 pub mod Wholes
 pub mod Resolving
-pub mod FunctionPart
 pub mod DoneNames
 pub mod Interfaces
 pub mod Unknowns
@@ -27,7 +26,6 @@ pub mod Itemizing
 pub mod ForeignUses
 pub mod Prefix
 pub mod ScopesInTurn
-pub mod Inside
 pub mod Sided
 pub mod WorldSides
 pub mod Worlds
@@ -53,7 +51,6 @@ pub mod MadeInterfaces
 pub mod Members
 pub mod MadeSides
 pub mod MadeWorlds
-pub mod MadeArenas
 pub mod MadeOrders
 pub mod MadeTurns
 pub mod MadePackage

@@ -1,15 +1,11 @@
 -- The scopes of a package differ, so each has one place.
-use Rattle.std.proofs.Common.{◌≡◌, ℕ, List, not, Option, Some, sym, ap, subst}
-use Rattle.wit_arena.proofs.Names.{Address, AllDiffer, IsLegal, IsOrder, Item, PackageFile, all_items, in_order, interface_scopes, interfaces_of, is_world, item_rows, scope_place, slice_get, unwrap_or, world_scopes, worlds_of}
+use Rattle.std.proofs.Common.{◌≡◌, ℕ, List, not, sym, subst}
+use Rattle.wit_arena.proofs.Names.{AllDiffer, IsLegal, IsOrder, Item, PackageFile, all_items, in_order, interface_scopes, interfaces_of, is_world, item_rows, world_scopes, worlds_of}
 use Rattle.wit_syntax.proofs.Common.{Names}
 use Rattle.wit_arena.proofs.DoneWorlds.{all_addresses}
-use Rattle.wit_arena.proofs.Interfaces.{AreAddresses, AreItems, interfaces_sort, worlds_sort, items_kept, place_at-found}
+use Rattle.wit_arena.proofs.Interfaces.{AreAddresses, AreItems, interfaces_sort, worlds_sort, items_kept}
 use Rattle.wit_arena.proofs.Itemizing.{are_items}
 use Rattle.wit_arena.proofs.LegalScopes.{distinct_items}
-
--- the place of a scope among such as differ
-pub scope_place-found : (ss : List Address) (s : Address) (i : ℕ) → AllDiffer ss → slice_get ss i ≡ Some s → scope_place ss s ≡ i
-scope_place-found ss s i differ at = ap (λ (o : Option ℕ). unwrap_or o 0) (place_at-found ss s i differ at)
 
 module _ (files : List PackageFile) (legal : IsLegal files) (items : List Item) (ordered : ((places : List ℕ) × IsOrder (item_rows files) places × (items ≡ in_order (all_items files) places))) where
   -- each item is the first of its name, and no two have one

@@ -1,41 +1,41 @@
--- What is on a side of a world is what the written ones make there.
-use Rattle.std.proofs.Common.{◌≡◌, ℕ, Bool, true, false, cond, List, [], ◌∷◌, Some, None, refl, sym, ap, ◌∙◌}
-use Rattle.wit_arena.proofs.Names.{Address, AreSideItems, Function, GivesPlaces, Item, SideFunction, SideInline, SideItem, SideLink, SourceFunction, TopName, WorldItem, WorldKey, WorldSide, address, cons_option, entries_on, flat_map, inline_entry, item_function, link_item, map, path_scope, put_on, role_side, same_side, scope_place, side_entries}
+-- What is on a side of a world.
+use Rattle.std.proofs.Common.{◌≡◌, ℕ, Bool, true, false, cond, List, [], ◌∷◌, Some, None, refl, ap, ◌∙◌, ◌++◌}
+use Rattle.wit_arena.proofs.Names.{Address, Function, Item, SideFunction, SideInline, SideItem, SideLink, SourceFunction, TopName, WorldItem, WorldKey, WorldSide, address, cons_option, entries_on, flat_map, inline_entry, link_item, path_scope, put_on, role_side, same_side, scope_place, side_entries, Id, Link, Option, function_item, import_types, slice_get}
 use Rattle.wit_model.specs.declared.world.WorldKey.TheVariants as key
 use Rattle.wit_model.specs.declared.world.WorldItem.TheVariants as item
 
 abbrev Entry : Type 0
 Entry = WorldKey × WorldItem
 
+-- These are on a side, where these are the written ones, and these functions were made; the interfaces of the package have these addresses,
+-- and those that are written there have those.
+abbrev pub AreSideItems : List Address → List TopName → WorldSide → List SideItem → List Function → List Address → List (WorldKey × WorldItem) → Type 0
+AreSideItems interfaces top side [] fs ss xs = xs ≡ []
+AreSideItems interfaces top side (SideFunction fn ∷ written) (f ∷ fs) ss xs = (rest : List (WorldKey × WorldItem)) × (xs ≡ put_on side (role_side fn.role) (function_item f) rest) × AreSideItems interfaces top side written fs ss rest
+AreSideItems interfaces top side (SideLink link ∷ written) fs ss xs = (place : ℕ) × (rest : List (WorldKey × WorldItem)) × (slice_get interfaces place ≡ Some (path_scope top link.path)) × (xs ≡ put_on side link.side (link_item link place) rest) × AreSideItems interfaces top side written fs ss rest
+AreSideItems interfaces top side (SideInline x name items ∷ written) fs (s ∷ ss) xs = (place : ℕ) × (rest : List (WorldKey × WorldItem)) × (slice_get interfaces place ≡ Some s) × (xs ≡ put_on side x.side (inline_entry x name place) rest) × AreSideItems interfaces top side written fs ss rest
+AreSideItems interfaces top side written fs ss xs = ⊥
+
 -- what is put on a side is kept of what is stated with its side
-put_kept : (side own : WorldSide) (x : Entry) (xs : List Entry) → put_on side own x xs ≡ cons_option (cond (same_side side own) (Some x) None) xs
+pub put_kept : (side own : WorldSide) (x : Entry) (xs : List Entry) → put_on side own x xs ≡ cons_option (cond (same_side side own) (Some x) None) xs
 put_kept side own x xs = kept (same_side side own)
   where
     kept : (b : Bool) → cond b (x ∷ xs) xs ≡ cons_option (cond b (Some x) None) xs
     kept true = refl
     kept false = refl
 
--- these scopes are where they are stated to be
-abbrev pub ArePlaced : List Address → Type 0
-ArePlaced ss = GivesPlaces (scope_place ss) ss
+-- nothing that is stated of a side is a name of a type
+module _ (function : SourceFunction → Function) (ss : List Address) (top : List TopName) (side : WorldSide) where
+  kept_nothing : (own : WorldSide) (x : Entry) (xs : List Entry) → import_types x ≡ [] → flat_map import_types xs ≡ [] → flat_map import_types (cons_option (cond (same_side side own) (Some x) None) xs) ≡ []
+  kept_nothing own x xs none rest = elim (same_side side own) as (λ b. flat_map import_types (cons_option (cond b (Some x) None) xs) ≡ []) [ true ↦ ap (λ (l : List (List ℕ × ℕ)). l ++ flat_map import_types xs) none ∙ rest | false ↦ rest ]
 
-module _ (ss : List Address) (places : ArePlaced ss) (function : SourceFunction → Function) (named : (fn : SourceFunction) → (function fn).name ≡ fn.name) (top : List TopName) (side : WorldSide) where
-  pub side_items-as_stated : (written : List SideItem) (is : List Item) (xs : List Entry) → AreSideItems ss top side written (map function (flat_map item_function written)) (map address is) xs → xs ≡ entries_on side (side_entries function ss top written is)
-  side_items-as_stated [] is xs are = are
-  side_items-as_stated (SideFunction fn ∷ written) is xs are =
-      are.1
-      ∙ ap (λ (name : List ℕ). put_on side (role_side fn.role) (key.Name name, item.Function (function fn)) are.0) (named fn)
-      ∙ ap (put_on side (role_side fn.role) (key.Name fn.name, item.Function (function fn))) (side_items-as_stated written is are.0 are.2)
-      ∙ put_kept side (role_side fn.role) (key.Name fn.name, item.Function (function fn)) (entries_on side (side_entries function ss top written is))
-  side_items-as_stated (SideLink link ∷ written) is xs are =
-      let s = path_scope top link.path in
-      are.3
-      ∙ ap (λ (n : ℕ). put_on side link.side (link_item link n) are.1) (sym (places.at are.0 s are.2))
-      ∙ ap (put_on side link.side (link_item link (scope_place ss s))) (side_items-as_stated written is are.1 are.4)
-      ∙ put_kept side link.side (link_item link (scope_place ss s)) (entries_on side (side_entries function ss top written is))
-  side_items-as_stated (SideInline x name items ∷ written) [] xs are = absurd are
-  side_items-as_stated (SideInline x name items ∷ written) (i ∷ is) xs are =
-      are.3
-      ∙ ap (λ (n : ℕ). put_on side x.side (inline_entry x name n) are.1) (sym (places.at are.0 (address i) are.2))
-      ∙ ap (put_on side x.side (inline_entry x name (scope_place ss (address i)))) (side_items-as_stated written is are.1 are.4)
-      ∙ put_kept side x.side (inline_entry x name (scope_place ss (address i))) (entries_on side (side_entries function ss top written is))
+  link_nothing : (name : Option Id) (l : Link) (place : ℕ) → l.name ≡ name → import_types (link_item l place) ≡ []
+  link_nothing None l place is = rw is refl
+  link_nothing (Some id) l place is = rw is refl
+
+  pub entries_types : (written : List SideItem) (is : List Item) → flat_map import_types (entries_on side (side_entries function ss top written is)) ≡ []
+  entries_types [] is = refl
+  entries_types (SideFunction fn ∷ written) is = kept_nothing (role_side fn.role) (key.Name fn.name, item.Function (function fn)) (entries_on side (side_entries function ss top written is)) refl (entries_types written is)
+  entries_types (SideLink link ∷ written) is = kept_nothing link.side (link_item link (scope_place ss (path_scope top link.path))) (entries_on side (side_entries function ss top written is)) (link_nothing link.name link (scope_place ss (path_scope top link.path)) refl) (entries_types written is)
+  entries_types (SideInline x name items ∷ written) [] = entries_types written []
+  entries_types (SideInline x name items ∷ written) (i ∷ is) = kept_nothing x.side (inline_entry x name (scope_place ss (address i))) (entries_on side (side_entries function ss top written is)) refl (entries_types written is)

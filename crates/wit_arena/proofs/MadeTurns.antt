@@ -66,13 +66,6 @@ module _ (files : List PackageFile) (legal : IsLegal files) (os : List Ordered) 
   pub own_stated : AreAsStated order (map own_order ws)
   own_stated t o at = stated_at (length (os ++ all_inside ws) + t) o (at_back (os ++ all_inside ws) (map own_order ws) t o at)
 
-  -- and so are their names in turn
-  pub interface_names : (t : ℕ) (o : Ordered) → slice_get (os ++ all_inside ws) t ≡ Some o → ordered_names o ≡ names_in_turn order o.item
-  interface_names t o at = names_stated order o (interfaces_stated t o at)
-
-  pub world_names : (t : ℕ) (w : OrderedWorld) → slice_get ws t ≡ Some w → ordered_names w.own ≡ names_in_turn order w.own.item
-  world_names t w at = names_stated order w.own (own_stated t w.own (slice_get-map own_order ws t ∙ ap (option_map own_order) at))
-
   pub stated_world : (t : ℕ) (w : OrderedWorld) → slice_get ws t ≡ Some w → IsStated order w
   stated_world t w at = record {
     own = own_stated t w.own (slice_get-map own_order ws t ∙ ap (option_map own_order) at);

@@ -1,13 +1,13 @@
 -- The interfaces and the worlds of files in their order, and interfaces that were resolved among them.
 use Rattle.std.proofs.Common.{◌≡◌, ℕ, false, not, List, Some, None, ap, Contains}
 use Rattle.wit_arena.proofs.Names.{Address, AllDiffer, InterfaceNamed, IsOrder, Item, PackageFile, all_items, at_contains, env_of, in_order, interfaces_of, is_world, item_name, item_rows, kept_has, map, meaning, scope, slice_get, worlds_of}
-use Rattle.wit_arena.proofs.Resolving.{DoneScope, IsDoneScope}
+use Rattle.wit_arena.proofs.Resolving.{DoneScope, AreDoneNames}
 use Rattle.wit_arena.proofs.Meant.{lacks_nothing}
 use Rattle.wit_arena.proofs.Interfaces.{AreItems, items_kept}
 use Rattle.wit_arena.proofs.Itemizing.{item_index, are_items}
 
 -- a name that the table of a scope lacks means nothing in it
-pub unstated : (files : List PackageFile) (c : DoneScope) (name : List ℕ) → IsDoneScope files c → env_of c.types name ≡ None → meaning (scope files c.address) name ≡ None
+pub unstated : (files : List PackageFile) (c : DoneScope) (name : List ℕ) → AreDoneNames files c → env_of c.types name ≡ None → meaning (scope files c.address) name ≡ None
 unstated files c name d free = lacks_nothing (scope files c.address) c.names c.types d.listed name d.turn.has free
 
 module _ (files : List PackageFile) (places : List ℕ) (order : IsOrder (item_rows files) places) (differ : AllDiffer (map item_name (all_items files))) where

@@ -1,6 +1,6 @@
 -- Where a function gives the place of each key, what means written functions and for names is stated.
 use Rattle.std.proofs.Common.{◌≡◌, ℕ, suc, List, [], ◌∷◌, ◌++◌, length, Option, Some, None, refl, sym, ap, ◌∙◌, arith}
-use Rattle.wit_arena.proofs.Names.{Address, AllDiffer, AreFunctions, AreMetadata, Def, Docs, Function, FunctionKind, GivesPlaces, Id, IsAt, Key, OneByOne, Param, ScopeName, Shape, SourceFunction, SourceParam, Span, Stability, Turned, all_params, docs_of, expr_of, exprs_of, function_in, function_types, gathered, length-map, local_name, map, map-append, map_map, metadata, name_places, option_map, option_to_list, role_kind, signature, slice_get, slice_get-map, type_of, types_of, ForeignVisit, Interface, PackageFile, map_at, no_docs, scope, visited, interface}
+use Rattle.wit_arena.proofs.Names.{Address, AllDiffer, AreFunctions, AreMetadata, Def, Docs, Function, FunctionKind, GivesPlaces, Id, IsAt, Key, OneByOne, Param, ScopeName, Shape, SourceFunction, SourceParam, Span, Stability, Turned, all_params, docs_of, expr_of, exprs_of, function_in, function_types, gathered, length-map, local_name, map, map-append, map_map, metadata, name_places, option_map, option_to_list, role_kind, signature, slice_get, slice_get-map, type_of, types_of, ForeignVisit, Interface, PackageFile, map_at, no_docs, scope, visited, interface, AreDistinct, AreNames, differ_at, env_of, lookup-at}
 use Rattle.wit_types.specs.declared.types.«Type».{«Type» as Ty}
 use Rattle.wit_arena.proofs.OneKind.{Extended, same_some}
 use Rattle.wit_arena.proofs.Placing.{at_places, gives_fewer, gives_in, place_in, place_seen}
@@ -76,10 +76,6 @@ module _ (id : Key → ℕ) (s : Address) where
 abbrev pub IsFunction : List Key → Address → SourceFunction → Function → Type 0
 IsFunction ks s written f = (id : Key → ℕ) → GivesPlaces id ks → f ≡ function_in id s written
 
--- so it is over those of more
-pub function_extended : {a b : List Key} → Extended a b → (s : Address) (fn : SourceFunction) (f : Function) → IsFunction a s fn f → IsFunction b s fn f
-function_extended g s fn f is = λ id gives. is id (gives_fewer g id gives)
-
 -- types are at the places of shapes, one for each
 abbrev pub AreTyped : List Key → Address → List Shape → List Ty → Type 0
 AreTyped ks s xs ts = OneByOne (λ (x : Shape) (t : Ty). IsAt ks (expr_of s x) t) xs ts
@@ -116,6 +112,16 @@ pub record HasTypes (ks : List Key) (t : Turned) (types : List (List ℕ × ℕ)
   pub names : map (λ n. n.0) types ≡ map local_name t.names
   pub places : (k : ℕ) (name : List ℕ) (id : ℕ) → slice_get types k ≡ Some (name, id) → slice_get ks id ≡ Some (Def t.address name)
 
+-- so it is of names that mean their places, each once
+pub types_named : (ks : List Key) (s : Address) (xs : List ScopeName) (fns : List SourceFunction) (types : List (List ℕ × ℕ)) → AreDistinct xs → map (λ n. n.0) types ≡ map local_name xs → AreNames ks s (env_of types) → HasTypes ks (record { address = s; names = xs; functions = fns }) types
+types_named ks s xs fns types distinct listed present = record {
+  names = listed;
+  places = λ k name id kat. present.present name id (lookup-at types k name id (λ a b n ata atb. (
+      let x = map_at local_name xs a n (ap (λ (l : List (List ℕ)). slice_get l a) (sym listed) ∙ ata) in
+      let y = map_at local_name xs b n (ap (λ (l : List (List ℕ)). slice_get l b) (sym listed) ∙ atb) in
+      differ_at local_name xs distinct a b x.0 y.0 x.1 y.1 (x.2 ∙ sym y.2))) kat);
+}
+
 -- names that are so over the places of these keys, whatever others may be, mean their places
 pub types_present : (ks : List Key) → AllDiffer ks → (t : Turned) (types : List (List ℕ × ℕ)) → ((id : Key → ℕ) → GivesPlaces id ks → types ≡ name_places id t.address t.names) → HasTypes ks t types
 types_present ks differ t types is = record {
@@ -145,3 +151,7 @@ module _ (id : Key → ℕ) (ks : List Key) (gives : GivesPlaces id ks) where
 
   pub types-places : (t : Turned) (types : List (List ℕ × ℕ)) → HasTypes ks t types → types ≡ name_places id t.address t.names
   types-places t types h = places_stated t.address t.names types h.names h.places
+
+  -- names of a scope that mean their places, each once
+  pub names_placed : (s : Address) (xs : List ScopeName) (types : List (List ℕ × ℕ)) → AreDistinct xs → map (λ n. n.0) types ≡ map local_name xs → AreNames ks s (env_of types) → types ≡ name_places id s xs
+  names_placed s xs types distinct listed present = types-places (record { address = s; names = xs; functions = [] }) types (types_named ks s xs [] types distinct listed present)

@@ -1,18 +1,17 @@
 -- What other packages put before the arenas, as scopes that are done.
 use Rattle.std.proofs.Common.{◌≡◌, ℕ, zero, suc, ◌+◌, false, List, [], ◌∷◌, ◌++◌, length, take, Option, Some, None, inl, inr, refl, sym, ap, ◌∙◌, subst, arith, Contains}
-use Rattle.wit_arena.proofs.Names.{Address, AddsForeign, AllDiffer, AreFunctions, AreNames, AreRequired, Declared, Decls, Def, ForeignName, ForeignNamed, ForeignUse, ForeignVisit, Imported, Interface, IsEntryOf, IsOccurrence, IsSome, Item, Key, Occurrence, PackageFile, PackageName, ScopeName, TheInterface, TypeDef, TypeOwner, World, about, all_handles, all_items, all_scopes, at_part, at_prefix, at_within, contains_at, differ_join, differ_none, env_of, filter, first_foreign_uses, firsts_at, flat_map, foreign_interfaces, foreign_type, foreign_use_occurrence, foreign_uses, foreign_worlds, functions, interface_functions, item_at, keys, length-map, local_name, lookup-place, map, map-append, map_at, name_types, named, stability_of, option_map, option_map_or, owner_at, package_of, resolved_scopes, same_address, same_foreign_use, scope, slice_get, slice_get-map, slice_get_within, some_of, turn_handles, used_names, visited, «Type» as Written, GivesPlaces, foreign_interface, foreign_world, metadata, no_docs, interface}
+use Rattle.wit_arena.proofs.Names.{Address, AddsForeign, AllDiffer, AreFunctions, AreNames, Declared, Decls, Def, ForeignName, ForeignNamed, ForeignUse, ForeignVisit, Imported, Interface, IsOccurrence, IsSome, Item, Key, Occurrence, PackageFile, PackageName, ScopeName, TheInterface, TypeDef, TypeOwner, World, about, all_items, all_scopes, at_part, at_prefix, at_within, differ_join, differ_none, env_of, first_foreign_uses, firsts_at, foreign_interfaces, foreign_type, foreign_use_occurrence, foreign_uses, foreign_worlds, functions, interface_functions, item_at, keys, length-map, local_name, lookup-place, map, map-append, map_at, option_map, option_map_or, owner_at, package_of, resolved_scopes, same_address, same_foreign_use, scope, slice_get, slice_get-map, slice_get_within, some_of, used_names, visited, GivesPlaces, foreign_interface, foreign_world, metadata, no_docs, interface, IsEntryOf, contains_at, named, stability_of}
 use Rattle.wit_types.specs.declared.types.TypeDefKind.TheVariants.{Unknown}
-use Rattle.wit_types.specs.declared.types.TypeOwner.TheVariants as owner
 use Rattle.wit_arena.proofs.OneKind.{same_some}
 use Rattle.wit_arena.proofs.UsePart.{lookup-listed}
 use Rattle.wit_arena.proofs.FreeNames.{free_keyed}
 use Rattle.wit_arena.proofs.Placing.{gives_in, place_in}
 use Rattle.wit_arena.proofs.PlacingFunctions.{IsForeignInterface, one_mapped, types_present}
-use Rattle.wit_arena.proofs.Required.{required_none}
-use Rattle.wit_arena.proofs.Resolving.{DoneScope, done_address, turn_of, resolved_scope_of, IsDoneScope, IsNameOf, IsDone}
+use Rattle.wit_arena.proofs.Resolving.{DoneScope, done_address, resolved_scope_of, AreDoneNames, IsDoneScope, IsNameOf, IsDone}
 use Rattle.wit_arena.proofs.Interfaces.{interface_owner_at}
 use Rattle.wit_arena.proofs.Visits.{visited_addresses, interface_apart, AreUsableUses}
 use Rattle.wit_arena.proofs.ForeignUses.{foreign_use_key, keys-foreign_uses, foreign_uses_seen, foreign_uses_differ, used_from, in_use_has, used_name_at, used_distinct}
+use Rattle.wit_types.specs.declared.types.TypeOwner.TheVariants as owner
 
 -- the scope of an interface of another package at a place, with the types that it has in the arena
 abbrev pub interface_scope : List PackageFile → ℕ → ForeignVisit → Interface → DoneScope
@@ -98,13 +97,11 @@ no_item (i ∷ is) p name = rw (not_declared i.declared p name) (no_item is p na
 pub no_functions : (ks : List Key) (s : Address) → AreFunctions ks s [] []
 no_functions ks s = λ id gives. refl
 
--- what is taken holds no type
-no_types_used : (ts : List ForeignUse) → flat_map name_types (map (λ (t : ForeignUse). ForeignName t.attributes t.id) ts) ≡ []
-no_types_used [] = refl
-no_types_used (t ∷ ts) = no_types_used ts
-
-nothing_required : (files : List PackageFile) (ks : List Key) (s : Address) (ts : List ForeignUse) → AreRequired files ks (turn_handles (record { address = s; names = map (λ (t : ForeignUse). ForeignName t.attributes t.id) ts; functions = [] })) []
-nothing_required files ks s ts = subst (λ (types : List Written). AreRequired files ks (map (λ id. (s, id)) (all_handles (types ++ []))) []) (sym (no_types_used ts)) (required_none files ks)
+-- what is taken is named
+used_named : (files : List PackageFile) (ts : List ForeignUse) (i : ℕ) (e : TypeDef) → slice_get (map (foreign_type files) ts) i ≡ Some e → e.name ≡ None → ⊥
+used_named files ts i e there none =
+    let t = map_at (foreign_type files) ts i e there in
+    cc (ap (λ (x : TypeDef). x.name) t.2)
 
 -- the scope of an interface in front has its names in turn
 pub prefix_interface_done : (files : List PackageFile) (ks : List Key) (i : ℕ) (v : ForeignVisit) (x : Interface) → IsForeignInterface files ks v x → IsDoneScope files (interface_scope files i v x)
@@ -265,10 +262,10 @@ module _ (files : List PackageFile) (uses : AreUsableUses files (all_items files
         }
 
     -- what is so of each scope in front
-    each_prefix : (t : ℕ) (c : DoneScope) → slice_get (prefix_scopes files prefix) t ≡ Some c → IsDoneScope files c × (decls c.address ≡ (scope files c.address, c.owner)) × AreNames (keys seen) c.address (env_of c.types) × AreFunctions (keys seen) c.address c.functions c.made × AreRequired files (keys seen) (turn_handles (turn_of c)) c.required
+    each_prefix : (t : ℕ) (c : DoneScope) → slice_get (prefix_scopes files prefix) t ≡ Some c → AreDoneNames files c × (decls c.address ≡ (scope files c.address, c.owner)) × AreNames (keys seen) c.address (env_of c.types)
     each_prefix t c at = elim (prefix_at files prefix (interfaces_count adds) t c at) [
-      | PrefixInterface i v x v_at x_at is ↦ rw is (prefix_interface_done files (keys seen) i v x (interface_in_front adds i v x v_at x_at), interfaces_own i v v_at, interface_present i v x v_at x_at, no_functions (keys seen) (visited v), nothing_required files (keys seen) (visited v) (filter (λ t. same_address t.from (visited v)) (first_foreign_uses files)))
-      | PrefixWorld i w w_at is ↦ rw is (prefix_world_done files uses i w w_at, worlds_own i w w_at, world_present i w w_at, no_functions (keys seen) (visited w), required_none files (keys seen))
+      | PrefixInterface i v x v_at x_at is ↦ (let h = prefix_interface_done files (keys seen) i v x (interface_in_front adds i v x v_at x_at) in rw is (record { turn = h.turn; listed = h.listed }, interfaces_own i v v_at, interface_present i v x v_at x_at))
+      | PrefixWorld i w w_at is ↦ (let h = prefix_world_done files uses i w w_at in rw is (record { turn = h.turn; listed = h.listed }, worlds_own i w w_at, world_present i w w_at))
     ]
 
     pub prefix_done : IsDone files decls (map foreign_use_occurrence (foreign_uses files)) (prefix_scopes files prefix) es
@@ -281,6 +278,4 @@ module _ (files : List PackageFile) (uses : AreUsableUses files (all_items files
       are_present = λ t c at. (each_prefix t c at).2;
       before = used_before;
       unique = prefix_differ;
-      made = λ t c at. (each_prefix t c at).3;
-      required = λ t c at. (each_prefix t c at).4;
     }

@@ -1,12 +1,12 @@
 -- What occurs in types, one after another.
 use Rattle.std.proofs.Common.{ℕ, List, [], ◌∷◌, ◌++◌, refl, sym, ap, ◌∙◌, ◌≡◌, map, Some, subst, arith, ◌+◌, append_assoc}
-use Rattle.wit_arena.proofs.Names.{Address, AreResolved, End, Env, Exprs, IsInterned, Occurrence, Of, Span, Stability, TypeDef, TypeDefKind, Whole, all_seen, append-nil, keys, kind_of, one, Shape, Shapes, expr_of, exprs_of, seen, shape_occurrences, shapes_occurrences, AreFunctions, AreNames, Collects, Def, Form, Function, Key, OneByOne, SourceFunction, Unknown, all_function_occurrences, all_params, at_within, flat_map, flat_map-flat_map, function_types, gathered, signature, slice_get, slice_get_within, AddsFunctions, AreMetadata, AreShapes, Names, docs_of, env_of, flat_map-append, metadata, AllDiffer, AreDistinct, AreRequired, Decls, FunctionKey, IsOccurrence, PackageFile, Required, ResolvedScope, ScopeName, Turned, TypeOwner, functions_at, local_name, local_names, name_exprs, scope, turn_handles, types_of, GivesPlaces, Id, IsKeyed, all_shapes, function_in, map-append, role_kind, shape_of, «Type» as Written}
+use Rattle.wit_arena.proofs.Names.{Address, AreResolved, End, Env, Exprs, IsInterned, Occurrence, Of, Span, Stability, TypeDef, TypeDefKind, Whole, all_seen, append-nil, keys, kind_of, one, Shape, Shapes, expr_of, exprs_of, seen, shape_occurrences, shapes_occurrences, AreFunctions, AreNames, Collects, Def, Form, Function, Key, OneByOne, SourceFunction, Unknown, all_function_occurrences, all_params, at_within, flat_map, flat_map-flat_map, function_types, gathered, signature, slice_get, slice_get_within, AddsFunctions, AreMetadata, AreShapes, Names, docs_of, env_of, flat_map-append, metadata, AllDiffer, AreDistinct, Decls, FunctionKey, IsOccurrence, PackageFile, Required, ResolvedScope, ScopeName, Turned, TypeOwner, functions_at, local_name, local_names, name_exprs, scope, GivesPlaces, Id, function_in, map-append, role_kind, types_of, IsKeyed, all_shapes, shape_of, «Type» as Written}
 use Rattle.wit_types.specs.declared.types.«Type».{«Type» as Ty}
-use Rattle.wit_types.specs.declared.types.«Type».TheVariants as type
 use Rattle.wit_arena.proofs.Occurrence.{keys-append, collects_extended, extends_then, names_kept, occur_whole, IsOnly, Has, no_defs, has_from, collects_append}
-use Rattle.wit_arena.proofs.Placing.{AreOver, gives_fewer, keyed_by}
+use Rattle.wit_arena.proofs.Placing.{gives_fewer, AreOver, keyed_by}
 use Rattle.wit_arena.proofs.PlacingFunctions.{as_written, function_same, said, types_gathered}
 use Rattle.wit_arena.proofs.FreeNames.{free_of, AreStated}
+use Rattle.wit_types.specs.declared.types.«Type».TheVariants as type
 use Rattle.wit_syntax.specs.Shape as shape
 use Rattle.wit_arena.specs.Occurrences as exprs
 
@@ -220,21 +220,36 @@ pub record IsWholeOf (cs : List DoneScope) (form : Form) (parts : Exprs) : Type 
   pub among : slice_get resolved_scope.names index ≡ Some x
   pub has : Has (all_seen (name_exprs resolved_scope.address x)) (Whole form parts)
 
--- These scopes are done: the arena is the list of first occurrences of what is written, their names mean their places, and so do the
--- types of their functions.
+-- the names of a scope are done
+pub record AreDoneNames (files : List PackageFile) (c : DoneScope) : Type 0 where
+  pub turn : IsTurn (scope files c.address) c.names
+  pub listed : map (λ p. p.0) c.types ≡ local_names c.names
+
+-- These scopes are done: the arena is the list of first occurrences of what is written, and their names mean their places.
 pub record IsDone (files : List PackageFile) (decls : Decls) (written : List Occurrence) (cs : List DoneScope) (es : List TypeDef) : Type 0 where
   pub seen : List Occurrence
   pub collects : Collects [] written seen
   pub occurrence : IsOccurrence decls seen es
-  pub each : (t : ℕ) (c : DoneScope) → slice_get cs t ≡ Some c → IsDoneScope files c
+  pub each : (t : ℕ) (c : DoneScope) → slice_get cs t ≡ Some c → AreDoneNames files c
   pub own : (t : ℕ) (c : DoneScope) → slice_get cs t ≡ Some c → decls c.address ≡ (scope files c.address, c.owner)
   pub are_present : (t : ℕ) (c : DoneScope) → slice_get cs t ≡ Some c → AreNames (keys seen) c.address (env_of c.types)
   pub before : (j : ℕ) (s : Address) (name : List ℕ) → slice_get (keys seen) j ≡ Some (Def s name) → IsNameOf cs s name
   pub unique : AllDiffer (map done_address cs)
-  pub made : (t : ℕ) (c : DoneScope) → slice_get cs t ≡ Some c → AreFunctions (keys seen) c.address c.functions c.made
-  pub required : (t : ℕ) (c : DoneScope) → slice_get cs t ≡ Some c → AreRequired files (keys seen) (turn_handles (turn_of c)) c.required
 
--- so much of it is whatever their handles require
+-- so they are, where what is written and the scopes are given otherwise
+abbrev pub done_as : {files : List PackageFile} {decls : Decls} {written written' : List Occurrence} {cs cs' : List DoneScope} {es : List TypeDef} → written ≡ written' → cs ≡ cs' → IsDone files decls written cs es → IsDone files decls written' cs' es
+done_as all same d = record {
+  seen = d.seen;
+  collects = subst (λ (l : List Occurrence). Collects [] l d.seen) all d.collects;
+  occurrence = d.occurrence;
+  each = λ t c at. d.each t c (ap (λ (l : List DoneScope). slice_get l t) same ∙ at);
+  own = λ t c at. d.own t c (ap (λ (l : List DoneScope). slice_get l t) same ∙ at);
+  are_present = λ t c at. d.are_present t c (ap (λ (l : List DoneScope). slice_get l t) same ∙ at);
+  before = λ j s name at. subst (λ (l : List DoneScope). IsNameOf l s name) same (d.before j s name at);
+  unique = subst (λ (l : List DoneScope). AllDiffer (map done_address l)) same d.unique;
+}
+
+-- These scopes are done with their functions, whose types are at their places.
 pub record IsPresent (files : List PackageFile) (decls : Decls) (written : List Occurrence) (cs : List DoneScope) (es : List TypeDef) : Type 0 where
   pub seen : List Occurrence
   pub collects : Collects [] written seen
@@ -250,6 +265,3 @@ pub keyed_in : {files : List PackageFile} {decls : Decls} {written : List Occurr
 keyed_in {files} {decls} d = keyed_by d.occurrence (λ j s name at. (
     let it = d.before j s name at in
     subst (λ (z : Address). AreDistinct (decls z).0) it.scope (subst (λ (x : List ScopeName × TypeOwner). AreDistinct x.0) (sym (d.own it.place it.resolved_scope it.at)) (d.each it.place it.resolved_scope it.at).turn.distinct)))
-
-abbrev pub members : {files : List PackageFile} {decls : Decls} {written : List Occurrence} {cs : List DoneScope} {es : List TypeDef} → IsDone files decls written cs es → IsPresent files decls written cs es
-members d = record { seen = d.seen; collects = d.collects; occurrence = d.occurrence; each = d.each; own = d.own; are_present = d.are_present; before = d.before; made = d.made }

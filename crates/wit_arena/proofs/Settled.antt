@@ -1,11 +1,12 @@
 -- Functions whose setters were put directly after their getters are the same functions.
 use Rattle.std.proofs.Common.{◌≡◌, ℕ, zero, suc, Bool, true, List, [], ◌∷◌, map, Option, Some, None, ◌⊎◌, inl, inr, refl, sym, ap, ◌∙◌, false, cond, ◌++◌, subst, ◌+◌, length}
-use Rattle.wit_arena.proofs.Names.{Function, FunctionKind, after_one, and_parts, any_found, both, by_name, cases_Bool, cond-false, cond-true, early, filter, flat_map_at, flat_map_has, goes_on_alike, is_getter, is_getter_of, kept_at, kept_has, list_any, map_at, option_map, others, pairs, placed_functions, prefixes, setters_placed, slice_get, slice_get-map, with_setters, Include, Names, ScopeName, WorldItem, WorldKey, filter-append, flat_map, flat_map-append, function_of, interface_items, is_interface_item, kept_none, settled, type_imports, Address, AreSideItems, Id, Link, SideFunction, SideInline, SideItem, SideLink, TopName, WorldSide, function_item, import_types, inline_entry, item_function, item_functions, link_item, path_scope, put_on, role_side, same_side, Exported, FunctionKey, Imported, Interface, SourceFunction, World, append-nil, at_back, at_prefix, at_split, interface_functions, keyed, local_names, world_functions}
+use Rattle.wit_arena.proofs.Names.{Function, FunctionKind, after_one, and_parts, any_found, both, by_name, cases_Bool, cond-false, cond-true, early, filter, flat_map_at, flat_map_has, goes_on_alike, is_getter, is_getter_of, kept_at, kept_has, list_any, map_at, option_map, others, pairs, placed_functions, prefixes, setters_placed, slice_get, slice_get-map, with_setters, Include, Names, ScopeName, WorldItem, WorldKey, filter-append, flat_map, flat_map-append, function_of, interface_items, is_interface_item, kept_none, settled, type_imports, Address, Id, Link, SideFunction, SideInline, SideItem, SideLink, TopName, WorldSide, function_item, import_types, inline_entry, item_function, item_functions, link_item, put_on, role_side, same_side, Exported, FunctionKey, Imported, Interface, SourceFunction, World, append-nil, at_back, at_prefix, at_split, interface_functions, keyed, local_names, world_functions}
 use Rattle.wit_arena.proofs.OneKind.{same_some}
 use Rattle.wit_functions.proofs.InTurn.{list_any-none}
 use Rattle.wit_arena.proofs.MadeOn.{made_on, made_on_has, made_on_pair}
 use Rattle.wit_arena.proofs.FreeNames.{made_key, AreStated}
 use Rattle.wit_arena.proofs.Visits.{side_has}
+use Rattle.wit_arena.proofs.MadeSides.{AreSideItems}
 use Rattle.wit_functions.specs.declared.function.FunctionKind.TheVariants as kind
 use Rattle.wit_model.specs.declared.world.WorldItem.TheVariants as item
 
@@ -225,26 +226,6 @@ side_functions interfaces top side (SideLink link ∷ written) fs ss xs are =
 side_functions interfaces top side (SideInline x name items ∷ written) fs (s ∷ ss) xs are =
     ap (flat_map item_functions) are.3 ∙ put_nothing item_functions side x.side (inline_entry x name are.0) are.1 refl ∙ side_functions interfaces top side written fs ss are.1 are.4
 side_functions interfaces top side _ fs ss xs are = absurd are
-
--- and none of them is a type
-pub side_types : (interfaces : List Address) (top : List TopName) (side : WorldSide) (written : List SideItem) (fs : List Function) (ss : List Address) (xs : List (WorldKey × WorldItem)) → AreSideItems interfaces top side written fs ss xs → flat_map import_types xs ≡ []
-side_types interfaces top side [] fs ss xs are = ap (flat_map import_types) are
-side_types interfaces top side (SideFunction fn ∷ written) (f ∷ fs) ss xs are =
-    ap (flat_map import_types) are.1 ∙ put_nothing import_types side (role_side fn.role) (function_item f) are.0 refl ∙ side_types interfaces top side written fs ss are.0 are.2
-side_types interfaces top side (SideLink link ∷ written) fs ss xs are =
-    ap (flat_map import_types) are.3 ∙ put_nothing import_types side link.side (link_item link are.0) are.1 (elim link.name as (λ name. import_types (link_item (named_link link name) are.0) ≡ []) [ None ↦ refl | Some id ↦ refl ]) ∙ side_types interfaces top side written fs ss are.1 are.4
-side_types interfaces top side (SideInline x name items ∷ written) fs (s ∷ ss) xs are =
-    ap (flat_map import_types) are.3 ∙ put_nothing import_types side x.side (inline_entry x name are.0) are.1 refl ∙ side_types interfaces top side written fs ss are.1 are.4
-side_types interfaces top side _ fs ss xs are = absurd are
-
--- where each of some addresses is at its place among all, these are what they are among all
-module _ (some all : List Address) (wider : (t : ℕ) (a : Address) → slice_get some t ≡ Some a → slice_get all t ≡ Some a) (top : List TopName) (side : WorldSide) where
-  pub side_items_wider : (written : List SideItem) (fs : List Function) (ss : List Address) (xs : List (WorldKey × WorldItem)) → AreSideItems some top side written fs ss xs → AreSideItems all top side written fs ss xs
-  side_items_wider [] fs ss xs are = are
-  side_items_wider (SideFunction fn ∷ written) (f ∷ fs) ss xs are = (are.0, are.1, side_items_wider written fs ss are.0 are.2)
-  side_items_wider (SideLink link ∷ written) fs ss xs are = (are.0, are.1, wider are.0 (path_scope top link.path) are.2, are.3, side_items_wider written fs ss are.1 are.4)
-  side_items_wider (SideInline x name items ∷ written) fs (s ∷ ss) xs are = (are.0, are.1, wider are.0 s are.2, are.3, side_items_wider written fs ss are.1 are.4)
-  side_items_wider _ fs ss xs are = absurd are
 
 -- The types and the functions among what a world imports and exports, and what owners state of the functions that were made of theirs.
 -- what is in one list is in the other

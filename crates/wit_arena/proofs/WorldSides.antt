@@ -1,21 +1,21 @@
 -- The names of a world that comes next, and what is on its sides, after interfaces and worlds that are done.
-use Rattle.std.proofs.Common.{◌≡◌, ℕ, ◌+◌, true, false, List, [], ◌∷◌, ◌++◌, length, map, Some, inl, inr, sym, ap, ◌∙◌, subst, append_assoc, arith, length-append}
-use Rattle.wit_arena.proofs.Names.{Address, AddsForeign, AddsScope, AddsSides, Defines, Function, FunctionKey, Interface, Item, Names, Occurrence, PackageFile, Required, ResolvedScope, ScopeName, SideItem, Turned, TypeDef, TypeOwner, World, WorldArenas, WorldNamed, address, all_items, all_occurrences, append-nil, at_back, at_either, at_part, at_prefix, at_seam, differ_at, differ_by, flat_map, flat_map-append, foreign_interfaces, foreign_worlds, in_turn, inline_inside, inline_interface, inline_items, inline_items_differ, inside_one, interfaces_at, is_inside, length-map, map-append, map_at, option_map, resolved_scopes, scope, scope_names, slice_get, slice_get-map, slice_get_within, visited, worlds_at}
-use Rattle.wit_types.specs.declared.types.TypeOwner.TheVariants as owner
+use Rattle.std.proofs.Common.{◌≡◌, ℕ, ◌+◌, true, false, List, [], ◌∷◌, ◌++◌, length, map, Some, inl, inr, sym, ap, ◌∙◌, subst, append_assoc, arith, length-append, refl}
+use Rattle.wit_arena.proofs.Names.{Address, AddsForeign, AddsScope, AddsSides, Function, FunctionKey, Interface, Item, Names, Occurrence, PackageFile, Required, ResolvedScope, ScopeName, SideItem, Turned, TypeDef, TypeOwner, World, WorldArenas, WorldNamed, address, all_items, all_occurrences, append-nil, at_back, at_either, at_part, at_prefix, at_seam, differ_at, differ_by, flat_map, flat_map-append, foreign_interfaces, foreign_worlds, in_turn, inline_inside, inline_items, inline_items_differ, inside_one, interfaces_at, is_inside, length-map, map-append, map_at, option_map, resolved_scopes, scope, scope_names, slice_get, slice_get-map, slice_get_within, visited, worlds_at, AreNames, Extends, env_of, keys, local_names, names_in}
 use Rattle.wit_arena.proofs.Visits.{AreUsableUses}
-use Rattle.wit_arena.proofs.Ordered.{Ordered, all_turns, all_inside}
-use Rattle.wit_syntax.specs.Source as source
-use Rattle.wit_arena.proofs.DoneWorlds.{InterfacesDone, WorldOwner, inside_of, interface_list, world_list, decls, defines_wider, prefix_apart, resolved_scopes_among, next_world, inline_declared, world_item_declared, scopes_of, all_within, own_order, AreWorldsDone, prefix_longer, flat_map_longer, scope_either}
-use Rattle.wit_arena.proofs.Sided.{AreSided, IsFreshInside, are_sided, side_required}
-use Rattle.wit_arena.proofs.DoneNames.{function_part_of, names_of_functions}
-use Rattle.wit_arena.proofs.FunctionPart.{DoneFunction, scope_functions, IsFunctionPart}
+use Rattle.wit_arena.proofs.Ordered.{all_turns, all_inside, turned}
+use Rattle.wit_arena.proofs.DoneWorlds.{InterfacesDone, WorldOwner, inside_of, interface_list, world_list, decls, prefix_apart, resolved_scopes_among, next_world, inline_declared, world_item_declared, scopes_of, all_within, own_order, AreWorldsDone, prefix_longer, flat_map_longer, scope_either, ordered_interface}
+use Rattle.wit_arena.proofs.Sided.{AreSided, IsFreshInside, are_sided}
+use Rattle.wit_arena.proofs.DoneNames.{are_known, are_new, are_owned, none_named, scope_done}
 use Rattle.wit_arena.proofs.Prefix.{prefix_scopes, interfaces_count, worlds_count}
 use Rattle.wit_arena.proofs.Indexing.{interfaces_at-append, worlds_at-append}
-use Rattle.wit_arena.proofs.Inside.{inside_at, inside_scopes-count, inside_count}
-use Rattle.wit_arena.proofs.Interfaces.{AreItems, AreOfSort, item_scopes, inline_scopes, scope_of, functions_of, items_declared, interface_address, world_address}
+use Rattle.wit_arena.proofs.Interfaces.{AreItems, AreOfSort, item_scopes, inline_scopes, scope_of, items_declared, interface_address, world_address}
 use Rattle.wit_arena.proofs.ScopesInTurn.{laid_scope, laid_addresses, laid_place, ordered_at, ordered_addresses, none_is_next, in_turn_is}
-use Rattle.wit_arena.proofs.Resolving.{DoneScope, resolved_scope_of, IsTurn}
+use Rattle.wit_arena.proofs.Resolving.{DoneScope, resolved_scope_of, IsTurn, IsDone, turn_of}
 use Rattle.wit_arena.proofs.Turns.{item_of, own_item, all_name_occurrences}
+use Rattle.wit_arena.proofs.Placing.{gives_in, place_in}
+use Rattle.wit_arena.proofs.DefinitionPart.{name_seen_in}
+use Rattle.wit_types.specs.declared.types.TypeOwner.TheVariants as owner
+use Rattle.wit_syntax.specs.Source as source
 
 module _ (files : List PackageFile) (is ws : List Item) (interfaces : AreOfSort false is) (worlds : AreOfSort true ws) (is_items : AreItems files is) (ws_items : AreItems files ws) (uses : AreUsableUses files (all_items files)) (es : List TypeDef) (prefix : List Interface) (wprefix : List World) (foreign : AddsForeign files es prefix wprefix) (middle : List TypeDef) (xs : List Interface) (irs : List Required) (d : InterfacesDone files is ws prefix is middle xs irs) where
   abbrev ss : List Address
@@ -38,7 +38,7 @@ module _ (files : List PackageFile) (is ws : List Item) (interfaces : AreOfSort 
   long_prefix : length (prefix ++ xs) ≡ length ss + length is
   long_prefix =
       let ahead : length prefix ≡ length ss = interfaces_count foreign ∙ sym (length-map (foreign_interfaces files) visited) in
-      let own : length xs ≡ length is = d.laid.says.count ∙ sym (length-map d.ordered item_of) ∙ ap length d.all in
+      let own : length xs ≡ length is = d.laid.count ∙ sym (length-map d.ordered item_of) ∙ ap length d.all in
       length-append prefix xs ∙ ap (λ n. n + length xs) ahead ∙ ap (λ n. length ss + n) own
 
   -- the addresses of all interfaces
@@ -73,9 +73,6 @@ module _ (files : List PackageFile) (is ws : List Item) (interfaces : AreOfSort 
     abbrev first : List DoneScope
     first = before ++ flat_map scopes_of e.scopes
 
-    abbrev made_before : List DoneFunction
-    made_before = flat_map scope_functions first
-
     abbrev written : List Occurrence
     written = all_occurrences files (all_turns d.ordered e.ordered)
 
@@ -83,7 +80,7 @@ module _ (files : List PackageFile) (is ws : List Item) (interfaces : AreOfSort 
     place = length-map e.ordered own_order ∙ sym (length-map e.ordered own_item) ∙ ap length e.all
 
     own_place : length e.own ≡ length us
-    own_place = e.laid.says.count ∙ place
+    own_place = e.laid.count ∙ place
 
     at_own : slice_get ws (length e.own) ≡ Some w
     at_own = ap (slice_get ws) own_place ∙ next
@@ -110,26 +107,21 @@ module _ (files : List PackageFile) (is ws : List Item) (interfaces : AreOfSort 
     own_inside : (k : ℕ) (i : Item) → slice_get (inline_items w) k ≡ Some i → slice_get (inside_of ws) (length (inside_of us) + k) ≡ Some i
     own_inside k i at = inside_prefix (length (inside_of us) + k) i (ap (λ (l : List Item). slice_get l (length (inside_of us) + k)) inside_split ∙ at_back (inside_of us) (inline_items w) k i at)
 
-    pub long_inside : length (all_inside e.ordered) ≡ length (inside_of us)
-    long_inside = sym (length-map (all_inside e.ordered) item_of) ∙ ap length e.inside
+    -- there are as many entries
+    pub count_inside : length a.inside ≡ length (inside_of us)
+    count_inside =
+        let id = place_in (keys e.done.seen) 0 in
+        ap length (e.inside_made id (gives_in (keys e.done.seen) 0 e.done.occurrence.once)) ∙ length-map (all_inside e.ordered) (ordered_interface id) ∙ sym (length-map (all_inside e.ordered) item_of) ∙ ap length e.inside
 
     -- where the next interface that is written in a world is
     pub next_place : length (prefix ++ xs) + length a.inside ≡ length ss + (length is + length (inside_of us))
-    next_place =
-        let ahead = long_prefix in
-        let own = inside_count (length ss + length is) (all_inside e.ordered) (all_within e.scopes) a.inside e.laid_inside in
-        let long = long_inside in
-        omega arith
+    next_place = omega (arith, long_prefix, count_inside)
 
     -- the item of a scope that is written in a world
     within_item : (k : ℕ) (c : DoneScope) → slice_get (all_within e.scopes) k ≡ Some c → (i : Item) × (slice_get (inside_of us) k ≡ Some i) × (c.address ≡ address i)
     within_item k c at =
-        let lt = slice_get_within (all_within e.scopes) k c at in
-        let count = inside_scopes-count (length ss + length is) (all_inside e.ordered) (all_within e.scopes) a.inside e.laid_inside in
-        let it = inside_at (length ss + length is) (all_inside e.ordered) (all_within e.scopes) a.inside e.laid_inside k (omega arith) in
-        let both : Some it.c ≡ Some c = sym it.at_c ∙ at in
-        let one : c ≡ it.c = cc in
-        (it.o.item, ap (λ (l : List Item). slice_get l k) (sym e.inside) ∙ slice_get-map item_of (all_inside e.ordered) k ∙ ap (option_map item_of) it.at_o, ap (λ (b : DoneScope). b.address) one ∙ ap (λ (x : Turned). x.address) it.holds.turn)
+        let o = map_at turned (all_inside e.ordered) k (turn_of c) (ap (λ (l : List Turned). slice_get l k) (sym e.inside_turns) ∙ slice_get-map turn_of (all_within e.scopes) k ∙ ap (option_map turn_of) at) in
+        (o.0.item, ap (λ (l : List Item). slice_get l k) (sym e.inside) ∙ slice_get-map item_of (all_inside e.ordered) k ∙ ap (option_map item_of) o.1, sym (ap (λ (x : Turned). x.address) o.2))
 
     -- the scope of this world is none of those before
     pub world_fresh : (k : ℕ) (c : DoneScope) → slice_get first k ≡ Some c → c.address ≡ s → ⊥
@@ -187,39 +179,45 @@ module _ (files : List PackageFile) (is ws : List Item) (interfaces : AreOfSort 
         ap (λ (l : List Address). slice_get l t) (sym all) ∙ prefix_longer (ss ++ map address is) some (map address (inside_of ws)) longer t x (ap (λ (l : List Address). slice_get l t) (sym whole) ∙ at)
 
     -- the scopes of interfaces are among those that are done
-    known_among : (cs : List DoneScope) (t : ℕ) (c : ResolvedScope) → slice_get known t ≡ Some c → (j : ℕ) × (slice_get (map resolved_scope_of (first ++ cs)) j ≡ Some c)
+    pub known_among : (cs : List DoneScope) (t : ℕ) (c : ResolvedScope) → slice_get known t ≡ Some c → (j : ℕ) × (slice_get (map resolved_scope_of (first ++ cs)) j ≡ Some c)
     known_among cs t c at =
         let it = resolved_scopes_among files is ws interfaces worlds is_items ws_items uses es prefix wprefix foreign xs d.scopes d.laid.types t c at in
         let more = flat_map scopes_of e.scopes in
         let whole : map resolved_scope_of (first ++ cs) ≡ map resolved_scope_of before ++ map resolved_scope_of (more ++ cs) = ap (map resolved_scope_of) (append_assoc before more cs) ∙ map-append resolved_scope_of before (more ++ cs) in
         (it.0, ap (λ (l : List ResolvedScope). slice_get l it.0) whole ∙ at_prefix (map resolved_scope_of before) (map resolved_scope_of (more ++ cs)) it.0 c it.1)
 
-    -- once the names of this world were added; nothing hangs on what is stated of its scope besides
-    module _ (mid : List TypeDef) (types : Names) (adds : AddsScope old mid known (owner.World (length a.worlds)) (scope_names w) types) (made : List Function) (stated : List (FunctionKey × Function)) (required : List Required) where
-      abbrev pub o : Ordered
-      o = record { item = w; order = adds.order }
+    pub known_before : (t : ℕ) (c : ResolvedScope) → slice_get known t ≡ Some c → (j : ℕ) × (slice_get (map resolved_scope_of first) j ≡ Some c)
+    known_before t c at = (let it = known_among [] t c at in (it.0, ap (λ (l : List DoneScope). slice_get (map resolved_scope_of l) it.0) (sym (append-nil first)) ∙ it.1))
 
+    -- whom the package knows its scope by
+    pub world_owned : decls files is ws s ≡ (scope files s, owner.World (length a.worlds))
+    world_owned =
+        let whose : owner.World (length a.worlds) ≡ WorldOwner files (length e.own) = ap (λ (l : List World). owner.World (length l)) e.arena ∙ next_world files is ws interfaces worlds is_items ws_items uses es prefix wprefix foreign e.own in
+        world_item_declared files is ws interfaces worlds is_items ws_items (length e.own) w at_own ∙ ap (λ (o : TypeOwner). (scope files s, o)) (sym whose)
+
+    pub world_scoped : scope files s ≡ scope_names w
+    world_scoped = scope_of files ws (item_scopes files ws ws_items) (length us) w next
+
+    -- once the names of this world were added; nothing hangs on what is stated of its scope besides
+    module _ (mid : List TypeDef) (types : Names) (adds : AddsScope old mid known (owner.World (length a.worlds)) (scope_names w) types) (stated : List (FunctionKey × Function)) where
       abbrev names : List ScopeName
       names = in_turn (scope_names w) adds.order
 
       abbrev pub c : DoneScope
-      c = laid_scope (WorldOwner files (length e.own)) o types made stated required
+      c = laid_scope (owner.World (length a.worlds)) (record { item = w; order = adds.order }) types [] stated []
 
       abbrev named : List Occurrence
       named = all_name_occurrences s names
 
-      whose : owner.World (length a.worlds) ≡ WorldOwner files (length e.own)
-      whose = ap (λ (l : List World). owner.World (length l)) e.arena ∙ next_world files is ws interfaces worlds is_items ws_items uses es prefix wprefix foreign e.own
+      pub turn : IsTurn (scope files s) names
+      turn = subst (λ (l : List ScopeName). IsTurn l names) (sym world_scoped) (in_turn_is (scope_names w) adds.order adds.least adds.distinct)
 
-      defines : Defines old mid (map resolved_scope_of first) (WorldOwner files (length e.own)) s [] types names
-      defines = subst (λ (x : TypeOwner). Defines old mid (map resolved_scope_of first) x s [] types names) whose (defines_wider old mid known (map resolved_scope_of first) (owner.World (length a.worlds)) s [] types names (λ t x at. (let it = known_among [] t x at in (it.0, ap (λ (l : List DoneScope). slice_get (map resolved_scope_of l) it.0) (sym (append-nil first)) ∙ it.1))) (adds.defines s))
-
-      turn : IsTurn (scope files s) names
-      turn = subst (λ (l : List ScopeName). IsTurn l names) (sym (scope_of files ws (item_scopes files ws ws_items) (length us) w next)) (in_turn_is (scope_names w) adds.order adds.least adds.distinct)
+      abbrev pub added : Extends (decls files is ws) e.done.seen named mid (λ ks. AreNames ks s (env_of types) × (names_in types ≡ local_names names))
+      added = (adds.defines s).from (decls files is ws) e.done.seen (are_owned files (decls files is ws) written first old e.done s (owner.World (length a.worlds)) names world_fresh world_owned turn) turn.differ (are_new files (decls files is ws) written first old e.done s (owner.World (length a.worlds)) names world_fresh world_owned turn) (are_known files (decls files is ws) written first old e.done s (owner.World (length a.worlds)) names world_fresh world_owned turn known known_before) e.done.occurrence (none_named files (decls files is ws) written first old e.done s (owner.World (length a.worlds)) names world_fresh world_owned turn)
 
       -- its names are done
-      pub names_done : IsFunctionPart files (decls files is ws) (written ++ named) (first ++ c ∷ []) made_before mid
-      names_done = names_of_functions files (decls files is ws) written first made_before old mid c (function_part_of files (decls files is ws) written first old e.done) world_fresh (world_item_declared files is ws interfaces worlds is_items ws_items (length e.own) w at_own) turn defines
+      abbrev pub names_done : IsDone files (decls files is ws) (written ++ named) (first ++ c ∷ []) mid
+      names_done = scope_done files (decls files is ws) written first old e.done s (owner.World (length a.worlds)) names world_fresh world_owned turn mid c refl refl refl named (name_seen_in s names) added added.holds.0 added.holds.1
 
       -- an interface that is written in it can come next
       pub fresh_inside : (k : ℕ) (i : Item) → slice_get (inline_items w) k ≡ Some i → IsFreshInside files (decls files is ws) (first ++ c ∷ []) ((length (prefix ++ xs) + length a.inside) + k) i
@@ -227,7 +225,6 @@ module _ (files : List PackageFile) (is ws : List Item) (interfaces : AreOfSort 
           let there = own_inside k i at in
           let spot : length ss + (length is + (length (inside_of us) + k)) ≡ (length (prefix ++ xs) + length a.inside) + k = (let p = next_place in omega arith) in
           record {
-            interface = inline_interface w k i at;
             fresh = λ t b b_at same. elim (at_either first c t b b_at) [
               | inl h ↦ inline_fresh k i at t b h same
               | inr h ↦ (
@@ -236,10 +233,9 @@ module _ (files : List PackageFile) (is ws : List Item) (interfaces : AreOfSort 
                   f)
             ];
             has = scope_of files (inside_of ws) (inline_scopes files ws ws_items) (length (inside_of us) + k) i there;
-            does = functions_of files (inside_of ws) (inline_scopes files ws ws_items) (length (inside_of us) + k) i there;
             own = inline_declared files is ws interfaces worlds is_items ws_items (length (inside_of us) + k) i there ∙ ap (λ (n : ℕ). (scope files (address i), (owner.Interface n))) spot;
           }
 
       -- and so is what is on its sides, as far as it was added
-      pub sides_done : (new : List TypeDef) (js : List Interface) (fs : List Function) (rs : List Required) (items : List SideItem) (inside : List Item) → ((k : ℕ) (i : Item) → slice_get inside k ≡ Some i → slice_get (inline_items w) k ≡ Some i) → (sides : AddsSides known (length (prefix ++ xs)) s types mid new a.inside js fs rs items inside) → AreSided files (decls files is ws) (written ++ named) (first ++ c ∷ []) made_before (length (prefix ++ xs) + length a.inside) s new a.inside js fs rs items inside (side_required known (length (prefix ++ xs)) s types mid new a.inside js fs rs items inside sides)
-      sides_done new js fs rs items inside among sides = are_sided files (decls files is ws) (written ++ named) (first ++ c ∷ []) made_before mid new known (length (prefix ++ xs)) (length first) c a.inside js fs rs items inside names_done (at_seam first c) (known_among (c ∷ [])) (differ_by address inside (λ i j x y at_i at_j same. differ_at address (inline_items w) (inline_items_differ w) i j x y (among i x at_i) (among j y at_j) same)) (λ k i at. fresh_inside k i (among k i at)) sides
+      pub sides_done : (new : List TypeDef) (js : List Interface) (fs : List Function) (rs : List Required) (items : List SideItem) (inside : List Item) → ((k : ℕ) (i : Item) → slice_get inside k ≡ Some i → slice_get (inline_items w) k ≡ Some i) → AddsSides known (length (prefix ++ xs)) s types mid new a.inside js fs rs items inside → AreSided files (decls files is ws) (written ++ named) (first ++ c ∷ []) (keys names_done.seen) s new a.inside js fs rs items inside
+      sides_done new js fs rs items inside among sides = are_sided files (decls files is ws) (written ++ named) (first ++ c ∷ []) mid new known (length (prefix ++ xs)) (length first) c a.inside js fs rs items inside names_done (at_seam first c) (known_among (c ∷ [])) (differ_by address inside (λ i j x y at_i at_j same. differ_at address (inline_items w) (inline_items_differ w) i j x y (among i x at_i) (among j y at_j) same)) (λ k i at. fresh_inside k i (among k i at)) sides

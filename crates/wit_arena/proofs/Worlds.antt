@@ -1,25 +1,27 @@
 -- Worlds that were added are done, after interfaces, each with the interfaces that are written in it.
 use Rattle.std.proofs.Common.{◌≡◌, ℕ, suc, ◌+◌, true, false, List, [], ◌∷◌, ◌++◌, length, map, Some, inl, inr, refl, sym, ap, ◌∙◌, subst, append_assoc, arith, length-append, zero-add, add-zero}
-use Rattle.wit_arena.proofs.Names.{Address, AddsForeign, AddsWorld, AddsWorlds, AreRequired, Collects, Exported, Function, FunctionKey, Id, Imported, Interface, Item, Names, Occurrence, PackageFile, Required, ScopeName, Turned, TypeDef, World, WorldArenas, address, all_handles, all_items, all_occurrences, append-nil, at_back, at_either, at_prefix, at_seam, flat_map, flat_map-append, flat_map_has, foreign_interfaces, foreign_worlds, functions, import_types, in_turn, includes, inline_items, interfaces_at, keys, length-inline_after, length-map, local_names, map-append, name_types, nil_from_length, prefix_worlds, resolved_scopes, scope_names, settled, side_items, slice_get, turn_handles, visited, world_functions, worlds_at, written_types, «Type» as Written}
+use Rattle.wit_arena.proofs.Names.{Address, Id, WorldItem, WorldKey, WorldSide, world_entries, AddsForeign, AddsWorld, AddsWorlds, AreRequired, Function, FunctionKey, Imported, Interface, Item, Names, Occurrence, PackageFile, Required, ScopeName, Turned, TypeDef, World, WorldArenas, address, all_handles, all_items, all_occurrences, append-nil, at_either, at_seam, flat_map, flat_map-append, foreign_interfaces, foreign_worlds, functions, import_types, in_turn, includes, inline_items, keys, length-inline_after, length-map, local_names, map-append, name_types, nil_from_length, prefix_worlds, scope_names, settled, side_items, slice_get, turn_handles, visited, world_functions, AreNames, Extends, GivesPlaces, Key, at_part, env_of, in_turn_distinct, names_in, scope_place, entries_on, function_in, name_places, type_imports}
 use Rattle.wit_arena.proofs.Visits.{AreUsableUses}
 use Rattle.wit_arena.proofs.Ordered.{Ordered, OrderedWorld, addresses, turned, side_turns, world_turns, all_turns, all_inside}
-use Rattle.wit_arena.proofs.DoneWorlds.{InterfacesDone, WorldOwner, inside_of, interface_list, world_list, decls, SaysWorld, MakesWorld, world_resolved_scope, DoneWorld, own_scope, scopes_of, all_within, own_order, AreWorldsDone, includes_wider, named_world, own_types, written_more, scopes_more, handles_more, one_of_three}
-use Rattle.wit_arena.proofs.Sided.{AreAsStated, AreSided, side_required, all_handles-append}
-use Rattle.wit_arena.proofs.DoneNames.{done_of, required_there}
-use Rattle.wit_arena.proofs.PlacingFunctions.{made_count}
-use Rattle.wit_arena.proofs.FunctionPart.{AreWhole, DoneFunction, scope_functions, IsFunctionPart, IsScopeWhole}
-use Rattle.wit_arena.proofs.FreeNames.{free_of, AreStated}
+use Rattle.wit_arena.proofs.DoneWorlds.{InterfacesDone, inside_of, interface_list, world_list, decls, world_resolved_scope, DoneWorld, own_scope, scopes_of, all_within, own_order, AreWorldsDone, named_world, own_types, written_more, scopes_more, handles_more, ordered_interface, ordered_world, all_addresses}
+use Rattle.wit_arena.proofs.Sided.{AreSided}
+use Rattle.wit_arena.proofs.DoneNames.{required_there}
+use Rattle.wit_arena.proofs.PlacingFunctions.{names_placed}
+use Rattle.wit_arena.proofs.FreeNames.{free_of}
 use Rattle.wit_arena.proofs.Prefix.{prefix_scopes}
-use Rattle.wit_arena.proofs.Inside.{AreInside, inside_append}
-use Rattle.wit_arena.proofs.Interfaces.{AreItems, AreOfSort, item_scopes, functions_of, world_address}
+use Rattle.wit_arena.proofs.Interfaces.{AreItems, AreOfSort, world_address, scopes_placed}
 use Rattle.wit_arena.proofs.ScopesInTurn.{AreLaid, laid_none, laid_more}
-use Rattle.wit_arena.proofs.Occurrence.{collects_one, collects_longer}
+use Rattle.wit_arena.proofs.Occurrence.{collects_longer}
 use Rattle.wit_arena.proofs.OneKind.{Extended, extended_trans}
 use Rattle.wit_arena.proofs.Required.{in_scope, required_none, required_append, required_extended}
-use Rattle.wit_arena.proofs.Settled.{side_types, side_items_wider, settled_none, settled_types, stated_settled}
-use Rattle.wit_arena.proofs.Resolving.{DoneScope, turn_of, resolved_scope_of, IsDone}
-use Rattle.wit_arena.proofs.WorldSides.{place, next_place, long_inside, inside_split, world_added, interface_added, c, names_done, sides_done}
-use Rattle.wit_arena.proofs.Turns.{item_of, own_item, occurrences, all_name_occurrences}
+use Rattle.wit_arena.proofs.Settled.{settled_none, settled_types}
+use Rattle.wit_arena.proofs.Resolving.{DoneScope, turn_of, resolved_scope_of, IsDone, done_as}
+use Rattle.wit_arena.proofs.WorldSides.{place, inside_split, world_added, interface_added, c, names_done, sides_done, added}
+use Rattle.wit_arena.proofs.Turns.{item_of, own_item, all_name_occurrences}
+use Rattle.wit_arena.proofs.Placing.{gives_fewer, gives_in, place_in}
+use Rattle.wit_arena.proofs.MadeWorlds.{type_imports-as_stated}
+use Rattle.wit_arena.proofs.MadeSides.{entries_types}
+use Rattle.wit_arena.proofs.Members.{entries_walked}
 
 module _ (files : List PackageFile) (is ws : List Item) (interfaces : AreOfSort false is) (worlds : AreOfSort true ws) (is_items : AreItems files is) (ws_items : AreItems files ws) (uses : AreUsableUses files (all_items files)) (es : List TypeDef) (prefix : List Interface) (wprefix : List World) (foreign : AddsForeign files es prefix wprefix) (middle : List TypeDef) (xs : List Interface) (irs : List Required) (d : InterfacesDone files is ws prefix is middle xs irs) where
   abbrev ss : List Address
@@ -42,9 +44,6 @@ module _ (files : List PackageFile) (is ws : List Item) (interfaces : AreOfSort 
     abbrev first : List DoneScope
     first = before ++ flat_map scopes_of e.scopes
 
-    abbrev made_before : List DoneFunction
-    made_before = flat_map scope_functions first
-
     abbrev written : List Occurrence
     written = all_occurrences files (all_turns d.ordered e.ordered)
 
@@ -53,44 +52,26 @@ module _ (files : List PackageFile) (is ws : List Item) (interfaces : AreOfSort 
       abbrev turns_names : List ScopeName
       turns_names = in_turn (scope_names w) adds.adds.order
 
-      abbrev all_addresses : List Address
-      all_addresses = interfaces_at ss (prefix ++ xs) ++ b.addresses
-
       abbrev inside_addresses : List Address
       inside_addresses = map address (inline_items w)
 
       abbrev both : List (FunctionKey × Function)
       both = world_functions adds.added
 
-      stated_all : AreStated (functions w) adds.functions both
-      stated_all = stated_settled all_addresses w.top turns_names adds.types (side_items w) adds.functions inside_addresses (includes w) adds.imports.0 adds.exports.0 adds.added adds.imports.2 adds.exports.2 adds.imports.1 adds.exports.1
-
-      -- what the functions on its sides require
-      abbrev functions_required : List Required
-      functions_required = side_required (resolved_scopes ss (prefix ++ xs)) (length (prefix ++ xs)) s adds.types adds.middle new a.inside b.inside adds.functions adds.rest (side_items w) (inline_items w) adds.sides
-
-      -- its scope, with what its handles require
       abbrev closed : DoneScope
-      closed = c files is ws interfaces worlds is_items ws_items uses es prefix wprefix foreign middle xs irs d us old a qs e w next adds.middle adds.types adds.adds adds.functions both (adds.own ++ functions_required)
+      closed = c files is ws interfaces worlds is_items ws_items uses es prefix wprefix foreign middle xs irs d us old a qs e w next adds.middle adds.types adds.adds both
 
-      closed_names : IsFunctionPart files (decls files is ws) (written ++ all_name_occurrences s turns_names) (first ++ closed ∷ []) made_before adds.middle
-      closed_names = names_done files is ws interfaces worlds is_items ws_items uses es prefix wprefix foreign middle xs irs d us old a qs e w next adds.middle adds.types adds.adds adds.functions both (adds.own ++ functions_required)
+      abbrev names_part : IsDone files (decls files is ws) (written ++ all_name_occurrences s turns_names) (first ++ closed ∷ []) adds.middle
+      names_part = names_done files is ws interfaces worlds is_items ws_items uses es prefix wprefix foreign middle xs irs d us old a qs e w next adds.middle adds.types adds.adds both
 
-      sided : AreSided files (decls files is ws) (written ++ all_name_occurrences s turns_names) (first ++ closed ∷ []) made_before (length (prefix ++ xs) + length a.inside) s new a.inside b.inside adds.functions adds.rest (side_items w) (inline_items w) functions_required
-      sided = sides_done files is ws interfaces worlds is_items ws_items uses es prefix wprefix foreign middle xs irs d us old a qs e w next adds.middle adds.types adds.adds adds.functions both (adds.own ++ functions_required) new b.inside adds.functions adds.rest (side_items w) (inline_items w) (λ k i at. at) adds.sides
+      sided : AreSided files (decls files is ws) (written ++ all_name_occurrences s turns_names) (first ++ closed ∷ []) (keys names_part.seen) s new a.inside b.inside adds.functions adds.rest (side_items w) (inline_items w)
+      sided = sides_done files is ws interfaces worlds is_items ws_items uses es prefix wprefix foreign middle xs irs d us old a qs e w next adds.middle adds.types adds.adds both new b.inside adds.functions adds.rest (side_items w) (inline_items w) (λ k i at. at) adds.sides
 
       abbrev sides : List Turned
       sides = side_turns s (side_items w) sided.ordered
 
-      abbrev all_scopes_now : List DoneScope
-      all_scopes_now = (first ++ closed ∷ []) ++ sided.scopes
-
-      function_part : IsFunctionPart files (decls files is ws) ((written ++ all_name_occurrences s turns_names) ++ occurrences sides) all_scopes_now (made_before ++ sided.more) new
-      function_part = sided.function_part
-
-      -- what is required on its sides
-      as_stated : AreAsStated files (keys function_part.seen) s (side_items w) sides sided.scopes functions_required adds.rest
-      as_stated = sided.as_stated function_part.seen function_part.collects
+      abbrev ks : List Key
+      ks = keys sided.done.seen
 
       -- all that are written in it are there
       items_all : map item_of sided.ordered ≡ inline_items w
@@ -103,49 +84,11 @@ module _ (files : List PackageFile) (is ws : List Item) (interfaces : AreOfSort 
           let none : sided.left ≡ [] = nil_from_length sided.left (omega (arith, long, parts, own, used, count)) in
           sym (append-nil (map item_of sided.ordered)) ∙ ap (λ (l : List Item). map item_of sided.ordered ++ l) (sym none) ∙ sided.items
 
-      extended_names : Extended (keys closed_names.seen) (keys function_part.seen)
-      extended_names = collects_longer (written ++ all_name_occurrences s turns_names) (occurrences sides) [] closed_names.seen function_part.seen closed_names.collects function_part.collects
+      abbrev named : Extends (decls files is ws) e.done.seen (all_name_occurrences s turns_names) adds.middle (λ ks. AreNames ks s (env_of adds.types) × (names_in adds.types ≡ local_names turns_names))
+      named = added files is ws interfaces worlds is_items ws_items uses es prefix wprefix foreign middle xs irs d us old a qs e w next adds.middle adds.types adds.adds both
 
-      extended_before : Extended (keys e.done.seen) (keys function_part.seen)
-      extended_before = extended_trans (collects_longer written (all_name_occurrences s turns_names) [] e.done.seen closed_names.seen e.done.collects closed_names.collects) extended_names
-
-      -- what its names require
-      names_required : AreRequired files (keys function_part.seen) (map (in_scope s) (all_handles (flat_map name_types turns_names))) adds.own
-      names_required = required_extended files extended_names (map (in_scope s) (all_handles (flat_map name_types turns_names))) adds.own (required_there files (decls files is ws) (written ++ all_name_occurrences s turns_names) (first ++ closed ∷ []) made_before adds.middle closed_names (length first) closed (at_seam first closed) (all_handles (flat_map name_types turns_names)) adds.own adds.ended)
-
-      -- and with them its functions
-      own_required : AreRequired files (keys function_part.seen) (turn_handles (turn_of closed)) closed.required
-      own_required =
-          let ts : List Written = flat_map name_types turns_names in
-          let fns : List Written = flat_map written_types (functions w) in
-          let whole : map (in_scope s) (all_handles (ts ++ fns)) ≡ map (in_scope s) (all_handles ts) ++ map (in_scope s) (all_handles fns) = ap (map (in_scope s)) (all_handles-append ts fns) ∙ map-append (in_scope s) (all_handles ts) (all_handles fns) in
-          subst (λ (hs : List (Address × Id)). AreRequired files (keys function_part.seen) hs (adds.own ++ functions_required)) (sym whole) (required_append files (keys function_part.seen) (map (in_scope s) (all_handles ts)) (map (in_scope s) (all_handles fns)) adds.own functions_required names_required as_stated.by_functions)
-
-      after_made : (g : DoneFunction) → (j : ℕ) × (slice_get sided.more j ≡ Some g) → (j : ℕ) × (slice_get (made_before ++ sided.more) j ≡ Some g)
-      after_made g it = (length made_before + it.0, at_back made_before sided.more it.0 g it.1)
-
-      made_among : (t k : ℕ) (x : DoneScope) (g : DoneFunction) → slice_get all_scopes_now t ≡ Some x → slice_get (scope_functions x) k ≡ Some g → (j : ℕ) × (slice_get (made_before ++ sided.more) j ≡ Some g)
-      made_among t k x g at there = elim (one_of_three first sided.scopes closed t x at) [
-        | inl h ↦ (let it = flat_map_has scope_functions first h.0 k x g h.1 there in (it.0, at_prefix made_before sided.more it.0 g it.1))
-        | inr h ↦ elim h [
-          | inl own ↦ after_made g (sided.own k g (ap (λ (y : DoneScope). slice_get (scope_functions y) k) (sym own) ∙ there))
-          | inr far ↦ after_made g (sided.within far.0 k x g far.1 there)
-        ]
-      ]
-
-      -- of each scope this holds, where it does of those before, of this one, and of those that are written in it
-      of_each : (P : DoneScope → Type 0) → ((k : ℕ) (x : DoneScope) → slice_get first k ≡ Some x → P x) → P closed → ((k : ℕ) (x : DoneScope) → slice_get sided.scopes k ≡ Some x → P x) → (t : ℕ) (x : DoneScope) → slice_get all_scopes_now t ≡ Some x → P x
-      of_each P old own far t x at = elim (one_of_three first sided.scopes closed t x at) [
-        | inl h ↦ old h.0 x h.1
-        | inr h ↦ elim h [ inl is ↦ subst P (sym is) own | inr it ↦ far it.0 x it.1 ]
-      ]
-
-      all_of : AreWhole files all_scopes_now (made_before ++ sided.more) (keys function_part.seen)
-      all_of = record {
-        whole = of_each (IsScopeWhole files) (λ k x at. record { functions = (e.done.each k x at).functions; stated = (e.done.each k x at).stated; count = made_count (keys e.done.seen) x.address e.done.occurrence.once x.functions x.made (e.done.made k x at) }) (record { functions = sym (functions_of files ws (item_scopes files ws ws_items) (length us) w next); stated = stated_all; count = sided.count }) sided.whole;
-        made = made_among;
-        required = of_each (λ (x : DoneScope). AreRequired files (keys function_part.seen) (turn_handles (turn_of x)) x.required) (λ k x at. required_extended files extended_before (turn_handles (turn_of x)) x.required (e.done.required k x at)) own_required as_stated.each;
-      }
+      extended_before : Extended (keys e.done.seen) ks
+      extended_before = extended_trans (collects_longer written (all_name_occurrences s turns_names) [] e.done.seen names_part.seen e.done.collects names_part.collects) sided.extended
 
       abbrev world : OrderedWorld
       world = record { own = record { item = w; order = adds.adds.order }; inside = sided.ordered }
@@ -153,67 +96,48 @@ module _ (files : List PackageFile) (is ws : List Item) (interfaces : AreOfSort 
       abbrev world_done : DoneWorld
       world_done = record { own = closed; inside = sided.scopes }
 
-      abbrev then_written : List Occurrence
-      then_written = all_occurrences files (all_turns d.ordered (e.ordered ++ world ∷ []))
-
-      then_collects : then_written ≡ (written ++ all_name_occurrences s turns_names) ++ occurrences sides
-      then_collects = written_more files d.ordered e.ordered world s turns_names refl
-
-      all_done : IsDone files (decls files is ws) then_written (before ++ flat_map scopes_of (e.scopes ++ world_done ∷ [])) new
-      all_done = subst (λ (ms : List Occurrence). IsDone files (decls files is ws) ms (before ++ flat_map scopes_of (e.scopes ++ world_done ∷ [])) new) (sym then_collects) (subst (λ (l : List DoneScope). IsDone files (decls files is ws) ((written ++ all_name_occurrences s turns_names) ++ occurrences sides) l new) (sym (scopes_more before e.scopes world_done)) (done_of files (decls files is ws) ((written ++ all_name_occurrences s turns_names) ++ occurrences sides) all_scopes_now (made_before ++ sided.more) new function_part all_of))
-
-      all_required : (seen : List Occurrence) → Collects [] then_written seen → AreRequired files (keys seen) (flat_map turn_handles (flat_map world_turns (e.ordered ++ world ∷ []))) (qs ++ rs)
-      all_required seen collects =
-          let same : function_part.seen ≡ seen = collects_one ((written ++ all_name_occurrences s turns_names) ++ occurrences sides) [] function_part.seen seen function_part.collects (subst (λ (ms : List Occurrence). Collects [] ms seen) then_collects collects) in
+      all_required : AreRequired files ks (flat_map turn_handles (flat_map world_turns (e.ordered ++ world ∷ []))) (qs ++ rs)
+      all_required =
           let old_handles = flat_map turn_handles (flat_map world_turns e.ordered) in
           let own_handles = map (in_scope s) (all_handles (flat_map name_types turns_names)) in
           let side_handles = flat_map turn_handles sides in
-          let old_required = required_extended files extended_before old_handles qs (e.required e.done.seen e.done.collects) in
-          let new_required = required_append files (keys function_part.seen) own_handles side_handles adds.own adds.rest names_required as_stated.in_all in
-          let whole = required_append files (keys function_part.seen) old_handles (own_handles ++ side_handles) qs (adds.own ++ adds.rest) old_required new_required in
-          subst (λ (ms : List Occurrence). AreRequired files (keys ms) (flat_map turn_handles (flat_map world_turns (e.ordered ++ world ∷ []))) (qs ++ rs)) same (subst (λ (hs : List (Address × Id)). AreRequired files (keys function_part.seen) hs (qs ++ rs)) (sym (handles_more e.ordered world s turns_names refl)) (subst (λ (ts : List Required). AreRequired files (keys function_part.seen) (old_handles ++ (own_handles ++ side_handles)) (qs ++ ts)) (sym adds.requires) whole))
+          let own = required_extended files sided.extended own_handles adds.own (required_there files (decls files is ws) (written ++ all_name_occurrences s turns_names) (first ++ closed ∷ []) adds.middle names_part (length first) closed (at_seam first closed) (all_handles (flat_map name_types turns_names)) adds.own adds.ended) in
+          let whole = required_append files ks old_handles (own_handles ++ side_handles) qs (adds.own ++ adds.rest) (required_extended files extended_before old_handles qs e.required) (required_append files ks own_handles side_handles adds.own adds.rest own sided.required) in
+          subst (λ (hs : List (Address × Id)). AreRequired files ks hs (qs ++ rs)) (sym (handles_more e.ordered world s turns_names refl)) (subst (λ (l : List Required). AreRequired files ks (old_handles ++ (own_handles ++ side_handles)) (qs ++ l)) (sym adds.requires) whole)
 
-      listed : map (λ p. p.0) adds.types ≡ local_names turns_names
-      listed = (closed_names.each (length first) closed (at_seam first closed)).listed
+      typed : (id : Key → ℕ) → GivesPlaces id ks → adds.types ≡ name_places id s turns_names
+      typed id gives = names_placed id (keys names_part.seen) (gives_fewer sided.extended id gives) s turns_names adds.types (in_turn_distinct (scope_names w) adds.adds.order adds.adds.least adds.adds.distinct) named.holds.1 named.holds.0
+
+      -- over places it is this world
+      world_is : (id : Key → ℕ) → GivesPlaces id ks → (ss vs : List Address) → GivesPlaces (scope_place ss) (interface_list files is (inside_of ws)) → GivesPlaces (scope_place vs) (world_list files ws) → adds.added ≡ ordered_world id ss vs world
+      world_is id gives ss vs here there =
+          adds.made id (typed id gives) (sided.functions id gives) ss vs
+          (record { at = λ t x at. here.at t x (interface_added files is ws interfaces worlds is_items ws_items uses es prefix wprefix foreign middle xs irs d us old a qs e w next b.addresses adds.more t x at) })
+          (record { at = λ t x at. there.at t x (world_added files is ws interfaces worlds is_items ws_items uses es prefix wprefix foreign middle xs irs d us old a qs e w next t x at) })
 
       is_resolved_scope : resolved_scope_of closed ≡ world_resolved_scope adds.added
       is_resolved_scope =
-          let none = settled_none import_types (includes w) adds.imports.0 (side_types all_addresses w.top Imported (side_items w) adds.functions inside_addresses adds.imports.0 adds.imports.1) in
-          let types = own_types turns_names adds.types (settled (includes w) adds.imports.0) adds.added listed (adds.imports.2 ∙ settled_types (includes w) turns_names adds.types adds.imports.0) none in
+          let id = place_in ks 0 in
+          let gives = gives_in ks 0 sided.done.occurrence.once in
+          let differ = all_addresses files is ws interfaces worlds is_items ws_items in
+          let all = interface_list files is (inside_of ws) in
+          let it = world_is id gives all (world_list files ws) (scopes_placed all differ.interfaces) (scopes_placed (world_list files ws) differ.worlds) in
+          let on = entries_on Imported (world_entries id all w) in
+          let imports = ap (λ (x : World). x.imports) it ∙ ap (λ (l : List (WorldKey × WorldItem)). settled (includes w) (l ++ on)) (sym (type_imports-as_stated id s turns_names) ∙ ap (type_imports turns_names) (sym (typed id gives))) ∙ settled_types (includes w) turns_names adds.types on in
+          let none = settled_none import_types (includes w) on (ap (λ (l : List (WorldSide × (WorldKey × WorldItem))). flat_map import_types (entries_on Imported l)) (entries_walked w id all) ∙ entries_types (function_in id s) all w.top Imported (side_items w) (inline_items w)) in
+          let types = own_types turns_names adds.types (settled (includes w) on) adds.added named.holds.1 imports none in
           ap (λ (x : Address). record { address = x; types = adds.types; functions = free_of both }) (world_address w (worlds.each (length us) w next))
-          ∙ ap (named_world adds.types both) (sym (ap (λ (x : World). x.name) adds.says))
+          ∙ ap (named_world adds.types both) (sym (ap (λ (x : World). x.name) it))
           ∙ ap (λ (x : Names). named_world x both adds.added.name) (sym types)
 
-      makes : MakesWorld (interface_list files is (inside_of ws)) world.own closed adds.added
-      makes = record {
-        imports = (adds.imports.0, side_items_wider all_addresses (interface_list files is (inside_of ws)) (interface_added files is ws interfaces worlds is_items ws_items uses es prefix wprefix foreign middle xs irs d us old a qs e w next b.addresses adds.more) w.top Imported (side_items w) adds.functions inside_addresses adds.imports.0 adds.imports.1, adds.imports.2);
-        exports = (adds.exports.0, side_items_wider all_addresses (interface_list files is (inside_of ws)) (interface_added files is ws interfaces worlds is_items ws_items uses es prefix wprefix foreign middle xs irs d us old a qs e w next b.addresses adds.more) w.top Exported (side_items w) adds.functions inside_addresses adds.exports.0 adds.exports.1, adds.exports.2);
-        stated = refl;
-      }
-
-      says : SaysWorld (world_list files ws) world.own adds.added
-      says = record {
-        says = adds.says;
-        includes = includes_wider (worlds_at others a.worlds) (world_list files ws) w adds.added.includes (world_added files is ws interfaces worlds is_items ws_items uses es prefix wprefix foreign middle xs irs d us old a qs e w next) adds.includes;
-      }
-
-      abbrev ScopesInTurn : List Ordered → List DoneScope → Type 0
-      ScopesInTurn os cs = AreLaid (WorldOwner files) (SaysWorld (world_list files ws)) world_resolved_scope (MakesWorld (interface_list files is (inside_of ws))) ws os (e.own ++ adds.added ∷ []) cs
-
-      all_laid : ScopesInTurn (map own_order (e.ordered ++ world ∷ [])) (map own_scope (e.scopes ++ world_done ∷ []))
-      all_laid = subst (λ (os : List Ordered). ScopesInTurn os (map own_scope (e.scopes ++ world_done ∷ []))) (sym (map-append own_order e.ordered (world ∷ []))) (subst (λ (cs : List DoneScope). ScopesInTurn (map own_order e.ordered ++ world.own ∷ []) cs) (sym (map-append own_scope e.scopes (world_done ∷ []))) (laid_more (WorldOwner files) (SaysWorld (world_list files ws)) world_resolved_scope (MakesWorld (interface_list files is (inside_of ws))) ws (map own_order e.ordered) e.own (e.own ++ adds.added ∷ []) (map own_scope e.scopes) world.own closed adds.added e.laid (ap (slice_get ws) (place files is ws interfaces worlds is_items ws_items uses es prefix wprefix foreign middle xs irs d us old a qs e w next) ∙ next) adds.adds.least refl says refl is_resolved_scope refl makes))
+      all_laid : AreLaid world_resolved_scope ws (map own_order (e.ordered ++ world ∷ [])) (e.own ++ adds.added ∷ []) (map own_scope (e.scopes ++ world_done ∷ []))
+      all_laid = rw (map-append own_order e.ordered (world ∷ []), map-append own_scope e.scopes (world_done ∷ [])) (laid_more world_resolved_scope ws (map own_order e.ordered) e.own (map own_scope e.scopes) world.own closed adds.added e.laid (ap (slice_get ws) (place files is ws interfaces worlds is_items ws_items uses es prefix wprefix foreign middle xs irs d us old a qs e w next) ∙ next) adds.adds.least refl is_resolved_scope)
 
       inside_orders : all_inside (e.ordered ++ world ∷ []) ≡ all_inside e.ordered ++ sided.ordered
       inside_orders = flat_map-append (λ (x : OrderedWorld). x.inside) e.ordered (world ∷ []) ∙ ap (λ (l : List Ordered). all_inside e.ordered ++ l) (append-nil sided.ordered)
 
       inside_scopes : all_within (e.scopes ++ world_done ∷ []) ≡ all_within e.scopes ++ sided.scopes
       inside_scopes = flat_map-append (λ (x : DoneWorld). x.inside) e.scopes (world_done ∷ []) ∙ ap (λ (l : List DoneScope). all_within e.scopes ++ l) (append-nil sided.scopes)
-
-      inside_laid : AreInside (length ss + length is) (all_inside (e.ordered ++ world ∷ [])) (all_within (e.scopes ++ world_done ∷ [])) b.inside
-      inside_laid =
-          let spot : length (prefix ++ xs) + length a.inside ≡ (length ss + length is) + length (all_inside e.ordered) = (let p = (next_place files is ws interfaces worlds is_items ws_items uses es prefix wprefix foreign middle xs irs d us old a qs e w next) in let q = (long_inside files is ws interfaces worlds is_items ws_items uses es prefix wprefix foreign middle xs irs d us old a qs e w next) in omega arith) in
-          let more = inside_append (length ss + length is) (all_inside e.ordered) sided.ordered (all_within e.scopes) sided.scopes a.inside sided.added e.laid_inside (subst (λ (n : ℕ). AreInside n sided.ordered sided.scopes sided.added) spot sided.laid) in
-          subst (λ (os : List Ordered). AreInside (length ss + length is) os (all_within (e.scopes ++ world_done ∷ [])) b.inside) (sym inside_orders) (subst (λ (cs : List DoneScope). AreInside (length ss + length is) (all_inside e.ordered ++ sided.ordered) cs b.inside) (sym inside_scopes) (subst (λ (js : List Interface). AreInside (length ss + length is) (all_inside e.ordered ++ sided.ordered) (all_within e.scopes ++ sided.scopes) js) (sym sided.last) more))
 
       -- one world more
       pub world_more : WorldsDone (us ++ w ∷ []) new b (qs ++ rs)
@@ -229,9 +153,15 @@ module _ (files : List PackageFile) (is ws : List Item) (interfaces : AreOfSort 
         ];
         inside = ap (map item_of) inside_orders ∙ map-append item_of (all_inside e.ordered) sided.ordered ∙ ap (λ (l : List Item). l ++ map item_of sided.ordered) e.inside ∙ ap (λ (l : List Item). inside_of us ++ l) items_all ∙ sym (inside_split files is ws interfaces worlds is_items ws_items uses es prefix wprefix foreign middle xs irs d us old a qs e w next);
         laid = all_laid;
-        laid_inside = inside_laid;
+        inside_turns = ap (map turn_of) inside_scopes ∙ map-append turn_of (all_within e.scopes) sided.scopes ∙ ap (λ (l : List Turned). l ++ map turn_of sided.scopes) e.inside_turns ∙ ap (λ (l : List Turned). map turned (all_inside e.ordered) ++ l) sided.turns ∙ sym (map-append turned (all_inside e.ordered) sided.ordered) ∙ ap (map turned) (sym inside_orders);
+        inside_least = λ t o at. elim (at_part (all_inside e.ordered) sided.ordered t o (ap (λ (l : List Ordered). slice_get l t) (sym inside_orders) ∙ at)) [
+          | inl h ↦ e.inside_least h.0 o h.1
+          | inr h ↦ sided.least h.0 o h.1
+        ];
         addresses = adds.more ∙ ap (λ (l : List Address). l ++ inside_addresses) e.addresses ∙ sym (map-append address (inside_of us) (inline_items w)) ∙ ap (map address) (sym (inside_split files is ws interfaces worlds is_items ws_items uses es prefix wprefix foreign middle xs irs d us old a qs e w next));
-        done = all_done;
+        done = done_as (sym (written_more files d.ordered e.ordered world s turns_names refl)) (sym (scopes_more before e.scopes world_done)) sided.done;
+        made = λ id gives ss vs here there. ap (λ (l : List World). l ++ adds.added ∷ []) (e.made id (gives_fewer extended_before id gives) ss vs here there) ∙ ap (λ (v : World). map (ordered_world id ss vs) e.ordered ++ v ∷ []) (world_is id gives ss vs here there) ∙ sym (map-append (ordered_world id ss vs) e.ordered (world ∷ []));
+        inside_made = λ id gives. sided.last ∙ ap (λ (l : List Interface). l ++ sided.added) (e.inside_made id (gives_fewer extended_before id gives)) ∙ ap (λ (l : List Interface). map (ordered_interface id) (all_inside e.ordered) ++ l) (sided.made id gives) ∙ sym (map-append (ordered_interface id) (all_inside e.ordered) sided.ordered) ∙ ap (map (ordered_interface id)) (sym inside_orders);
         required = all_required;
       }
 
@@ -245,11 +175,14 @@ module _ (files : List PackageFile) (is ws : List Item) (interfaces : AreOfSort 
     all = refl;
     each_inside = λ t o at. absurd (let f : ⊥ = cc in f);
     inside = refl;
-    laid = laid_none (WorldOwner files) (SaysWorld (world_list files ws)) world_resolved_scope (MakesWorld (interface_list files is (inside_of ws))) ws;
-    laid_inside = tt;
+    laid = laid_none world_resolved_scope ws;
+    inside_turns = refl;
+    inside_least = λ t o at. absurd (let f : ⊥ = cc in f);
     addresses = refl;
-    done = subst (λ (l : List DoneScope). IsDone files (decls files is ws) (all_occurrences files (all_turns d.ordered [])) l middle) (sym (append-nil before)) (subst (λ (ts : List Turned). IsDone files (decls files is ws) (all_occurrences files ts) before middle) (sym (append-nil (map turned d.ordered))) d.done);
-    required = λ seen collects. required_none files (keys seen);
+    done = done_as (ap (all_occurrences files) (sym (append-nil (map turned d.ordered)))) (sym (append-nil before)) d.done;
+    made = λ id gives ss vs here there. refl;
+    inside_made = λ id gives. refl;
+    required = required_none files (keys d.done.seen);
   }
 
   -- all that are left

@@ -1,13 +1,13 @@
 -- What resolving does: to the arena of types, from whatever occurred before, and to those of interfaces and worlds.
-use Rattle.std.specs.Prelude.{◌≡◌, ℕ, List, [], ◌∷◌, ◌++◌, length, map, take, Option, Some, None, Contains, ◌⊎◌, slice_get, nat_eq, IsSome, ◌+◌}
-use Rattle.wit_arena.specs.Names.{Address, AllDiffer, AreDistinct, Exported, ForeignUse, Function, Id, Imported, Interface, InterfaceNamed, IsOrder, Item, Metadata, PackageFile, ScopeName, Shape, Shapes, SideFunction, SideInline, SideItem, SideLink, SourceFunction, Span, Stability, TypeDef, TypeDefKind, TypeOwner, Unknown, World, WorldNamed, about, about_name, address, all_handles, all_types, declared_metadata, first_foreign_uses, flat_map, foreign_interfaces, foreign_worlds, functions as item_functions, in_turn, includes, inline_items, insert_entry, local_name, local_names, lookup, metadata, name_types, no_docs, pointwise, rows_of, scope_names, side_items, unwrap_or, visited, written_types, «Type» as Ty, signature, stability_of, WorldInclude}
+use Rattle.std.specs.Prelude.{◌≡◌, ℕ, List, [], ◌∷◌, ◌++◌, length, map, Option, Some, None, ◌⊎◌, slice_get, nat_eq, IsSome, ◌+◌, take, Contains}
+use Rattle.wit_arena.specs.Names.{Address, AreDistinct, Exported, ForeignUse, Function, Id, Imported, Interface, InterfaceNamed, IsOrder, Item, Metadata, PackageFile, ScopeName, Shape, Shapes, SideFunction, SideInline, SideItem, SideLink, SourceFunction, Span, Stability, TypeDef, TypeDefKind, TypeOwner, Unknown, World, WorldNamed, about, address, all_handles, all_types, declared_metadata, first_foreign_uses, flat_map, foreign_interfaces, foreign_worlds, functions as item_functions, in_turn, includes, inline_items, insert_entry, local_name, local_names, lookup, metadata, name_types, no_docs, pointwise, rows_of, scope_names, side_items, unwrap_or, visited, written_types, «Type» as Ty, signature, stability_of, WorldInclude, AllDiffer, about_name}
 use Rattle.wit_arena.specs.Occurrences.{exprs_of, Key, Def, Occurrence, keys, IsSeen, Collects, Decls, name_occurrences, settled, shape_occurrences, shapes_occurrences, types_of}
 use Rattle.wit_arena.specs.UnfoldedTypes.{At}
-use Rattle.wit_arena.specs.SourceFunctions.{freestanding_names, placed_functions, HasSide}
+use Rattle.wit_arena.specs.SourceFunctions.{freestanding_names}
 use Rattle.wit_arena.specs.Kind.{IsResource, IsUnknown as IsUnknownEntry, entry_end}
 use Rattle.wit_types.specs.declared.types.TypeDefKind.TheVariants.{Unknown as UnknownKind}
-use Rattle.wit_arena.specs.Made.{IsEntryOf, foreign_interface, foreign_world, function_in, include_in, interface, scope_place, world}
-use Rattle.wit_arena.specs.Whole.{owner_at, type_imports}
+use Rattle.wit_arena.specs.Made.{foreign_interface, foreign_world, function_in, include_in, interface_turn, name_places, own_interface, own_world, scope_place, IsEntryOf}
+use Rattle.wit_arena.specs.Whole.{owner_at, turn_occurrences}
 use Rattle.wit_types.specs.declared.types.TypeOwner.TheVariants as owner
 use Rattle.wit_syntax.specs.Shape as shape
 
@@ -174,19 +174,16 @@ pub record AddsScope (old new : List TypeDef) (cs : List ResolvedScope) (o : Typ
   pub distinct : AreDistinct xs
   pub defines : (s : Address) → Defines old new cs o s [] types (in_turn xs order)
 
--- what the functions of an item add to the arena of types, after its names in turn, and what its handles require
-pub record AddsAfter (old new : List TypeDef) (item : Item) (order : List ℕ) (names : Names) (fs : List Function) (rs : List Required) : Type 0 where
-  pub adds : AddsFunctions old new (address item) names (item_functions item) fs
-  pub ended : AreEnded (env_of names) new (all_handles (all_types (in_turn (scope_names item) order) (item_functions item))) rs
-
--- what an interface adds to the arena of types, where it is at this place, and these are the scopes that it may use
+-- What an interface adds to the arena of types, where it is at this place, and these are the scopes that it may use: over the places of what
+-- occurred it is this one.
 pub record AddsInterface (cs : List ResolvedScope) (place : ℕ) (old new : List TypeDef) (added : Interface) (rs : List Required) (item : Item) : Type 0 where
-  pub says : added ≡ interface (about item.declared).called added.types added.functions (declared_metadata item.declared) (about item.declared).id.span
-  pub middle : List TypeDef
-  pub adds : AddsScope old middle cs (owner.Interface place) (scope_names item) added.types
-  pub functions : List Function
-  pub rest_after : AddsAfter middle new item adds.order added.types functions rs
-  pub are_present : added.functions ≡ placed_functions functions
+  pub order : List ℕ
+  pub least : IsOrder (rows_of (scope_names item)) order
+  pub distinct : AreDistinct (scope_names item)
+  pub called : added.name ≡ (about item.declared).called
+  pub from : (decls : Decls) (ms : List Occurrence) → AreOwned decls (owner.Interface place) (address item) (in_turn (scope_names item) order) → AreNew (keys ms) (address item) (in_turn (scope_names item) order) → AreKnown (keys ms) (address item) cs → IsOccurrence decls ms old → AreNames (keys ms) (address item) (env_of [])
+      → Extends decls ms (turn_occurrences (interface_turn (λ i. order) item)) new (λ ks. AreNames ks (address item) (env_of added.types) × ((id : Key → ℕ) → GivesPlaces id ks → added ≡ own_interface id (λ i. order) item))
+  pub ended : AreEnded (env_of added.types) new (all_handles (all_types (in_turn (scope_names item) order) (item_functions item))) rs
 
 -- what a declared interface adds to the arenas, where those at these addresses are of other packages
 pub record AddsDeclared (foreign : List Address) (old new : List TypeDef) (is is' : List Interface) (rs : List Required) (item : Item) : Type 0 where
@@ -200,9 +197,9 @@ worlds_at [] ws = map (λ w. WorldNamed w.name) ws
 worlds_at (s ∷ ss) [] = []
 worlds_at (s ∷ ss) (w ∷ ws) = s ∷ worlds_at ss ws
 
--- these are the includes of an item, wherever the worlds have these places
+-- these are the includes of an item, one each, wherever the worlds have these places
 abbrev pub AreIncludes : List Address → Item → List WorldInclude → Type 0
-AreIncludes worlds item is = (ws : List Address) → GivesPlaces (scope_place ws) worlds → is ≡ map (include_in ws item.top) (includes item)
+AreIncludes worlds item is = (length is ≡ length (includes item)) × ((ws : List Address) → GivesPlaces (scope_place ws) worlds → is ≡ map (include_in ws item.top) (includes item))
 
 -- the addresses of interfaces: at first of those of other packages
 abbrev pub interfaces_at : List Address → List Interface → List Address
@@ -223,12 +220,12 @@ pub record WorldArenas : Type 0 where
   pub inside : List Interface
   pub addresses : List Address
 
--- what a world adds to the arenas, where these are the declared interfaces, and at first those at these addresses
+-- What a world adds to the arenas, where these are the declared interfaces, and at first those at these addresses: over the places of what it
+-- names, and wherever the interfaces and the worlds are, it is this one.
 pub record AddsWorld (foreign others : List Address) (is : List Interface) (old new : List TypeDef) (a b : WorldArenas) (rs : List Required) (item : Item) : Type 0 where
   pub added : World
   pub last : b.worlds ≡ a.worlds ++ added ∷ []
   pub more : b.addresses ≡ a.addresses ++ map address (inline_items item)
-  pub says : added ≡ world (about item.declared).id.name.now added.imports added.exports added.includes (declared_metadata item.declared) (about item.declared).id.span
   pub types : Names
   pub middle : List TypeDef
   pub adds : AddsScope old middle (resolved_scopes foreign is) (owner.World (length a.worlds)) (scope_names item) types
@@ -238,9 +235,7 @@ pub record AddsWorld (foreign others : List Address) (is : List Interface) (old 
   pub rest : List Required
   pub requires : rs ≡ own ++ rest
   pub sides : AddsSides (resolved_scopes foreign is) (length is) (address item) types middle new a.inside b.inside functions rest (side_items item) (inline_items item)
-  pub imports : HasSide (interfaces_at foreign is ++ b.addresses) (map address (inline_items item)) item Imported functions (type_imports (in_turn (scope_names item) adds.order) types) added.imports
-  pub exports : HasSide (interfaces_at foreign is ++ b.addresses) (map address (inline_items item)) item Exported functions [] added.exports
-  pub includes : AreIncludes (worlds_at others a.worlds) item added.includes
+  pub made : (id : Key → ℕ) → types ≡ name_places id (address item) (in_turn (scope_names item) adds.order) → functions ≡ map (function_in id (address item)) (item_functions item) → (ss ws : List Address) → GivesPlaces (scope_place ss) (interfaces_at foreign is ++ b.addresses) → GivesPlaces (scope_place ws) (worlds_at others a.worlds) → added ≡ own_world id (λ i. adds.order) ss ws item
 
 -- what items add to the arenas, one after another, and what they require, where `Adds` says what one of them does
 abbrev pub AddsEach : {X : Type 0} → (List TypeDef → List TypeDef → X → X → List Required → Item → Type 0) → List TypeDef → List TypeDef → X → X → List Required → List Item → Type 0

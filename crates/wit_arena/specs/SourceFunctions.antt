@@ -57,22 +57,8 @@ inline_entry x name place = (key.Name name.name.now, item.Interface place (stabi
 abbrev pub put_on : WorldSide → WorldSide → WorldKey × WorldItem → List (WorldKey × WorldItem) → List (WorldKey × WorldItem)
 put_on side own x xs = if same_side side own then x ∷ xs else xs
 
--- These are on a side, where these are the written ones, and these functions were made; the interfaces of the package have these addresses,
--- and those that are written there have those.
-abbrev pub AreSideItems : List Address → List TopName → WorldSide → List SideItem → List Function → List Address → List (WorldKey × WorldItem) → Type 0
-AreSideItems interfaces top side [] fs ss xs = xs ≡ []
-AreSideItems interfaces top side (SideFunction fn ∷ written) (f ∷ fs) ss xs = (rest : List (WorldKey × WorldItem)) × (xs ≡ put_on side (role_side fn.role) (function_item f) rest) × AreSideItems interfaces top side written fs ss rest
-AreSideItems interfaces top side (SideLink link ∷ written) fs ss xs = (place : ℕ) × (rest : List (WorldKey × WorldItem)) × (slice_get interfaces place ≡ Some (path_scope top link.path)) × (xs ≡ put_on side link.side (link_item link place) rest) × AreSideItems interfaces top side written fs ss rest
-AreSideItems interfaces top side (SideInline x name items ∷ written) fs (s ∷ ss) xs = (place : ℕ) × (rest : List (WorldKey × WorldItem)) × (slice_get interfaces place ≡ Some s) × (xs ≡ put_on side x.side (inline_entry x name place) rest) × AreSideItems interfaces top side written fs ss rest
-AreSideItems interfaces top side written fs ss xs = ⊥
-
 -- A side of a world with these includes: where there is none, each setter that is written before its getter comes directly after it, as in
 -- an interface; with an include, whose getters may come, all stays as it is written.
 abbrev pub settled : List Include → List (WorldKey × WorldItem) → List (WorldKey × WorldItem)
 settled [] xs = placed function_of xs
 settled (i ∷ is) xs = xs
-
--- A world of an item has these entries on a side: after some, what the item has there, and each setter after its getter where it includes
--- nothing.
-abbrev pub HasSide : List Address → List Address → Item → WorldSide → List Function → List (WorldKey × WorldItem) → List (WorldKey × WorldItem) → Type 0
-HasSide interfaces inside i side fs before entries = (on : List (WorldKey × WorldItem)) × AreSideItems interfaces i.top side (side_items i) fs inside on × (entries ≡ settled (includes i) (before ++ on))

@@ -1,19 +1,19 @@
 -- Where names in handles end in an arena, they end by files in so many steps: also once some names of the next interface or world, or of what is written in it, were added.
 use Rattle.std.proofs.Common.{◌≡◌, ℕ, zero, suc, ◌<◌, List, [], ◌∷◌, ◌++◌, take, Option, Some, None, inl, inr, refl, sym, ap, ◌∙◌, arith, true, false, length, map, subst, ◌+◌}
-use Rattle.wit_contents.proofs.Names.{Address, AddsForeign, AddsScope, AddsSides, AliasForm, AreDistinct, AreItems, AreKnown, AreNames, AreOfSort, AreOwned, AreUsableUses, AreWorldsDone, AtForeign, AtResource, Decls, Def, Defines, DoneScope, Elsewhere, EndIs, EndsAt, EndsInTurn, EntryEnd, Env, Extends, Form, Function, Id, Interface, InterfacesDone, IsDeclared, IsOccurrence, IsNameOf, IsOrder, IsOther, IsOutcome, IsResource, IsUnknown, Names, Occurrence, Outcome, PackageFile, Required, ResolvedScope, ResourceForm, ScopeName, SideItem, Turned, TypeDef, TypeOwner, UnknownForm, Word, World, WorldArenas, address, all_items, all_name_occurrences, all_occurrences, all_turns, at_part, at_prefix, at_seam, at_take, cases_lt, collects_from, decls, defines_wider, differ_at, differ_by, done_address, end_fault as walk_fault, end_source-more, entry_end, env_of, flat_map, foreign_interfaces, found_end, function_part_declared, handle_fault, in_turn, in_turn_among, in_turn_distinct, inline_items, inline_items_differ, item_declared, item_of, item_scopes, keys, kind_end, kind_of, length-map, local_name, local_names, map-append, map_at, name_seen_in, names_in, next_interface, next_world, none_is_next, option_cases, option_map, own_item, own_order, part_end, prefix_apart, prefix_scopes, resolved_scope_of, resolved_scopes, resolved_scopes_among, rows_of, scope, scope_names, scope_of, scopes_of, shape_end, slice_get, slice_get-map, slice_get_within, turned, visited, world_item_declared}
+use Rattle.wit_contents.proofs.Names.{Address, AddsForeign, AddsScope, AddsSides, AliasForm, AreDistinct, AreItems, AreNames, AreOfSort, AreOwned, AreUsableUses, AreWorldsDone, AtForeign, AtResource, Decls, Def, Defines, DoneScope, Elsewhere, EndIs, EndsAt, EndsInTurn, EntryEnd, Env, Extends, Form, Function, Id, Interface, InterfacesDone, IsDeclared, IsOrder, IsOther, IsOutcome, IsResource, IsUnknown, Names, Occurrence, Outcome, PackageFile, Required, ResolvedScope, ResourceForm, ScopeName, SideItem, Turned, TypeDef, TypeOwner, UnknownForm, Word, World, WorldArenas, address, all_items, all_name_occurrences, all_occurrences, all_turns, at_part, at_prefix, at_seam, at_take, cases_lt, collects_from, decls, differ_at, differ_by, end_fault as walk_fault, end_source-more, entry_end, env_of, flat_map, foreign_interfaces, found_end, handle_fault, in_turn, in_turn_among, in_turn_distinct, inline_items, inline_items_differ, item_of, keys, kind_end, kind_of, local_name, local_names, map-append, map_at, name_seen_in, names_in, option_cases, option_map, part_end, prefix_scopes, resolved_scope_of, resolved_scopes, rows_of, scope, scope_names, scopes_of, shape_end, slice_get, slice_get-map, turned, visited, done_declared, IsOccurrence}
 use Rattle.wit_walk.proofs.Common.{End}
 use Rattle.wit_arena.proofs.Common.{Item}
 use Rattle.wit_types.specs.declared.types.«Type».{«Type» as Ty}
-use Rattle.wit_types.specs.declared.types.«Type».TheVariants as type
-use Rattle.wit_arena.proofs.Interfaces.{functions_of}
 use Rattle.wit_entries.specs.EntryFaults.{end_fault, end_in, IsExtended}
 use Rattle.wit_externs.specs.Clash.{EndsIn}
+use Rattle.wit_arena.proofs.DoneNames.{are_known, none_named}
+use Rattle.wit_arena.proofs.DoneWorlds.{interface_among, interface_fresh, interface_owned, interface_scoped}
+use Rattle.wit_arena.proofs.Resolving.{IsDone, IsTurn, turn_of}
+use Rattle.wit_arena.proofs.ScopesInTurn.{in_turn_is}
+use Rattle.wit_arena.proofs.Sided.{IsFreshInside, AreSided}
+use Rattle.wit_arena.proofs.WorldSides.{fresh_inside, names_done, sides_done, world_fresh, world_owned, world_scoped}
+use Rattle.wit_types.specs.declared.types.«Type».TheVariants as type
 use Rattle.wit_types.specs.declared.types.TypeOwner.TheVariants as owner
-use Rattle.wit_arena.proofs.DoneNames.{function_part_of}
-use Rattle.wit_arena.proofs.FunctionPart.{DoneFunction, IsFunctionPart, scope_functions}
-use Rattle.wit_arena.proofs.Sided.{IsFreshInside, AreSided, side_required}
-use Rattle.wit_arena.proofs.Inside.{inside_at, inside_scopes-count}
-use Rattle.wit_arena.proofs.WorldSides.{fresh_inside, names_done, sides_done, world_fresh}
 use Rattle.wit_arena.proofs.WorldSides as done
 
 -- each part has an end, and so has what is made of them
@@ -69,33 +69,12 @@ abbrev AreAmong : List ResolvedScope → List DoneScope → Type 0
 AreAmong known cs = (t : ℕ) (c : ResolvedScope) → slice_get known t ≡ Some c → (j : ℕ) × (slice_get (map resolved_scope_of cs) j ≡ Some c)
 
 -- An item whose scope comes next, while others are being resolved
-module _ (files : List PackageFile) (declares : Decls) (written : List Occurrence) (cs : List DoneScope) (gs : List DoneFunction) (es : List TypeDef) (d : IsFunctionPart files declares written cs gs es) (w : Item) (o : TypeOwner) (fresh : (t : ℕ) (c : DoneScope) → slice_get cs t ≡ Some c → c.address ≡ address w → ⊥) (own : declares (address w) ≡ (scope files (address w), o)) (names_are : scope files (address w) ≡ scope_names w) where
+module _ (files : List PackageFile) (declares : Decls) (written : List Occurrence) (cs : List DoneScope) (es : List TypeDef) (d : IsDone files declares written cs es) (w : Item) (o : TypeOwner) (fresh : (t : ℕ) (c : DoneScope) → slice_get cs t ≡ Some c → c.address ≡ address w → ⊥) (own : declares (address w) ≡ (scope files (address w), o)) (names_are : scope files (address w) ≡ scope_names w) where
   abbrev s : Address
   s = address w
 
-  -- the names of the others mean their places, and none of its own occurs
-  known : AreKnown (keys d.seen) s (map resolved_scope_of cs)
-  known = record {
-    names = λ t k at. (let c = map_at resolved_scope_of cs t k at in subst (λ (x : ResolvedScope). AreNames (keys d.seen) x.address (env_of x.types)) c.2 (d.are_present t c.0 c.1));
-    others = λ t k at same. (let c = map_at resolved_scope_of cs t k at in fresh t c.0 c.1 (ap (λ (x : ResolvedScope). x.address) c.2 ∙ same));
-  }
-
   unmet : (j : ℕ) (name : List ℕ) → slice_get (keys d.seen) j ≡ Some (Def s name) → ⊥
   unmet j name at = let it = d.before j s name at in fresh it.place it.resolved_scope it.at it.scope
-
-  nothing : AreNames (keys d.seen) s (env_of [])
-  nothing = record {
-    present = λ name i h. absurd (cc);
-    has = λ j name at. absurd (unmet j name at);
-  }
-
-  -- the scope of what occurred before is declared by files
-  declared_before : (t : Address) (name : List ℕ) → IsNameOf cs t name → IsDeclared files declares t
-  declared_before t name it = subst (λ (z : Address). IsDeclared files declares z) it.scope (record {
-    distinct = (d.each it.place it.resolved_scope it.at).turn.distinct;
-    whose = it.resolved_scope.owner;
-    own = d.own it.place it.resolved_scope it.at;
-  })
 
   module _ (resolved : List ResolvedScope) (among : AreAmong resolved cs) (order : List ℕ) (least : IsOrder (rows_of (scope_names w)) order) (distinct : AreDistinct (scope_names w)) (count : ℕ) (mid : List TypeDef) (names : Names) (defines : (s : Address) → Defines es mid resolved o s [] names (take count (in_turn (scope_names w) order))) where
     abbrev turn : List ScopeName
@@ -114,12 +93,14 @@ module _ (files : List PackageFile) (declares : Decls) (written : List Occurrenc
     apart = differ_by local_name some (λ i j x y at_x at_y same. differ_at local_name turn (in_turn_distinct (scope_names w) order least distinct) i j x y (at_take turn count i x at_x).0 (at_take turn count j y at_y).0 same)
 
     defined : Extends declares d.seen (all_name_occurrences s some) mid (λ ks. AreNames ks s (env_of names) × (names_in names ≡ local_names some))
-    defined = (defines_wider es mid resolved (map resolved_scope_of cs) o s [] names some among (defines s)).from declares d.seen declared apart (record { new = λ i x at was. unmet was.0 (local_name x) was.1 }) known d.occurrence nothing
+    defined =
+        let whole = subst (λ (l : List ScopeName). IsTurn l turn) (sym names_are) (in_turn_is (scope_names w) order least distinct) in
+        (defines s).from declares d.seen declared apart (record { new = λ i x at was. unmet was.0 (local_name x) was.1 }) (are_known files declares written cs es d s o turn fresh own whole resolved among) d.occurrence (none_named files declares written cs es d s o turn fresh own whole)
 
     -- the scope of what occurred is declared by files
     seen_declared : (j : ℕ) (t : Address) (name : List ℕ) → slice_get (keys defined.now) j ≡ Some (Def t name) → IsDeclared files declares t
     seen_declared j t name at = elim (collects_from (all_name_occurrences s some) d.seen defined.now defined.collects j (Def t name) at) [
-      | inl was ↦ declared_before t name (d.before was.0 t name was.1)
+      | inl was ↦ done_declared files declares written cs es t name d (d.before was.0 t name was.1)
       | inr new ↦ (
           let same = (name_seen_in s some t name new).0 in
           subst (λ (z : Address). IsDeclared files declares z) (sym same) (record { distinct = subst AreDistinct (sym names_are) distinct; whose = o; own = own }))
@@ -133,8 +114,8 @@ module _ (files : List PackageFile) (declares : Decls) (written : List Occurrenc
       walk_ends files declares d.now mid more d.occurrence (seen_declared resolved among order least distinct count mid names defines) s (env_of names) d.holds.0 steps enough
 
 -- a scope whose names are done, also once the arena has grown
-pub part_ends : (files : List PackageFile) (declares : Decls) (written : List Occurrence) (cs : List DoneScope) (gs : List DoneFunction) (es more : List TypeDef) → IsFunctionPart files declares written cs gs es → (t : ℕ) (c : DoneScope) → slice_get cs t ≡ Some c → (steps : ℕ) → IsEnough files steps c.address → EndsIn (env_of c.types) (es ++ more) (handle_fault files steps c.address)
-part_ends files declares written cs gs es more d t c at steps enough = walk_ends files declares d.seen es more d.occurrence (λ j s name there. function_part_declared files declares written cs gs es s name d (d.before j s name there)) c.address (env_of c.types) (d.are_present t c at) steps enough
+pub part_ends : (files : List PackageFile) (declares : Decls) (written : List Occurrence) (cs : List DoneScope) (es more : List TypeDef) → IsDone files declares written cs es → (t : ℕ) (c : DoneScope) → slice_get cs t ≡ Some c → (steps : ℕ) → IsEnough files steps c.address → EndsIn (env_of c.types) (es ++ more) (handle_fault files steps c.address)
+part_ends files declares written cs es more d t c at steps enough = walk_ends files declares d.seen es more d.occurrence (λ j s name there. done_declared files declares written cs es s name d (d.before j s name there)) c.address (env_of c.types) (d.are_present t c at) steps enough
 
 among_more : (known : List ResolvedScope) (cs more : List DoneScope) → AreAmong known cs → AreAmong known (cs ++ more)
 among_more known cs more among t c at =
@@ -147,34 +128,8 @@ module _ (files : List PackageFile) (is ws : List Item) (interfaces : AreOfSort 
 
   -- an interface that comes next, after those of other packages and some of this one
   module _ (us : List Item) (old : List TypeDef) (xs : List Interface) (rs : List Required) (w : Item) (there : slice_get is (length us) ≡ Some w) (d : InterfacesDone files is ws prefix us old xs rs) where
-    abbrev done_before : List DoneScope
-    done_before = prefix_scopes files prefix ++ d.scopes
-
-    part_before : IsFunctionPart files (decls files is ws) (all_occurrences files (map turned d.ordered)) done_before (flat_map scope_functions done_before) old
-    part_before = function_part_of files (decls files is ws) (all_occurrences files (map turned d.ordered)) done_before old d.done
-
-    among_before : AreAmong (resolved_scopes fore (prefix ++ xs)) done_before
-    among_before = resolved_scopes_among files is ws interfaces worlds is_items ws_items uses es prefix wprefix foreign xs d.scopes d.laid.types
-
-    fresh_interface : IsFreshInside files (decls files is ws) done_before (length (prefix ++ xs)) w
-    fresh_interface =
-        let long : length us ≡ length d.ordered = sym (ap length d.all) ∙ length-map d.ordered item_of in
-        let next : slice_get is (length d.ordered) ≡ Some w = subst (λ (n : ℕ). slice_get is n ≡ Some w) long there in
-        let at : slice_get is (length xs) ≡ Some w = subst (λ (n : ℕ). slice_get is n ≡ Some w) (sym d.laid.says.count) next in
-        let whose = next_interface files is ws interfaces worlds is_items ws_items uses es prefix wprefix foreign xs in
-        record {
-          interface = interfaces.each (length xs) w at;
-          fresh = λ t c c_at same. elim (at_part (prefix_scopes files prefix) d.scopes t c c_at) [
-            | inl g ↦ prefix_apart files is ws interfaces worlds is_items ws_items uses es prefix wprefix foreign w g.0 c g.1 same
-            | inr g ↦ none_is_next d.laid (item_scopes files is is_items).unique w next g.0 c g.1 same
-          ];
-          has = scope_of files is (item_scopes files is is_items) (length xs) w at;
-          does = functions_of files is (item_scopes files is is_items) (length xs) w at;
-          own = item_declared files is ws interfaces worlds is_items ws_items (length xs) w at ∙ ap (λ (o : TypeOwner). (scope files (address w), o)) (sym whose);
-        }
-
     pub interface_ends : (outcome : Outcome) → IsOutcome (rows_of (scope_names w)) outcome → (steps : ℕ) → IsEnough files steps (address w) → EndsInTurn (resolved_scopes fore (prefix ++ xs)) (owner.Interface (length (prefix ++ xs))) old (scope_names w) outcome (handle_fault files steps (address w))
-    interface_ends = reached_ends files (decls files is ws) (all_occurrences files (map turned d.ordered)) done_before (flat_map scope_functions done_before) old part_before w (owner.Interface (length (prefix ++ xs))) fresh_interface.fresh fresh_interface.own fresh_interface.has (resolved_scopes fore (prefix ++ xs)) among_before
+    interface_ends = reached_ends files (decls files is ws) (all_occurrences files (map turned d.ordered)) (prefix_scopes files prefix ++ d.scopes) old d.done w (owner.Interface (length (prefix ++ xs))) (interface_fresh files is ws interfaces worlds is_items ws_items uses es prefix wprefix foreign us old xs rs w there d) (interface_owned files is ws interfaces worlds is_items ws_items uses es prefix wprefix foreign us old xs rs w there d) (interface_scoped files is ws interfaces worlds is_items ws_items uses es prefix wprefix foreign us old xs rs w there d) (resolved_scopes fore (prefix ++ xs)) (interface_among files is ws interfaces worlds is_items ws_items uses es prefix wprefix foreign us old xs rs w there d)
 
   -- a world that comes next, after all interfaces and some worlds
   module _ (middle : List TypeDef) (xs : List Interface) (irs : List Required) (d : InterfacesDone files is ws prefix is middle xs irs) (us : List Item) (old : List TypeDef) (a : WorldArenas) (qs : List Required) (w : Item) (there : slice_get ws (length us) ≡ Some w) (e : AreWorldsDone files is ws wprefix d.ordered (prefix_scopes files prefix ++ d.scopes) us old a qs) where
@@ -188,51 +143,39 @@ module _ (files : List PackageFile) (is ws : List Item) (interfaces : AreOfSort 
     written = all_occurrences files (all_turns d.ordered e.ordered)
 
     known_before : AreAmong resolved before
-    known_before = among_more resolved (prefix_scopes files prefix ++ d.scopes) (flat_map scopes_of e.scopes) (resolved_scopes_among files is ws interfaces worlds is_items ws_items uses es prefix wprefix foreign xs d.scopes d.laid.types)
+    known_before = done.known_before files is ws interfaces worlds is_items ws_items uses es prefix wprefix foreign middle xs irs d us old a qs e w there
 
     -- of the world, once some of its names were added
     pub world_ends : (outcome : Outcome) → IsOutcome (rows_of (scope_names w)) outcome → (steps : ℕ) → IsEnough files steps (address w) → EndsInTurn resolved (owner.World (length a.worlds)) old (scope_names w) outcome (handle_fault files steps (address w))
-    world_ends =
-        let place : length e.own ≡ length us = e.laid.says.count ∙ length-map e.ordered own_order ∙ sym (length-map e.ordered own_item) ∙ ap length e.all in
-        let own = world_item_declared files is ws interfaces worlds is_items ws_items (length e.own) w (ap (slice_get ws) place ∙ there) in
-        let whose = ap (λ (l : List World). owner.World (length l)) e.arena ∙ next_world files is ws interfaces worlds is_items ws_items uses es prefix wprefix foreign e.own in
-        reached_ends files (decls files is ws) written before (flat_map scope_functions before) old (function_part_of files (decls files is ws) written before old e.done) w (owner.World (length a.worlds)) (world_fresh files is ws interfaces worlds is_items ws_items uses es prefix wprefix foreign middle xs irs d us old a qs e w there) (own ∙ ap (λ (o : TypeOwner). (scope files (address w), o)) (sym whose)) (scope_of files ws (item_scopes files ws ws_items) (length us) w there) resolved known_before
+    world_ends = reached_ends files (decls files is ws) written before old e.done w (owner.World (length a.worlds)) (world_fresh files is ws interfaces worlds is_items ws_items uses es prefix wprefix foreign middle xs irs d us old a qs e w there) (world_owned files is ws interfaces worlds is_items ws_items uses es prefix wprefix foreign middle xs irs d us old a qs e w there) (world_scoped files is ws interfaces worlds is_items ws_items uses es prefix wprefix foreign middle xs irs d us old a qs e w there) resolved known_before
 
     -- once all of them were
     module _ (types : Names) (named : List TypeDef) (adds : AddsScope old named resolved (owner.World (length a.worlds)) (scope_names w) types) where
       abbrev own_scope : DoneScope
-      own_scope = done.c files is ws interfaces worlds is_items ws_items uses es prefix wprefix foreign middle xs irs d us old a qs e w there named types adds [] [] []
+      own_scope = done.c files is ws interfaces worlds is_items ws_items uses es prefix wprefix foreign middle xs irs d us old a qs e w there named types adds []
 
       pub named_ends : (new : List TypeDef) → IsExtended named new → (steps : ℕ) → IsEnough files steps (address w) → EndsIn (env_of types) new (handle_fault files steps (address w))
-      named_ends new g steps enough = subst (λ (l : List TypeDef). EndsIn (env_of types) l (handle_fault files steps (address w))) (sym g.is) (part_ends files (decls files is ws) _ (before ++ own_scope ∷ []) (flat_map scope_functions before) named g.more (names_done files is ws interfaces worlds is_items ws_items uses es prefix wprefix foreign middle xs irs d us old a qs e w there named types adds [] [] []) (length before) own_scope (at_seam before own_scope) steps enough)
+      named_ends new g steps enough = subst (λ (l : List TypeDef). EndsIn (env_of types) l (handle_fault files steps (address w))) (sym g.is) (part_ends files (decls files is ws) _ (before ++ own_scope ∷ []) named g.more (names_done files is ws interfaces worlds is_items ws_items uses es prefix wprefix foreign middle xs irs d us old a qs e w there named types adds []) (length before) own_scope (at_seam before own_scope) steps enough)
 
       -- and of an interface that is written in it, after what comes first on its sides
       module _ (xs_done : List SideItem) (inside_done : List Item) (count : ℕ) (first : inside_done ≡ take count (inline_items w)) (inner : Item) (next : slice_get (inline_items w) count ≡ Some inner) (mid : List TypeDef) (now : List Interface) (made : List Function) (rs : List Required) (sides : AddsSides resolved (length (prefix ++ xs)) (address w) types named mid a.inside now made rs xs_done inside_done) (covered : length now ≡ length a.inside + count) where
-        abbrev IsSided : Type 0
-        IsSided = AreSided files (decls files is ws) (written ++ all_name_occurrences (address w) own_scope.names) (before ++ own_scope ∷ []) (flat_map scope_functions before) (length (prefix ++ xs) + length a.inside) (address w) mid a.inside now made rs xs_done inside_done (side_required resolved (length (prefix ++ xs)) (address w) types named mid a.inside now made rs xs_done inside_done sides)
-
         among_first : (k : ℕ) (i : Item) → slice_get inside_done k ≡ Some i → slice_get (inline_items w) k ≡ Some i
         among_first k i at = (at_take (inline_items w) count k i (ap (λ (l : List Item). slice_get l k) (sym first) ∙ at)).0
 
-        sided : IsSided
-        sided = sides_done files is ws interfaces worlds is_items ws_items uses es prefix wprefix foreign middle xs irs d us old a qs e w there named types adds [] [] [] mid now made rs xs_done inside_done among_first sides
+        sided : AreSided files (decls files is ws) (written ++ all_name_occurrences (address w) own_scope.names) (before ++ own_scope ∷ []) _ (address w) mid a.inside now made rs xs_done inside_done
+        sided = sides_done files is ws interfaces worlds is_items ws_items uses es prefix wprefix foreign middle xs irs d us old a qs e w there named types adds [] mid now made rs xs_done inside_done among_first sides
 
         can_be_next : IsFreshInside files (decls files is ws) (before ++ own_scope ∷ []) ((length (prefix ++ xs) + length a.inside) + count) inner
-        can_be_next = fresh_inside files is ws interfaces worlds is_items ws_items uses es prefix wprefix foreign middle xs irs d us old a qs e w there named types adds [] [] [] count inner next
+        can_be_next = fresh_inside files is ws interfaces worlds is_items ws_items uses es prefix wprefix foreign middle xs irs d us old a qs e w there named types adds [] count inner next
 
         -- what was written before it in this world is another one
         apart_inside : (t : ℕ) (b : DoneScope) → slice_get sided.scopes t ≡ Some b → b.address ≡ address inner → ⊥
         apart_inside t b at same =
-            let start = length (prefix ++ xs) + length a.inside in
-            let lt = slice_get_within sided.scopes t b at in
-            let long = inside_scopes-count start sided.ordered sided.scopes sided.added sided.laid in
-            let it = inside_at start sided.ordered sided.scopes sided.added sided.laid t (omega arith) in
-            let both : Some it.c ≡ Some b = sym it.at_c ∙ at in
-            let one : b ≡ it.c = cc in
-            let listed : slice_get inside_done t ≡ Some it.o.item = ap (λ (l : List Item). slice_get l t) (sym sided.items) ∙ at_prefix (map item_of sided.ordered) sided.left t it.o.item (slice_get-map item_of sided.ordered t ∙ ap (option_map item_of) it.at_o) in
-            let early = at_take (inline_items w) count t it.o.item (ap (λ (l : List Item). slice_get l t) (sym first) ∙ listed) in
-            let here : address it.o.item ≡ address inner = sym (ap (λ (x : Turned). x.address) it.holds.turn) ∙ ap done_address (sym one) ∙ same in
-            let place = differ_at address (inline_items w) (inline_items_differ w) t count it.o.item inner early.0 next here in
+            let o = map_at turned sided.ordered t (turn_of b) (ap (λ (l : List Turned). slice_get l t) (sym sided.turns) ∙ slice_get-map turn_of sided.scopes t ∙ ap (option_map turn_of) at) in
+            let listed : slice_get inside_done t ≡ Some o.0.item = ap (λ (l : List Item). slice_get l t) (sym sided.items) ∙ at_prefix (map item_of sided.ordered) sided.left t o.0.item (slice_get-map item_of sided.ordered t ∙ ap (option_map item_of) o.1) in
+            let early = at_take (inline_items w) count t o.0.item (ap (λ (l : List Item). slice_get l t) (sym first) ∙ listed) in
+            let here : address o.0.item ≡ address inner = ap (λ (x : Turned). x.address) o.2 ∙ same in
+            let place = differ_at address (inline_items w) (inline_items_differ w) t count o.0.item inner early.0 next here in
             let less = early.1 in
             omega (arith, place, less)
 
@@ -244,13 +187,11 @@ module _ (files : List PackageFile) (is ws : List Item) (interfaces : AreOfSort 
 
         fresh : IsFreshInside files (decls files is ws) scopes (length (prefix ++ xs) + length now) inner
         fresh = record {
-          interface = can_be_next.interface;
           fresh = λ t b at same. elim (at_part (before ++ own_scope ∷ []) sided.scopes t b at) [
             | inl g ↦ can_be_next.fresh g.0 b g.1 same
             | inr g ↦ apart_inside g.0 b g.1 same
           ];
           has = can_be_next.has;
-          does = can_be_next.does;
           own = can_be_next.own ∙ ap (λ (n : ℕ). (scope files (address inner), (owner.Interface n))) spot;
         }
 
@@ -258,4 +199,4 @@ module _ (files : List PackageFile) (is ws : List Item) (interfaces : AreOfSort 
         known_inside = among_more resolved (before ++ own_scope ∷ []) sided.scopes (among_more resolved before (own_scope ∷ []) known_before)
 
         pub inline_ends : (outcome : Outcome) → IsOutcome (rows_of (scope_names inner)) outcome → (steps : ℕ) → IsEnough files steps (address inner) → EndsInTurn resolved (owner.Interface (length (prefix ++ xs) + length now)) mid (scope_names inner) outcome (handle_fault files steps (address inner))
-        inline_ends = reached_ends files (decls files is ws) _ scopes _ mid sided.function_part inner (owner.Interface (length (prefix ++ xs) + length now)) fresh.fresh fresh.own fresh.has resolved known_inside
+        inline_ends = reached_ends files (decls files is ws) _ scopes mid sided.done inner (owner.Interface (length (prefix ++ xs) + length now)) fresh.fresh fresh.own fresh.has resolved known_inside

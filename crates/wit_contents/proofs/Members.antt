@@ -1,8 +1,8 @@
 -- What is on the sides of a world, resolved one after another: nothing, more after some, and a function, an interface by its path, or an inline one.
-use Rattle.std.proofs.Common.{◌≡◌, ℕ, ◌+◌, List, [], ◌∷◌, ◌++◌, length, refl, sym, ap, ◌∙◌, subst, append_assoc, arith, Bool, true, false, if◌then◌else◌, map, Some, inl, inr, add-zero, Option, suc, None}
-use Rattle.wit_contents.proofs.Names.{Address, AddsFunctions, AddsInside, AddsInterface, AddsMembers, AddsSides, AreEnded, AreKeyed, AreSideItems, Contains-append_cases, Entry, Extern, Function, HavePlaces, Id, Interface, InterfaceItem, IsNext, IsSeen, ItemWalk, Link, Name, Names, Puts, Required, ResolvedScope, SideFunction, SideInline, SideItem, SideLink, Sorted, SourceFunction, Stage, TheInline, TopName, TypeDef, WorldSide, address, all_handles, append-nil, at_back, at_prefix, contains_one, entry_sorted, env_of, filter-append, flat_map, flat_map-append, function_item, functions, inline_after, inline_after-append, inline_entry, inline_of, inline_side, interfaces_at, interfaces_on, item_function, item_inline, item_name, item_side, item_sorted, items_on, lead, length-append, length-inline_after, length-map, link_item, map-append, next_place, option_map_or, option_to_list, path_scope, prefix_of, put_on, resolved_scopes_of, role_side, same_side, side_items, slice_get, sorted_on, stage, written_types, AddsWorld, AddsWorlds, Appends, World, adds_append, adds_one, arenas, inline_items, prefix_worlds, resolved_scopes, item_view}
+use Rattle.std.proofs.Common.{◌≡◌, ℕ, ◌+◌, List, [], ◌∷◌, ◌++◌, length, refl, sym, ap, ◌∙◌, subst, append_assoc, arith, Bool, true, false, if◌then◌else◌, map, Some, inl, inr, add-zero, Option, suc, None, get_or}
+use Rattle.wit_contents.proofs.Names.{Address, AddsFunctions, AddsInside, AddsInterface, AddsMembers, AddsSides, AreEnded, AreKeyed, Contains-append_cases, Entry, Extern, Function, HavePlaces, Id, Interface, InterfaceItem, IsNext, IsSeen, ItemWalk, Link, Name, Names, Puts, Required, ResolvedScope, SideFunction, SideInline, SideItem, SideLink, Sorted, SourceFunction, Stage, TheInline, TypeDef, WorldSide, address, all_handles, append-nil, at_back, at_prefix, contains_one, entry_sorted, env_of, filter-append, flat_map, flat_map-append, function_item, functions, inline_after, inline_after-append, inline_entry, inline_of, inline_side, interfaces_at, interfaces_on, item_function, item_inline, item_name, item_side, item_sorted, items_on, lead, length-append, length-inline_after, length-map, link_item, map-append, next_place, option_map_or, option_to_list, path_scope, prefix_of, put_on, resolved_scopes_of, role_side, same_side, side_items, slice_get, sorted_on, stage, written_types, AddsWorld, AddsWorlds, Appends, World, adds_append, adds_one, arenas, inline_items, prefix_worlds, resolved_scopes, item_view, Key, filter, filter_map-append, inline_item, is_interface}
 use Rattle.wit_contents.specs.declared.walk.Walked.{Walked}
-use Rattle.wit_arena.proofs.Common.{Item, link_key}
+use Rattle.wit_arena.proofs.Common.{Item, link_key, function_in, entries_on, scope_place}
 use Rattle.wit_entries.proofs.Requiring.{extended_then}
 use Rattle.wit_sides.specs.SideNames.{defined_on}
 use Rattle.wit_externs.specs.Clash.{item_names, bare_place, linked_on}
@@ -11,6 +11,10 @@ use Rattle.wit_entries.specs.EntryFaults.{IsExtended, Requires}
 use Rattle.wit_externs.proofs.Steps.{at_middle, kept_nothing, kept_one}
 use Rattle.wit_items.specs.declared.items.InlineInterface.{InlineInterface}
 use Rattle.wit_world_sides.specs.declared.members.Members.{Members}
+use Rattle.wit_arena.proofs.MadeSides.{put_kept}
+use Rattle.wit_arena.specs.Made.{member_entries}
+use Rattle.wit_syntax.specs.Sides.{members_after}
+use Rattle.wit_contents.specs.Walk.{next_entries}
 
 module _ (cs : List ResolvedScope) (count : ℕ) (s : Address) (names : Names) where
   -- as many interfaces are added as are written there, and as many functions are made
@@ -80,37 +84,28 @@ module _ (cs : List ResolvedScope) (count : ℕ) (s : Address) (names : Names) w
   pub sides_inline : (b c : List TypeDef) (js : List Interface) (added : Interface) (own : List Required) (x : Extern) (name : Id) (items : List InterfaceItem) (i : Item) → AddsInterface cs (count + length js) b c added own i → AddsSides cs count s names b c js (js ++ added ∷ []) [] own (SideInline x name items ∷ []) (i ∷ [])
   sides_inline b c js added own x name items i adds = (c, added, own, [], sym (append-nil own), adds, (refl, refl, refl, refl))
 
--- an entry before others is one before those and more
-put_both : (b : Bool) (x : Entry) (xs ys : List Entry) → (if b then x ∷ xs else xs) ++ ys ≡ (if b then x ∷ (xs ++ ys) else xs ++ ys)
-put_both true x xs ys = refl
-put_both false x xs ys = refl
+-- what is on sides, each with the interface that it is, with more after it
+members_then-append : (w : Item) (before xs ys : List SideItem) → members_after w before (xs ++ ys) ≡ members_after w before xs ++ members_after w (before ++ xs) ys
+members_then-append w before [] ys = ap (λ (l : List SideItem). members_after w l ys) (sym (append-nil before))
+members_then-append w before (x ∷ xs) ys =
+    let own = (x, inline_item w (length (filter is_interface (items_on (item_side x) before))) x) in
+    ap (λ (l : List (SideItem × List Item)). own ∷ l) (members_then-append w (before ++ x ∷ []) xs ys) ∙ ap (λ (l : List SideItem). own ∷ (members_after w (before ++ x ∷ []) xs ++ members_after w l ys)) (append_assoc before (x ∷ []) xs)
 
--- what is on a side, with more after it
-items_then : (is : List Address) (top : List TopName) (side : WorldSide) (xs ys : List SideItem) (fs gs : List Function) (ss ts : List Address) (a b : List Entry) → length fs ≡ length (flat_map item_function xs) → length ss ≡ length (flat_map item_inline xs) → AreSideItems is top side xs fs ss a → AreSideItems is top side ys gs ts b → AreSideItems is top side (xs ++ ys) (fs ++ gs) (ss ++ ts) (a ++ b)
-items_then is top side [] ys [] gs [] ts a b made seen h k = subst (λ (l : List Entry). AreSideItems is top side ys gs ts (l ++ b)) (sym h) k
-items_then is top side [] ys (f ∷ fs) gs ss ts a b made seen h k = absurd (omega (arith, made))
-items_then is top side [] ys [] gs (s ∷ ss) ts a b made seen h k = absurd (omega (arith, seen))
-items_then is top side (SideFunction fn ∷ xs) ys [] gs ss ts a b made seen h k = absurd h
-items_then is top side (SideFunction fn ∷ xs) ys (f ∷ fs) gs ss ts a b made seen h k = (
-  h.0 ++ b,
-  ap (λ (l : List Entry). l ++ b) h.1 ∙ put_both (same_side side (role_side fn.role)) (function_item f) h.0 b,
-  items_then is top side xs ys fs gs ss ts h.0 b (omega (arith, made)) seen h.2 k,
-)
-items_then is top side (SideLink link ∷ xs) ys fs gs ss ts a b made seen h k = (
-  h.0,
-  h.1 ++ b,
-  h.2,
-  ap (λ (l : List Entry). l ++ b) h.3 ∙ put_both (same_side side link.side) (link_item link h.0) h.1 b,
-  items_then is top side xs ys fs gs ss ts h.1 b made seen h.4 k,
-)
-items_then is top side (SideInline x name items ∷ xs) ys fs gs [] ts a b made seen h k = absurd h
-items_then is top side (SideInline x name items ∷ xs) ys fs gs (s ∷ ss) ts a b made seen h k = (
-  h.0,
-  h.1 ++ b,
-  h.2,
-  ap (λ (l : List Entry). l ++ b) h.3 ∙ put_both (same_side side x.side) (inline_entry x name h.0) h.1 b,
-  items_then is top side xs ys fs gs ss ts h.1 b made (omega (arith, seen)) h.4 k,
-)
+entries_then : (id : Key → ℕ) (ss : List Address) (w : Item) (before xs ys : List SideItem) (s : WorldSide) → entries_on s (next_entries id ss w before (xs ++ ys)) ≡ entries_on s (next_entries id ss w before xs) ++ entries_on s (next_entries id ss w (before ++ xs) ys)
+entries_then id ss w before xs ys s =
+    let of : SideItem × List Item → List (WorldSide × Entry) = λ m. member_entries (function_in id (address w)) ss w.top m.0 m.1 in
+    ap (λ (l : List (SideItem × List Item)). entries_on s (flat_map of l)) (members_then-append w before xs ys)
+    ∙ ap (entries_on s) (flat_map-append of (members_after w before xs) (members_after w (before ++ xs) ys))
+    ∙ filter_map-append (λ (e : WorldSide × Entry). if same_side s e.0 then Some e.1 else None) (next_entries id ss w before xs) (next_entries id ss w (before ++ xs) ys)
+
+-- lists that are as long are one where they begin one list
+front_same : (as bs cs ds : List Function) → length as ≡ length cs → as ++ bs ≡ cs ++ ds → (as ≡ cs) × (bs ≡ ds)
+front_same [] bs [] ds long same = (refl, same)
+front_same (a ∷ as) bs (c ∷ cs) ds long same =
+    let rest = front_same as bs cs ds (omega (arith, long)) (cc) in
+    let here : a ≡ c = cc in
+    (ap (λ (x : Function). x ∷ as) here ∙ ap (λ (l : List Function). c ∷ l) rest.0, rest.1)
+front_same as bs cs ds long same = absurd (omega (arith, long))
 
 -- the names, the words for them and the places of what is on a side, with more after it
 names_then : (s : WorldSide) (xs ys : List SideItem) → flat_map item_names (items_on s (xs ++ ys)) ≡ flat_map item_names (items_on s xs) ++ flat_map item_names (items_on s ys)
@@ -134,7 +129,7 @@ module _ (w : ItemWalk) where
     linked = λ s. sym (append-nil (linked_on s a.walked.members.links));
     sorted = λ s. sym (append-nil (sorted_on s a.walked.members.sides));
     keyed = keyed;
-    are_present = λ all places s. ([], sym (append-nil _), refl);
+    are_present = λ id made ss places s. sym (append-nil _);
     leads = λ link among. absurd (let lt = among.1 in let wrong : ⊥ = omega arith in wrong);
   }
 
@@ -168,26 +163,26 @@ module _ (w : ItemWalk) where
         let both = sides_then (resolved_scopes_of w.interfaces) (length w.interfaces.arena) s w.scope.names.types a.growing.types b.growing.types c.growing.types a.growing.inside b.growing.inside c.growing.inside p.functions q.functions p.adds.own q.adds.own xs ys us vs given (p.adds.holds s) (q.adds.holds s) in
         subst (λ (l : List Item). AddsSides (resolved_scopes_of w.interfaces) (length w.interfaces.arena) s w.scope.names.types a.growing.types c.growing.types a.growing.inside c.growing.inside (p.functions ++ q.functions) (p.adds.own ++ q.adds.own) (xs ++ ys) l) (sym inline_both) both
 
-    present_both : (all : List Address) → HavePlaces w a.growing.inside all_inline all → (s : WorldSide) → (more : List Entry) × (entries_of s c.walked.members.sides ≡ entries_of s a.walked.members.sides ++ more) × AreSideItems all item.top s (xs ++ ys) (p.functions ++ q.functions) (map address all_inline) more
-    present_both all places s =
+    present_both : (id : Key → ℕ) → p.functions ++ q.functions ≡ map (function_in id (address item)) (flat_map item_function (xs ++ ys)) → (ss : List Address) → HavePlaces w a.growing.inside all_inline ss → (s : WorldSide) → entries_of s c.walked.members.sides ≡ entries_of s a.walked.members.sides ++ entries_on s (next_entries id ss item prefix (xs ++ ys))
+    present_both id functions ss places s =
+        let f = function_in id (address item) in
+        let parts = front_same p.functions q.functions (map f (flat_map item_function xs)) (map f (flat_map item_function ys)) (made ∙ sym (length-map (flat_map item_function xs) f)) (functions ∙ ap (map f) (flat_map-append item_function xs ys) ∙ map-append f (flat_map item_function xs) (flat_map item_function ys)) in
         let named : map address all_inline ≡ map address us ++ map address vs = ap (map address) inline_both ∙ map-append address us vs in
-        let first = p.are_present all (record {
+        let first = p.are_present id parts.0 ss (record {
           interfaces = places.interfaces;
           inline = λ k r at. places.inline k r (ap (λ (l : List Address). slice_get l k) named ∙ at_prefix (map address us) (map address vs) k r at);
         }) s in
-        let second = q.are_present all (record {
+        let second = q.are_present id parts.1 ss (record {
           interfaces = places.interfaces;
           inline = λ k r at. (
               let there = places.inline (length (map address us) + k) r (ap (λ (l : List Address). slice_get l (length (map address us) + k)) named ∙ at_back (map address us) (map address vs) k r at) in
-              let long : length (map address us) ≡ length us = length-map us address in
-              let place : next_place w.interfaces a.growing.inside + (length (map address us) + k) ≡ next_place w.interfaces b.growing.inside + k = omega (arith, long, given, count) in
-              subst (λ (n : ℕ). slice_get all n ≡ Some r) place there);
+              let place : next_place w.interfaces a.growing.inside + (length (map address us) + k) ≡ next_place w.interfaces b.growing.inside + k = omega (arith, length-map us address, given, count) in
+              there ∙ place);
         }) s in
-        let all_given : length (map address us) ≡ length (flat_map item_inline xs) = length-map us address ∙ given in (
-          first.0 ++ second.0,
-          second.1 ∙ ap (λ (l : List Entry). l ++ second.0) first.1 ∙ append_assoc _ first.0 second.0,
-          subst (λ (l : List Address). AreSideItems all item.top s (xs ++ ys) (p.functions ++ q.functions) l (first.0 ++ second.0)) (sym named) (items_then all item.top s xs ys p.functions q.functions (map address us) (map address vs) first.0 second.0 made all_given first.2 second.2),
-        )
+        second
+        ∙ ap (λ (l : List Entry). l ++ entries_on s (next_entries id ss item (prefix ++ xs) ys)) first
+        ∙ append_assoc (entries_of s a.walked.members.sides) (entries_on s (next_entries id ss item prefix xs)) (entries_on s (next_entries id ss item (prefix ++ xs) ys))
+        ∙ ap (λ (l : List Entry). entries_of s a.walked.members.sides ++ l) (sym (entries_then id ss item prefix xs ys s))
 
     -- more after some
     pub members_then : AddsMembers w prefix (xs ++ ys) a c
@@ -268,7 +263,9 @@ module _ (w : ItemWalk) (prefix : List SideItem) (a : Stage) where
     linked = λ s. put.linked s ∙ ap (λ (l : List ℕ). linked_on s a.walked.members.links ++ l) (none_either [] (same_side s (item_side (SideFunction fn))) ∙ kept_nothing (bare_place (lead w)) (λ y. same_side s (item_side y)) (SideFunction fn) refl);
     sorted = sorted_put a.walked.members m.members (SideFunction fn) (function_item made) put;
     keyed = put.keyed;
-    are_present = λ all places s. (put_on s (item_side (SideFunction fn)) (function_item made) [], put.put s, ([], refl, refl));
+    are_present = λ id is ss places s. (
+        let same : made ≡ function_in id (address (item_view w.item)) fn = ap (λ (l : List Function). get_or l 0 made) is in
+        put.put s ∙ ap (λ (f : Function). entries_of s a.walked.members.sides ++ put_on s (role_side fn.role) (function_item f) []) same ∙ ap (λ (l : List Entry). entries_of s a.walked.members.sides ++ l) (put_kept s (role_side fn.role) (function_item (function_in id (address (item_view w.item)) fn)) []));
     leads = λ link among. absurd (let same : SideFunction fn ≡ SideLink link = contains_one (SideFunction fn) (SideLink link) among in let wrong : ⊥ = cc in wrong);
   }
 
@@ -283,7 +280,10 @@ module _ (w : ItemWalk) (prefix : List SideItem) (a : Stage) where
     linked = λ s. put.linked s ∙ ap (λ (l : List ℕ). linked_on s a.walked.members.links ++ l) (kept_one (bare_place (lead w)) (λ y. same_side s (item_side y)) (SideLink link) (key_places (link_item link id).0) (ap (λ (o : Option ℕ). option_map_or (λ (own : Id). []) link.name (option_to_list o)) leads ∙ bare_key link.name id));
     sorted = sorted_put a.walked.members m.members (SideLink link) (link_item link id) put;
     keyed = put.keyed;
-    are_present = λ all places s. (put_on s link.side (link_item link id) [], put.put s, (id, [], places.interfaces id _ present, refl, refl));
+    are_present = λ of made ss places s.
+        put.put s
+        ∙ ap (λ (n : ℕ). entries_of s a.walked.members.sides ++ put_on s link.side (link_item link n) []) (sym (places.interfaces.at id _ present))
+        ∙ ap (λ (l : List Entry). entries_of s a.walked.members.sides ++ l) (put_kept s link.side (link_item link (scope_place ss (path_scope (item_view w.item).top link.path))) []);
     leads = λ l among. (id, subst (λ (k : Link). lead w k.path ≡ Some id) (let both : SideLink link ≡ SideLink l = contains_one (SideLink link) (SideLink l) among in let same : link ≡ l = cc in same) leads);
   }
 
@@ -308,15 +308,12 @@ module _ (w : ItemWalk) (prefix : List SideItem) (a : Stage) where
     linked = λ s. put.linked s ∙ ap (λ (l : List ℕ). linked_on s a.walked.members.links ++ l) (none_either [] (same_side s (item_side (inline_side x))) ∙ kept_nothing (bare_place (lead w)) (λ y. same_side s (item_side y)) (inline_side x) refl);
     sorted = sorted_put a.walked.members m.members (inline_side x) (inline_entry x.written.now x.name (next_place w.interfaces a.growing.inside)) put;
     keyed = put.keyed;
-    are_present = λ all places s.
-        let id = next_place w.interfaces a.growing.inside in
-        let e = inline_entry x.written.now x.name id in
-        let there : slice_get all (id + 0) ≡ Some (address u) = places.inline 0 (address u) (ap (λ (us : List Item). slice_get (map address us) 0) own) in
-        let at : slice_get all id ≡ Some (address u) = subst (λ (n : ℕ). slice_get all n ≡ Some (address u)) (add-zero id) there in (
-          put_on s x.written.now.side e [],
-          put.put s,
-          subst (λ (us : List Item). AreSideItems all (item_view w.item).top s (inline_side x ∷ []) [] (map address us) (put_on s x.written.now.side e [])) (sym own) (id, [], at, refl, refl),
-        );
+    are_present = λ of made ss places s.
+        let there = places.inline 0 (address u) (ap (λ (us : List Item). slice_get (map address us) 0) own) ∙ add-zero (next_place w.interfaces a.growing.inside) in
+        let entry : ℕ → Entry = λ n. inline_entry x.written.now x.name n in
+        put.put s
+        ∙ ap (λ (n : ℕ). entries_of s a.walked.members.sides ++ put_on s x.written.now.side (entry n) []) (sym there)
+        ∙ ap (λ (l : List Entry). entries_of s a.walked.members.sides ++ l) (put_kept s x.written.now.side (entry (scope_place ss (address u))) [] ∙ ap (λ (us : List Item). entries_on s (map (λ (i : Item). (x.written.now.side, entry (scope_place ss (address i)))) us)) (sym own ∙ append-nil (inline_item (item_view w.item) (length (filter is_interface (items_on x.written.now.side prefix))) (inline_side x))));
     leads = λ link among. absurd (let same : inline_side x ≡ SideLink link = contains_one (inline_side x) (SideLink link) among in let wrong : ⊥ = cc in wrong);
   }
 

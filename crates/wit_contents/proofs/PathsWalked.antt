@@ -1,10 +1,13 @@
 -- Interfaces and worlds that are resolved say of used names and of includes what files do.
 use Rattle.std.proofs.Common.{◌≡◌, ℕ, ◌+◌, true, false, List, ◌++◌, length, map, Option, Some, None, ◌⊎◌, IsSome, inl, inr, refl, sym, ap, ◌∙◌, subst, arith, Contains, ◌<◌, zero, suc, Bool, [], ◌∷◌, take}
-use Rattle.wit_contents.proofs.Names.{Address, AddsForeign, AllDiffer, AreUsableUses, AreWorldsDone, Attribute, Declared, Def, DefinitionPart, DoneScope, ExternPart, Fault, Foreign, ForeignNamed, ForeignVisit, FunctionPart, Id, Include, IncludePart, Interface, InterfaceNamed, Interfaces, InterfacesDone, IsForeignUse, IsFound, IsNameIndex, IsNoWorld, IsOrder, IsPlaced, IsResolvedUse, Local, Names, Ordered, PackageFile, PackageName, Part, Required, ResolvedScope, ScopeName, Source as BorrowedSource, SourceFunction, Target, Turned, TypeDef, UseName, UsePart, UsePath, Used, UsedName, World, WorldArenas, WorldNamed, Worlds, address, all_declared, all_items, any_found, any_some, are_interfaces, are_worlds, at_back, at_contains, at_part, at_prefix, at_split, at_within, bytes_eq, cases_Bool, contains_at, entry_of_item, env_of, find_passes, find_some, first_in, first_named, firsts_has, flat_map_at, flat_map_has, foreign_at, foreign_entry, foreign_interfaces, foreign_use_key, foreign_uses, foreign_worlds, free_functions, functions, if◌then◌else◌, in_order, include_fault, include_path, include_paths, included_fault, includes, interface_address, interface_there, interfaces, interfaces_at, is_foreign, is_none, is_world, is_world_at, item_at, item_name, item_named, item_of, item_rows, item_scopes, item_word, kept_early, keys, leads, length-map, list_any, local_name, lookup-place, lost_use, map_at, meaning, missing_at, name_equal, name_itself, named_at, named_within, needed_before, option_and_then, option_cases, option_map, option_map_or, option_or, ordered_at, own_declared, own_item, own_order, part_includes, parts, path_id, paths_of_world, prefix_resolved_scope, prefix_scopes, resolved_scope, resolved_scope_at, resolved_scope_of, resolved_scopes, resolved_scopes-append, same_address, same_address-equal, same_foreign_use, scope, scope_at, scope_names, scope_of, slice_get, slice_get-map, slice_get_within, some_of, source_target, source_view, stability_fault, unresolved_fault, unstated, use_fault, use_of_foreign, use_of_foreign-equal, use_of_foreign-from, use_view, used_listed, visited, visited_foreign, world_address, world_at, world_entry, world_list, world_missing, worlds, worlds_at, worlds_at-append, worlds_of, worlds_sort, interfaces_sort, lost_listed, source_place}
-use Rattle.wit_arena.proofs.Common.{Item, position_or_len, same_item, function_in, interfaces_count, worlds_count}
+use Rattle.wit_contents.proofs.Names.{Address, AddsForeign, AllDiffer, AreUsableUses, AreWorldsDone, Attribute, Def, DefinitionPart, DoneScope, ExternPart, Fault, Foreign, ForeignNamed, ForeignVisit, FunctionPart, Id, Include, IncludePart, Interface, InterfaceNamed, Interfaces, InterfacesDone, IsForeignUse, IsFound, IsNameIndex, IsNoWorld, IsOrder, IsPlaced, IsResolvedUse, Local, Names, Ordered, PackageFile, PackageName, Part, Required, ResolvedScope, ScopeName, Source as BorrowedSource, Target, Turned, TypeDef, UseName, UsePart, UsePath, Used, UsedName, World, WorldArenas, WorldNamed, Worlds, address, all_declared, all_items, any_found, any_some, are_interfaces, are_worlds, at_back, at_contains, at_part, at_prefix, at_split, at_within, bytes_eq, cases_Bool, contains_at, env_of, find_passes, find_some, first_in, first_named, firsts_has, flat_map_at, flat_map_has, foreign_at, foreign_entry, foreign_interfaces, foreign_use_key, foreign_uses, foreign_worlds, free_functions, functions, if◌then◌else◌, in_order, include_fault, include_path, include_paths, included_fault, includes, interface_address, interface_there, interfaces, interfaces_at, is_foreign, is_none, is_world, is_world_at, item_at, item_name, item_named, item_of, item_rows, item_scopes, item_word, kept_early, keys, leads, length-map, list_any, local_name, lookup-place, lost_use, map_at, meaning, missing_at, name_equal, name_itself, named_at, named_within, needed_before, option_and_then, option_cases, option_map, option_map_or, option_or, ordered_at, own_declared, own_item, own_order, part_includes, parts, path_id, paths_of_world, prefix_resolved_scope, prefix_scopes, resolved_scope, resolved_scope_at, resolved_scope_of, resolved_scopes, resolved_scopes-append, same_address, same_address-equal, same_foreign_use, scope, scope_at, scope_names, scope_of, slice_get, slice_get-map, slice_get_within, some_of, source_target, source_view, stability_fault, unresolved_fault, unstated, use_fault, use_of_foreign, use_of_foreign-equal, use_of_foreign-from, use_view, used_listed, visited, visited_foreign, world_address, world_at, world_entry, world_list, world_missing, worlds, worlds_at, worlds_at-append, worlds_of, worlds_sort, interfaces_sort, lost_listed, source_place}
+use Rattle.wit_arena.proofs.Common.{Item, position_or_len, same_item, function_in, interfaces_count, worlds_count, Imported, by_name, functions_imported, interface_functions, map_map, placed, same_some}
 use Rattle.wit_items.proofs.Common.{interface_fault}
 use Rattle.wit_arena.proofs.Placing.{gives_in, place_in}
-use Rattle.wit_arena.proofs.FreeNames.{free_of, AreStated, free_stated, stated_free, free_names}
+use Rattle.wit_arena.proofs.DoneWorlds.{ordered_interface}
+use Rattle.wit_arena.proofs.ScopesInTurn.{laid_addresses}
+use Rattle.wit_arena.proofs.Settled.{stated_placed}
+use Rattle.wit_arena.proofs.FreeNames.{free_of, AreStated, free_stated, stated_free, free_names, free_keyed}
 use Rattle.wit_scopes.specs.declared.scope_name.Source.TheVariants as borrowed_source
 use Rattle.wit_item_entries.specs.ReachedFaults.{lost_name, used_fault}
 use Rattle.wit_item_entries.proofs.ReachedFaults.{found_of, of_function, of_nothing, used_from}
@@ -93,9 +96,12 @@ module _ (files : List PackageFile) (places : List ℕ) (order : IsOrder (item_r
         let e_at = at_back (prefix_scopes files prefix) d.scopes j e.0 e.1 in
         let done = d.done.each place e.0 e_at in
         let id = place_in (keys d.done.seen) 0 in
-        let made : e.0.made ≡ map (function_in id e.0.address) (functions v) = subst (λ (l : List SourceFunction). e.0.made ≡ map (function_in id e.0.address) l) (sym (ap (λ (x : Turned). x.functions) o.2)) (d.done.made place e.0 e_at id (gives_in (keys d.done.seen) 0 d.done.occurrence.keyed.once)) in
-        let says : AreStated (functions v) e.0.made e.0.stated = subst (λ (l : List SourceFunction). AreStated l e.0.made e.0.stated) (sym (ap (λ (x : Turned). x.functions) o.2)) done.stated in
-        let present : free_of e.0.stated ≡ c.functions = ap (λ (x : ResolvedScope). x.functions) e.2 in
+        let x = map_at resolved_scope own j c at in
+        let both = ap (λ (l : List Interface). slice_get l j) (d.made id (gives_in (keys d.done.seen) 0 d.done.occurrence.once)) ∙ slice_get-map (ordered_interface id) d.ordered j ∙ ap (option_map (ordered_interface id)) o.1 in
+        let is : x.0 ≡ ordered_interface id o.0 = same_some (sym x.1 ∙ both) in
+        let made = map (function_in id (address v)) (functions v) in
+        let says : AreStated (functions v) made (interface_functions x.0) = stated_placed (functions v) made x.0 (functions_imported v ((interfaces_sort (in_order (all_items files) places)).each j v there)) (ap (λ (i : Interface). i.functions) is ∙ ap (placed Some) (sym (map_map by_name (function_in id (address v)) (functions v)))) in
+        let present : free_of (interface_functions x.0) ≡ c.functions = free_keyed Imported x.0.functions ∙ ap (λ (y : ResolvedScope). y.functions) x.2 in
         let types : e.0.types ≡ c.types = ap (λ (x : ResolvedScope). x.types) e.2 in
         record {
           item = v;
@@ -108,8 +114,8 @@ module _ (files : List PackageFile) (places : List ℕ) (order : IsOrder (item_r
               let k = done.turn.among p.0 x.0 x.1 in
               let passes : bytes_eq (local_name x.0) name ≡ true = ap (λ (m : List ℕ). bytes_eq m name) x.2 ∙ name_itself name in
               means_in (scope_names v) (scope files e.0.address) name names (find_some (λ (z : ScopeName). bytes_eq (local_name z) name) (scope files e.0.address) k.0 x.0 k.1 passes));
-          free = λ h. subst (λ (l : List (List ℕ)). Contains l name) present (free_stated id e.0.address v e.0.made e.0.stated made says name h);
-          stated = λ h. stated_free id e.0.address v e.0.made e.0.stated made says name (subst (λ (l : List (List ℕ)). Contains l name) (sym present) h);
+          free = λ h. subst (λ (l : List (List ℕ)). Contains l name) present (free_stated id (address v) v made (interface_functions x.0) refl says name h);
+          stated = λ h. stated_free id (address v) v made (interface_functions x.0) refl says name (subst (λ (l : List (List ℕ)). Contains l name) (sym present) h);
         }
 
     -- an interface of another package has the names that are used from it
@@ -226,12 +232,12 @@ module _ (files : List PackageFile) (places : List ℕ) (order : IsOrder (item_r
       let j = kept_early is_world all places k t q v before at_t at_q world in
       let o = map_at own_item e.ordered j.0 v (ap (λ (l : List Item). slice_get l j.0) e.all ∙ j.1) in
       let own_at : slice_get (map own_order e.ordered) j.0 ≡ Some o.0.own = slice_get-map own_order e.ordered j.0 ∙ ap (option_map own_order) o.1 in
-      let x = entry_of_item e.laid j.0 o.0.own own_at in
-      let called : x.0.name ≡ name = ap (λ (y : World). y.name) (e.laid.says.each j.0 o.0.own x.0 own_at x.1).says ∙ ap item_name o.2 ∙ sym same in
+      let there : slice_get (map (λ (y : World). WorldNamed y.name) e.own) j.0 ≡ Some (WorldNamed name) =
+      ap (λ (l : List Address). slice_get l j.0) (laid_addresses e.laid) ∙ slice_get-map (λ (p : Ordered). address p.item) (map own_order e.ordered) j.0 ∙ ap (option_map (λ (p : Ordered). address p.item)) own_at ∙ ap Some (ap address o.2 ∙ world_address v world ∙ ap WorldNamed (sym same)) in
       let named = map (λ (y : World). WorldNamed y.name) e.own in
       let whole : worlds_at others a.worlds ≡ others ++ named = ap (worlds_at others) e.arena ∙ worlds_at-append others wprefix e.own (worlds_count foreign ∙ sym (length-map (foreign_worlds files) visited)) in
       let place = length others + j.0 in
-      index.has place name (ap (λ (l : List Address). slice_get l place) whole ∙ at_back others named j.0 (WorldNamed name) (slice_get-map (λ (y : World). WorldNamed y.name) e.own j.0 ∙ ap (option_map (λ (y : World). WorldNamed y.name)) x.1 ∙ ap (λ (m : List ℕ). Some (WorldNamed m)) called))
+      index.has place name (ap (λ (l : List Address). slice_get l place) whole ∙ at_back others named j.0 (WorldNamed name) there)
 
   -- where no world is resolved an interface is
   lost_path : (path : UsePath) → Contains (include_paths w) path → (t : Target) → leads w.top path ≡ t → IsNoWorld files by_name t → is_world_at files t ≡ Some false

@@ -1,7 +1,7 @@
 -- The first fault of a world: of its attributes, of its names, of its includes, or of what is on its sides.
 use Rattle.std.proofs.Common.{◌≡◌, ℕ, ◌+◌, Bool, false, true, List, [], ◌∷◌, ◌++◌, drop, length, map, take, Option, Some, None, refl, sym, ap, ◌∙◌, subst, All, ◌<◌, get_or, ◌==◌, arith}
-use Rattle.wit_contents.proofs.Names.{AddsTurn, AreKeyed, Declared, EndsInTurn, Exported, Fault, Finds, FindsNames, FindsSides, Id, Imported, Include, IsItemOf, IsNext, IsOutcome, IsRightOfWorld, IsSeen, IsWalk, Item as BorrowedItem, ItemWalk, Outcome, PackageFile, ParseError, Reports, ResolvedScope, Result, ScopeName, SourceFunction, TheInline, TheInterface, TheWorld, TopName, TypeDef, TypeOwner, Worlds, about, all_declared, all_items, append-nil, at_contains, declared_view, eqb-suc-zero, filter, filter-append, filter_map-append, finds_same, first_after, first_in, functions, if◌then◌else◌, in-append, in-more, in_order, in_turn, includes, includes_fault, is_inside, item_in, item_stability, item_view, kept_next, local_id, names_at_top, names_fault, name_view, option_map, option_or, order_of, reports_back, reports_prefix, reports_same, resolved_scopes_of, rows_of, scope_names, setters_fault, side_items, side_setters_fault, slice_get, slice_get-get_or, slice_get-map, take-append-drop, Address, AddsMembers, AddsSides, AddsWorld, AllDiffer, AreIncludes, AreSideItems, Borrowed, Entry, HavePlaces, Interface, Interfaces, IsStart, IsTurn, Name, Names, Required, SideItem, World, WorldSide, address, and_parts, arenas, at_back, at_prefix, declared_metadata, eqb-true, flat_map, function_of, in_turn_distinct, inline_items, interfaces_at, is_ascii_uppercase, item_function, list_all, list_any, names_on, nil_from_length, no_clashes, none_both, part_functions, part_items, prefix_of, puts_nothing, settled, stage, type_imports, world_part, worlds_at, functions_parts}
-use Rattle.wit_arena.proofs.Common.{Item, world}
+use Rattle.wit_contents.proofs.Names.{AddsTurn, AreKeyed, Declared, EndsInTurn, Exported, Fault, Finds, FindsNames, FindsSides, Id, Imported, Include, IsItemOf, IsNext, IsOutcome, IsRightOfWorld, IsSeen, IsWalk, Item as BorrowedItem, ItemWalk, Outcome, PackageFile, ParseError, Reports, ResolvedScope, Result, ScopeName, SourceFunction, TheInline, TheInterface, TheWorld, TopName, TypeDef, TypeOwner, Worlds, about, all_declared, all_items, append-nil, at_contains, declared_view, eqb-suc-zero, filter, filter-append, filter_map-append, finds_same, first_after, first_in, functions, if◌then◌else◌, in-append, in-more, in_order, in_turn, includes, includes_fault, is_inside, item_in, item_stability, item_view, kept_next, local_id, names_at_top, names_fault, name_view, option_map, option_or, order_of, reports_back, reports_prefix, reports_same, resolved_scopes_of, rows_of, scope_names, setters_fault, side_items, side_setters_fault, slice_get, slice_get-get_or, slice_get-map, take-append-drop, Address, AddsMembers, AddsSides, AddsWorld, AllDiffer, AreIncludes, Borrowed, Entry, HavePlaces, Interface, Interfaces, IsStart, IsTurn, Name, Names, Required, SideItem, World, WorldSide, address, and_parts, arenas, at_back, at_prefix, declared_metadata, eqb-true, flat_map, function_of, in_turn_distinct, inline_items, interfaces_at, is_ascii_uppercase, item_function, list_all, list_any, names_on, nil_from_length, no_clashes, none_both, part_functions, part_items, prefix_of, puts_nothing, settled, stage, type_imports, world_part, worlds_at, functions_parts}
+use Rattle.wit_arena.proofs.Common.{Item, world, entries_on, name_imports, WorldInclude}
 use Rattle.wit_contents.specs.declared.walk.Growing.{Growing}
 use Rattle.wit_contents.specs.declared.walk.Walked.{Walked}
 use Rattle.wit_contents.specs.declared.walk.WorldScope.{WorldScope}
@@ -12,7 +12,7 @@ use Rattle.wit_item_entries.specs.declared.names.ResolvedNames.{ResolvedNames}
 use Rattle.wit_contents.proofs.MemberFaults.{turned, world_sides}
 use Rattle.wit_world_sides.specs.Members.{none_of}
 use Rattle.wit_links.proofs.Leading.{addresses_count}
-use Rattle.wit_contents.specs.Walk.{IsWorldOf}
+use Rattle.wit_contents.specs.Walk.{IsWorldOf, next_entries}
 use Rattle.wit_rules.specs.Signatures.{function_view, AreResults}
 use Rattle.wit_functions.specs.MaybeFunction.{is_setter}
 use Rattle.wit_functions.proofs.NoSetters.{no_setters}
@@ -20,6 +20,7 @@ use Rattle.wit_signatures.specs.FunctionsOfScope.{name_key, name_of_id}
 use Rattle.wit_item_entries.proofs.NameOrder.{names_alone}
 use Rattle.wit_contents.proofs.Members.{sides_none}
 use Rattle.wit_types.specs.declared.types.TypeOwner.TheVariants as owner
+use Rattle.wit_arena.proofs.MadeWorlds.{type_imports-as_stated, world_stated}
 
 -- setters are looked at where a world includes nothing
 setters_by : (i : Item) (ns : List Include) → (if none_of ns then sides_setters (functions i) else None) ≡ (if length ns == 0 then option_or (side_setters_fault i Imported) (side_setters_fault i Exported) else None)
@@ -182,37 +183,35 @@ module _ (w : ItemWalk) (others : List Address) (ws : List World) (old : List Ty
   abbrev interfaces : List Interface
   interfaces = w.interfaces.arena
 
-  pub content_adds : (added : World) (ss : List Address) → length ss ≡ length middle.inside → added ≡ world (about item.declared).id.name.now added.imports added.exports added.includes (declared_metadata item.declared) (about item.declared).id.span → added.imports ≡ settled (includes item) m.members.sides.imports → added.exports ≡ settled (includes item) m.members.sides.exports → AreIncludes (worlds_at others ws) item added.includes → AddsWorld foreign others interfaces old new.types (arenas ws middle.inside ss) (arenas (ws ++ added ∷ []) new.inside (ss ++ map address (inline_items item))) (required ++ m.required.items) item
-  content_adds added ss known says imports exports included =
-      let order = n.adds.order in
-      let us = map address (inline_items item) in
-      let total = interfaces_at foreign interfaces ++ (ss ++ us) in
-      let counted = addresses_count foreign interfaces w.interfaces.prefix in
-      let places : HavePlaces w middle.inside (inline_items item) total = record {
-        interfaces = λ p s at. at_prefix (interfaces_at foreign interfaces) (ss ++ us) p s at;
-        inline = inline_present foreign interfaces middle.inside ss item counted known;
-      } in
-      let first = adds.are_present total places Imported in
-      let second = adds.are_present total places Exported in
-      let own : required ++ m.required.items ≡ n.handled.list ++ adds.adds.own = ap (λ (l : List Required). l ++ m.required.items) n.handled.added ∙ ap (λ (l : List Required). n.handled.list ++ l) (adds.adds.list ∙ ap (λ (l : List Required). l ++ adds.adds.own) begun.required) in
-      record {
-        added = added;
-        last = refl;
-        more = refl;
-        says = says;
-        types = w.scope.names.types;
-        middle = middle.types;
-        adds = n.adds;
-        own = n.handled.list;
-        ended = n.handled.ended;
-        functions = adds.functions;
-        rest = adds.adds.own;
-        requires = own;
-        sides = adds.adds.holds (address item);
-        imports = (first.0, first.2, imports ∙ ap (settled (includes item)) (first.1 ∙ ap (λ (l : List Entry). l ++ first.0) (begun.imports (in_turn (scope_names item) order) n.turn)));
-        exports = (second.0, second.2, exports ∙ ap (settled (includes item)) (second.1 ∙ ap (λ (l : List Entry). l ++ second.0) begun.exports));
-        includes = included;
-      }
+  pub content_adds : (added : World) (imports exports : List Entry) (included : List WorldInclude) (ss : List Address) → length ss ≡ length middle.inside → added ≡ world (about item.declared).id.name.now imports exports included (declared_metadata item.declared) (about item.declared).id.span → imports ≡ settled (includes item) m.members.sides.imports → exports ≡ settled (includes item) m.members.sides.exports → AreIncludes (worlds_at others ws) item included → AddsWorld foreign others interfaces old new.types (arenas ws middle.inside ss) (arenas (ws ++ added ∷ []) new.inside (ss ++ map address (inline_items item))) (required ++ m.required.items) item
+  content_adds added imports exports included ss known says on_imports on_exports are = record {
+    added = added;
+    last = refl;
+    more = refl;
+    types = w.scope.names.types;
+    middle = middle.types;
+    adds = n.adds;
+    own = n.handled.list;
+    ended = n.handled.ended;
+    functions = adds.functions;
+    rest = adds.adds.own;
+    requires = ap (λ (l : List Required). l ++ m.required.items) n.handled.added ∙ ap (λ (l : List Required). n.handled.list ++ l) (adds.adds.list ∙ ap (λ (l : List Required). l ++ adds.adds.own) begun.required);
+    sides = adds.adds.holds (address item);
+    made = λ id typed made all vs here there. (
+        let us = map address (inline_items item) in
+        let counted = addresses_count foreign interfaces w.interfaces.prefix in
+        let places : HavePlaces w middle.inside (inline_items item) all = record {
+          interfaces = record { at = λ p s at. here.at p s (at_prefix (interfaces_at foreign interfaces) (ss ++ us) p s at) };
+          inline = λ k s at. here.at ((length interfaces + length middle.inside) + k) s (inline_present foreign interfaces middle.inside ss item counted known k s at);
+        } in
+        let names = in_turn (scope_names item) n.adds.order in
+        let on : WorldSide → List Entry = λ s. entries_on s (next_entries id all item [] (side_items item)) in
+        let named = begun.imports names n.turn ∙ ap (type_imports names) typed ∙ type_imports-as_stated id (address item) names in
+        world_stated (about item.declared).id.name.now (about item.declared).id.span (declared_metadata item.declared) added imports _ exports _ included _ says
+        (on_imports ∙ ap (settled (includes item)) (adds.are_present id made all places Imported ∙ ap (λ (l : List Entry). l ++ on Imported) named))
+        (on_exports ∙ ap (settled (includes item)) (adds.are_present id made all places Exported ∙ ap (λ (l : List Entry). l ++ on Exported) begun.exports))
+        (are.1 vs there));
+  }
 
 -- parts that put nothing on a side
 put_none : (xs : List WorldItem) → list_all puts_nothing xs ≡ true → world_sides xs ≡ []
@@ -263,16 +262,14 @@ module _ (item : Item) (empty : side_items item ≡ []) where
     abbrev names : List Entry
     names = type_imports (in_turn (scope_names item) n.adds.order) types
 
-    pub alone_adds : (added : World) (ss : List Address) → added ≡ world (about item.declared).id.name.now added.imports added.exports added.includes (declared_metadata item.declared) (about item.declared).id.span → added.imports ≡ names → added.exports ≡ [] → AreIncludes (worlds_at others ws) item added.includes → AddsWorld (prefix_of is.files) others is.arena old middle (arenas ws inside ss) (arenas (ws ++ added ∷ []) inside (ss ++ map address (inline_items item))) required item
-    alone_adds added ss says imported exported included =
+    pub alone_adds : (added : World) (imports exports : List Entry) (included : List WorldInclude) (ss : List Address) → added ≡ world (about item.declared).id.name.now imports exports included (declared_metadata item.declared) (about item.declared).id.span → imports ≡ names → exports ≡ [] → AreIncludes (worlds_at others ws) item included → AddsWorld (prefix_of is.files) others is.arena old middle (arenas ws inside ss) (arenas (ws ++ added ∷ []) inside (ss ++ map address (inline_items item))) required item
+    alone_adds added imports exports included ss says imported exported are =
         let us = inline_items item in
-        let total = interfaces_at (prefix_of is.files) is.arena ++ (ss ++ map address us) in
-        let none = λ (s : WorldSide). subst (λ (xs : List SideItem). AreSideItems total item.top s xs [] (map address us) []) (sym empty) refl in
+        let turn = in_turn (scope_names item) n.adds.order in
         record {
           added = added;
           last = refl;
           more = refl;
-          says = says;
           types = types;
           middle = middle;
           adds = n.adds;
@@ -282,7 +279,10 @@ module _ (item : Item) (empty : side_items item ≡ []) where
           rest = [];
           requires = n.handled.added ∙ sym (append-nil n.handled.list);
           sides = subst (λ (xs : List SideItem). AddsSides (resolved_scopes_of is) (length is.arena) (address item) types middle middle inside inside [] [] xs us) (sym empty) (sides_none (resolved_scopes_of is) (length is.arena) (address item) types middle inside us);
-          imports = ([], none Imported, imported ∙ sym (names_settled (includes item) (in_turn (scope_names item) n.adds.order) types) ∙ ap (settled (includes item)) (sym (append-nil names)));
-          exports = ([], none Exported, exported ∙ sym (names_settled (includes item) [] types));
-          includes = included;
+          made = λ id typed made all vs here there. (
+              let none = λ (s : WorldSide). ap (λ (xs : List SideItem). entries_on s (next_entries id all item [] xs)) empty in
+              world_stated (about item.declared).id.name.now (about item.declared).id.span (declared_metadata item.declared) added imports _ exports _ included _ says
+              (imported ∙ sym (names_settled (includes item) turn types) ∙ ap (settled (includes item)) (ap (type_imports turn) typed ∙ type_imports-as_stated id (address item) turn ∙ sym (append-nil (name_imports id (address item) turn)) ∙ ap (λ (l : List Entry). name_imports id (address item) turn ++ l) (sym (none Imported))))
+              (exported ∙ sym (names_settled (includes item) [] types) ∙ ap (settled (includes item)) (sym (none Exported)))
+              (are.1 vs there));
         }

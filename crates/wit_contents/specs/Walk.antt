@@ -1,6 +1,10 @@
 -- What the imports and exports of a world add, one after another after its names, and their first fault.
 use Rattle.std.specs.Prelude.{◌≡◌, ◌+◌, ◌++◌, ◌∷◌, [], ℕ, Bool, Contains, List, Option, length, map, nat_eq, slice_get, Some, true, None, Result}
-use Rattle.wit_contents.specs.Names.{Address, AddsSides, Appends, AreSideItems, BorrowedItem, EndsIn, Fault, Function, Id, Interface, Interfaces, IsExtended, IsItemOf, Item, Link, ParseError, Required, ScopeName, SideFunction, SideInline, SideItem, SideLink, TypeDef, UsePath, WorldSide, address, entries_of, env_of, flat_map, functions as the_functions, includes, inline_after, interfaces_at, is_world, item_function, item_view, items_on, linked_fault, local_id, name_of_id, names_on, none_of, option_map_or, option_or, part_items, path_place, prefix_of, resolved_scopes_of, scope_names, side_items, signed_by, type_imports, world_part}
+use Rattle.wit_contents.specs.Names.{Address, AddsSides, Appends, BorrowedItem, EndsIn, Fault, Function, Id, Interface, Interfaces, IsExtended, IsItemOf, Item, Link, ParseError, Required, ScopeName, SideFunction, SideInline, SideItem, SideLink, TypeDef, UsePath, WorldSide, address, entries_of, env_of, flat_map, functions as the_functions, includes, inline_after, interfaces_at, is_world, item_function, item_view, items_on, linked_fault, local_id, name_of_id, names_on, none_of, option_map_or, option_or, part_items, path_place, prefix_of, resolved_scopes_of, scope_names, side_items, signed_by, type_imports, world_part}
+use Rattle.wit_syntax.specs.Sides.{members_after}
+use Rattle.wit_arena.specs.Made.{entries_on, function_in, member_entries, scope_place}
+use Rattle.wit_arena.specs.Occurrences.{Key}
+use Rattle.wit_arena.specs.Resolving.{GivesPlaces}
 use Rattle.wit_tree.specs.declared.tree.WorldItem.{WorldItem}
 use Rattle.wit_walk.specs.Sorts.{item_sorted}
 use Rattle.wit_sides.specs.SideNames.{defined_on}
@@ -68,10 +72,14 @@ pub record IsNext (w : ItemWalk) (xs : List SideItem) (m : Walked) : Type 0 wher
   pub seen : IsSeen prefix m.seen
   pub keyed : AreKeyed m.members
 
--- among these addresses are those of the interfaces that are resolved, at their places, and of these inline ones, from the next place on
-pub record HavePlaces (w : ItemWalk) (inside : List Interface) (us : List Item) (all : List Address) : Type 0 where
-  pub interfaces : (p : ℕ) (s : Address) → slice_get (interfaces_at (prefix_of w.interfaces.files) w.interfaces.arena) p ≡ Some s → slice_get all p ≡ Some s
-  pub inline : (k : ℕ) (s : Address) → slice_get (map address us) k ≡ Some s → slice_get all (next_place w.interfaces inside + k) ≡ Some s
+-- the interfaces that are resolved have their places, and these inline ones come from the next place on
+pub record HavePlaces (w : ItemWalk) (inside : List Interface) (us : List Item) (ss : List Address) : Type 0 where
+  pub interfaces : GivesPlaces (scope_place ss) (interfaces_at (prefix_of w.interfaces.files) w.interfaces.arena)
+  pub inline : (k : ℕ) (s : Address) → slice_get (map address us) k ≡ Some s → scope_place ss s ≡ next_place w.interfaces inside + k
+
+-- what these are on sides after a prefix, over the places of what occurs, where the interfaces have these addresses
+abbrev pub next_entries : (Key → ℕ) → List Address → Item → List SideItem → List SideItem → List (WorldSide × Entry)
+next_entries id ss i prefix xs = flat_map (λ m. member_entries (function_in id (address i)) ss i.top m.0 m.1) (members_after i prefix xs)
 
 -- after a prefix, these were resolved, and put on their sides
 pub record AddsMembers (w : ItemWalk) (prefix xs : List SideItem) (a b : Stage) : Type 0 where
@@ -83,7 +91,7 @@ pub record AddsMembers (w : ItemWalk) (prefix xs : List SideItem) (a b : Stage) 
   pub linked : (s : WorldSide) → linked_on s b.walked.members.links ≡ linked_on s a.walked.members.links ++ flat_map (bare_place (lead w)) (items_on s xs)
   pub sorted : (s : WorldSide) → sorted_on s b.walked.members.sides ≡ sorted_on s a.walked.members.sides ++ flat_map item_sorted (items_on s xs)
   pub keyed : AreKeyed b.walked.members
-  pub are_present : (all : List Address) → HavePlaces w a.growing.inside (inline_after (item_view w.item) prefix xs) all → (s : WorldSide) → (more : List Entry) × (entries_of s b.walked.members.sides ≡ entries_of s a.walked.members.sides ++ more) × AreSideItems all (item_view w.item).top s xs functions (map address (inline_after (item_view w.item) prefix xs)) more
+  pub are_present : (id : Key → ℕ) → functions ≡ map (function_in id (address (item_view w.item))) (flat_map item_function xs) → (ss : List Address) → HavePlaces w a.growing.inside (inline_after (item_view w.item) prefix xs) ss → (s : WorldSide) → entries_of s b.walked.members.sides ≡ entries_of s a.walked.members.sides ++ entries_on s (next_entries id ss (item_view w.item) prefix xs)
   pub leads : (link : Link) → Contains xs (SideLink link) → (id : ℕ) × (lead w link.path ≡ Some id)
 
 -- the next of what is on the sides are added

@@ -34,11 +34,8 @@ abbrev pub AddsNamesOf : Worlds → BorrowedItem → List TypeDef → List TypeD
 AddsNamesOf ws i old new n = AddsTurn old new (resolved_scopes_of ws.interfaces.now) (owner.World (length ws.arena)) (scope_names (item_view i)) n.types n.turn.items n.required.items
 
 -- a world has this name, this is stated of it, and it has this content
-pub record HasContent (id : Id) (stated : Metadata) (c : WorldContent) (w : World) : Type 0 where
-  pub says : w ≡ world id.name.now w.imports w.exports w.includes stated id.span
-  pub imports : w.imports ≡ c.sides.imports
-  pub exports : w.exports ≡ c.sides.exports
-  pub includes : w.includes ≡ c.includes
+abbrev pub HasContent : Id → Metadata → WorldContent → World → Type 0
+HasContent id stated c w = w ≡ world id.name.now c.sides.imports c.sides.exports c.includes stated id.span
 
 -- a world of an item with this content is added
 abbrev pub AddsContent : Worlds → BorrowedItem → Resolving → Resolving → WorldContent → Type 0

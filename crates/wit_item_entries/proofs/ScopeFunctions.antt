@@ -2,10 +2,10 @@
 use Rattle.std.proofs.Common.{ℕ, List, ◌∙◌, ◌≡◌, zero, suc, map, Some, IsSome, refl, ap, subst, arith, true, false, cond, [], ◌∷◌, ◌++◌, Option, None, inl, inr, nat_eq, take, sym}
 use Rattle.std.specs.List.{find}
 use denote.Ref.{Bor}
-use Rattle.wit_items.proofs.Common.{Metadata, Span, World, Defined, DefinitionPart, Env, ExternPart, FunctionPart, Id, IncludePart, Names, Part, ResourceFunc, ScopeName, SourceFunction, TypeBody, UsePart, definition_functions, env_of, extern_at, flat_map_has, free_function, functions, in_turn, in_turn_has, local_name, local_names, lookup-listed, map_at, names_in, option_map, part_functions, part_names, parts, resource_function, scope_names, slice_get, slice_get-map, AreDistinct, body_ok, bytes_eq, differ_at, differ_by, find-append, insert_entry, lookup, meaning, meant_ok, name_cases, name_itself, option_or, or_none, pointwise, «Type» as Written, Address, AddsAfter, AddsFunctions, AllDiffer, AreEnded, Function, Imported, Name, Required, ResolvedScope, SideFunction, SideItem, TypeDef, TypeOwner, address, all_handles, all_handles-append, ended_append, ended_more, flat_map, function_name, is_ascii_uppercase, is_world, list_any, made_name, map_map, name_types, on_side, side_items, side_items_functions, written_types, part_of_function, option_and_then, WorldSide, names_on, items_on}
+use Rattle.wit_items.proofs.Common.{Metadata, Span, World, Defined, DefinitionPart, Env, ExternPart, FunctionPart, Id, IncludePart, Names, Part, ResourceFunc, ScopeName, SourceFunction, TypeBody, UsePart, definition_functions, env_of, extern_at, flat_map_has, free_function, functions, in_turn, in_turn_has, local_name, local_names, lookup-listed, map_at, names_in, option_map, part_functions, part_names, parts, resource_function, scope_names, slice_get, slice_get-map, AreDistinct, body_ok, bytes_eq, differ_at, differ_by, find-append, insert_entry, lookup, meaning, meant_ok, name_cases, name_itself, option_or, or_none, pointwise, «Type» as Written, Address, AddsFunctions, AllDiffer, AreEnded, Function, Imported, Name, Required, ResolvedScope, SideFunction, SideItem, TypeDef, TypeOwner, address, all_handles, all_handles-append, ended_append, ended_more, flat_map, function_name, is_ascii_uppercase, is_world, list_any, made_name, map_map, name_types, on_side, side_items, side_items_functions, written_types, part_of_function, option_and_then, WorldSide, names_on, items_on}
 use Rattle.wit_items.specs.declared.metadata.ItemMetadata.{ItemMetadata}
 use Rattle.wit_items.specs.BorrowedItems.{metadata_view, AreOf}
-use Rattle.wit_arena.proofs.Common.{Item}
+use Rattle.wit_arena.proofs.Common.{Item, world, WorldInclude, WorldItem, WorldKey}
 use Rattle.wit_rules.specs.Signatures.{owner_of, HasOwner, HaveOwners, AreResults}
 use Rattle.wit_item_entries.specs.AddedNames.{IsTurn, AddsTurn}
 use Rattle.wit_item_entries.proofs.ReachedFaults.{turn_texts}
@@ -16,7 +16,6 @@ use Rattle.wit_entries.specs.EntryFaults.{IsExtended, Requires}
 use Rattle.wit_signatures.specs.FunctionsOfScope.{name_of_function, name_of_made, name_key, name_of_id}
 use Rattle.wit_item_entries.specs.Body.{AddsBody}
 use Rattle.wit_item_entries.proofs.NameOrder.{differ_called, alone}
-use Rattle.wit_arena.proofs.Common.{world}
 use Rattle.wit_entries.proofs.Requiring.{requires_none}
 use Rattle.wit_entries.proofs.Resolves.{extended_same}
 use Rattle.wit_type_tree.specs.declared.types.TypeBody.TheVariants as body
@@ -25,8 +24,8 @@ use Rattle.wit_syntax.specs.SignatureRules.{ok_of}
 use Rattle.wit_externs.specs.Clash.{item_names}
 
 -- an item is what is stated of it
-pub world_stated : (name : List ℕ) (span : Span) (n : Metadata) (borrowed : ItemMetadata) (w : World) → AreOf n borrowed → w ≡ world name w.imports w.exports w.includes (metadata_view borrowed) span → w ≡ world name w.imports w.exports w.includes n span
-world_stated name span n borrowed w are says = (let docs = are.docs in let stability = are.stability in says ∙ cc (docs, stability))
+pub world_stated : (name : List ℕ) (span : Span) (n : Metadata) (borrowed : ItemMetadata) (w : World) (imports exports : List (WorldKey × WorldItem)) (includes : List WorldInclude) → AreOf n borrowed → w ≡ world name imports exports includes (metadata_view borrowed) span → w ≡ world name imports exports includes n span
+world_stated name span n borrowed w imports exports includes are says = (let docs = are.docs in let stability = are.stability in says ∙ cc (docs, stability))
 
 -- The resource of a function of an item is a name of its scope.
 resource_owner : (env : Env) (r : Id) (f : ResourceFunc) → IsSome (env r.name.now) → HasOwner env (owner_of (resource_function r f).role)
@@ -150,26 +149,20 @@ required_after env mid new ids more own all g p q =
     let first : AreEnded env new ids p.list = subst (λ (es : List TypeDef). AreEnded env es ids p.list) (sym g.is) (ended_more env env mid g.more ids p.list (λ name i present. present) p.ended) in
     subst (AreEnded env new (ids ++ more)) (sym (q.added ∙ ap (λ (l : List Required). l ++ q.list) p.added)) (ended_append env new ids more p.list q.list first q.ended)
 
--- the functions of an item come after its names
-functions_view : (old mid new : List TypeDef) (cs : List ResolvedScope) (o : TypeOwner) (item : Item) (types : Names) (ids : List Id) (own all : List Required) (fs : List Function) (n : AddsTurn old mid cs o (scope_names item) types ids own) → ((s : Address) → AddsFunctions mid new s types (functions item) fs) → IsExtended mid new → Requires (env_of types) new (all_handles (flat_map written_types (functions item))) own all → AddsAfter mid new item n.adds.order types fs all
-functions_view old mid new cs o item types ids own all fs n adds g q =
+-- so its names and its functions were added
+pub body_added : (old mid new : List TypeDef) (cs : List ResolvedScope) (o : TypeOwner) (item : Item) (types : Names) (ids : List Id) (own all : List Required) (fs : List Function) → AddsTurn old mid cs o (scope_names item) types ids own → ((s : Address) → AddsFunctions mid new s types (functions item) fs) → IsExtended mid new → Requires (env_of types) new (all_handles (flat_map written_types (functions item))) own all → map name_of_made fs ≡ map name_of_function (functions item) → ((side : WorldSide) → AllDiffer (map name_key (names_on side (map name_of_id ids) ++ flat_map item_names (items_on side (side_items item))))) → AddsBody old new cs o item types ids fs all
+body_added old mid new cs o item types ids own all fs n adds g q named differ =
     let names = flat_map name_types (in_turn (scope_names item) n.adds.order) in
     let others = flat_map written_types (functions item) in
     record {
-      adds = adds (address item);
+      middle = mid;
+      adds = n.adds;
+      turn = n.turn;
+      makes = adds (address item);
       ended = subst (λ (l : List Id). AreEnded (env_of types) new l all) (sym (all_handles-append names others)) (required_after (env_of types) mid new (all_handles names) (all_handles others) own all g n.handled q);
+      named = named;
+      differ = differ;
     }
-
--- so its names and its functions were added
-pub body_added : (old mid new : List TypeDef) (cs : List ResolvedScope) (o : TypeOwner) (item : Item) (types : Names) (ids : List Id) (own all : List Required) (fs : List Function) → AddsTurn old mid cs o (scope_names item) types ids own → ((s : Address) → AddsFunctions mid new s types (functions item) fs) → IsExtended mid new → Requires (env_of types) new (all_handles (flat_map written_types (functions item))) own all → map name_of_made fs ≡ map name_of_function (functions item) → ((side : WorldSide) → AllDiffer (map name_key (names_on side (map name_of_id ids) ++ flat_map item_names (items_on side (side_items item))))) → AddsBody old new cs o item types ids fs all
-body_added old mid new cs o item types ids own all fs n adds g q named differ = record {
-  middle = mid;
-  adds = n.adds;
-  turn = n.turn;
-  rest_after = functions_view old mid new cs o item types ids own all fs n adds g q;
-  named = named;
-  differ = differ;
-}
 
 -- an interface without functions adds none
 functions_none : (es : List TypeDef) (s : Address) (names : Names) → AddsFunctions es es s names [] []

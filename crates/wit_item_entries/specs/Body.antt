@@ -1,6 +1,7 @@
 -- What the names and the functions of an item add: the same of an interface and of a world.
 use Rattle.std.specs.Prelude.{◌≡◌, List, Vec, map, ◌++◌}
-use Rattle.wit_arena.specs.Common.{AddsAfter, AddsScope, Function, Global, Id, Item, Names, Required, ResolvedScope, TypeDef, TypeOwner, functions, in_turn, local_id, scope_names, side_items, AllDiffer, WorldSide, flat_map, items_on, names_on}
+use Rattle.wit_arena.specs.Common.{AddsScope, Function, Global, Id, Item, Names, Required, ResolvedScope, TypeDef, TypeOwner, functions, in_turn, local_id, scope_names, side_items, AllDiffer, WorldSide, flat_map, items_on, names_on, AddsFunctions, AreEnded, address, all_handles, env_of}
+use Rattle.wit_arena.specs.Names.{all_types}
 use Rattle.wit_signatures.specs.FunctionsOfScope.{name_of_function, name_of_made, name_key, name_of_id}
 use Rattle.wit_item_entries.specs.AddedNames.{AddsTurn}
 use Rattle.wit_item_entries.specs.declared.names.ResolvedNames.{ResolvedNames}
@@ -11,7 +12,8 @@ pub record AddsBody (old new : List TypeDef) (cs : List ResolvedScope) (o : Type
   pub middle : List TypeDef
   pub adds : AddsScope old middle cs o (scope_names item) types
   pub turn : ids ≡ map local_id (in_turn (scope_names item) adds.order)
-  pub rest_after : AddsAfter middle new item adds.order types fs rs
+  pub makes : AddsFunctions middle new (address item) types (functions item) fs
+  pub ended : AreEnded (env_of types) new (all_handles (all_types (in_turn (scope_names item) adds.order) (functions item))) rs
   pub named : map name_of_made fs ≡ map name_of_function (functions item)
   pub differ : (side : WorldSide) → AllDiffer (map name_key (names_on side (map name_of_id ids) ++ flat_map item_names (items_on side (side_items item))))
 

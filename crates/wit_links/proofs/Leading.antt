@@ -45,7 +45,7 @@ included items = flat_map part_includes (map world_part items)
 
 -- these are the includes that are written, wherever the worlds have these places
 abbrev pub AreIncluded : List Address → List TopName → List Include → List WorldInclude → Type 0
-AreIncluded worlds top written is = (ws : List Address) → GivesPlaces (scope_place ws) worlds → is ≡ map (include_in ws top) written
+AreIncluded worlds top written is = (length is ≡ length written) × ((ws : List Address) → GivesPlaces (scope_place ws) worlds → is ≡ map (include_in ws top) written)
 
 included-append : (items : List WorldItem) (x : WorldItem) → included (items ++ x ∷ []) ≡ included items ++ flat_map part_includes (world_part x ∷ [])
 included-append items x = ap (flat_map part_includes) (map-append world_part items (x ∷ [])) ∙ flat_map-append part_includes (map world_part items) (world_part x ∷ [])
@@ -74,7 +74,7 @@ include_from ws top n i stability place names span = (let same : include i.stabi
 
 -- one include more
 pub included_more : (worlds : List Address) (top : List TopName) (ns : List Include) (is : List WorldInclude) (n : Include) (i : WorldInclude) → AreIncluded worlds top ns is → ((ws : List Address) → GivesPlaces (scope_place ws) worlds → i ≡ include_in ws top n) → AreIncluded worlds top (ns ++ n ∷ []) (is ++ i ∷ [])
-included_more worlds top ns is n i are one ws gives = ap₂ (λ (l : List WorldInclude) (x : WorldInclude). l ++ x ∷ []) (are ws gives) (one ws gives) ∙ sym (map-append (include_in ws top) ns (n ∷ []))
+included_more worlds top ns is n i are one = (omega (arith, are.0, length-append is (i ∷ []), length-append ns (n ∷ [])), λ ws gives. ap₂ (λ (l : List WorldInclude) (x : WorldInclude). l ++ x ∷ []) (are.1 ws gives) (one ws gives) ∙ sym (map-append (include_in ws top) ns (n ∷ [])))
 
 -- the includes of a world are those of its item
 pub includes_are : (worlds : List Address) (top : List TopName) (w : Written) (is : List WorldInclude) → AreIncluded worlds top (included w.items.items) is → AreIncludes worlds (record { top = top; declared = TheWorld w }) is

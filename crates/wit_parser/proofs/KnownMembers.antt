@@ -1,7 +1,7 @@
 -- The scopes of a package are: all that occurs in files occurs in them, and each name of them means its place.
 use Rattle.std.proofs.Common.{◌≡◌, ℕ, suc, List, [], ◌∷◌, Some, ◌⊎◌, inl, inr, refl, sym, ap, ◌∙◌, subst}
 use Rattle.wit_items.proofs.Common.{Address, AreNames, Decls, Def, DoneScope, Exprs, ForeignName, ForeignUse, Form, Has, IsInSignatureOf, IsLegal, IsNameOf, IsPresent, IsWholeOf, Key, Makes, Names, Occurrence, PackageFile, ScopeName, Turned, TypeOwner, UnresolvedPackage, Whole, address, all_occurrences, all_seen, collects_from, declarations, env_of, expr_of, firsts_has, foreign_interfaces, foreign_use_key, foreign_use_occurrence, foreign_uses, has_either, has_from, in_use_has, interface_scopes, item_turns, keys, keys-append, local_name, lookup-listed, lookup-place, map, name_exprs, name_seen_in, names_of, occurrences, option_map, own_interfaces, owner_at, same_foreign_use, scope, seen, slice_get, slice_get-map, some_of, turn_occurrences, use_of_foreign-equal, use_of_foreign-from, used_from, uses_lead, visited, world_scopes}
-use Rattle.wit_arena.proofs.ScopesInTurn.{seen_in_turn}
+use Rattle.wit_arena.proofs.DoneNames.{seen_in_turn}
 use Rattle.wit_parser.proofs.KnownScopes.{IsKnown}
 use Rattle.wit_parser.proofs.KnownOwners.{scopes, known_at, interface_resolved_scope, turn_part}
 use Rattle.wit_arena.proofs.Wholes.{whole_in_names, whole_in_turn}
@@ -56,7 +56,7 @@ module _ (files : List PackageFile) (p : UnresolvedPackage) (legal : IsLegal fil
   own_name : (s : Address) (name : List ℕ) → Has (keys (occurrences (turns))) (Def s name) → IsNameOf cs s name
   own_name s name has =
       let t = has_from turn_occurrences turns (Def s name) has in
-      let it = name_seen_in t.1.address t.1.names s name (seen_in_turn t.1.address t.1.names t.1.functions s name t.3) in
+      let it = seen_in_turn t.1.address t.1.names t.1.functions s name t.3 in
       let c = turn_part files p legal m t.0 t.1 t.2 in
       let q = c.names it.1.0 it.1.1 it.1.2 in
       record { place = c.place; resolved_scope = c.resolved_scope; at = c.at; scope = c.scope ∙ sym it.0; index = q.0; x = it.1.1; among = q.1; called = it.1.3 }

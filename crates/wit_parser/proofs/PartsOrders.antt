@@ -7,7 +7,7 @@ use Rattle.wit_parser.proofs.PartsTurns.{IsPresent, RolePresent, FunctionPresent
 use Rattle.wit_parser.proofs.PartsScopes.{has_at, found_item, has_places, HasPlaces, side_entries-are}
 use Rattle.wit_parser.proofs.PartsSeen.{collects, collects_has, made_places}
 use Rattle.wit_parser.proofs.Images.{second_at}
-use Rattle.wit_arena.proofs.Settled.{side_types}
+use Rattle.wit_arena.proofs.MadeSides.{entries_types}
 use Rattle.wit_type_tree.specs.declared.types.TypeBody.TheVariants as body
 use Rattle.wit_type_tree.specs.declared.types.ResourceFunc.TheVariants as resource
 use Rattle.wit_model.specs.declared.world.WorldKey.TheVariants as key
@@ -213,7 +213,7 @@ module _ (files : List PackageFile) (p : UnresolvedPackage) (legal : IsLegal fil
 
   types_are : world_types w ≡ types
   types_are =
-      let none = settled_none import_types (includes i) on (side_types ss i.top Imported (side_items i) (map (function_in m.id (address i)) (functions i)) (map address (inline_items i)) on (side_is Imported)) in
+      let none = settled_none import_types (includes i) on (ap (λ (l : List (WorldSide × (WorldKey × WorldItem))). flat_map import_types (entries_on Imported l)) (entries_walked i m.id ss) ∙ entries_types (function_in m.id (address i)) ss i.top Imported (side_items i) (inline_items i)) in
       own_types (names_in_turn m.order i) types (settled (includes i) on) w (map_map (λ (n : List ℕ × ℕ). n.0) (λ (x : ScopeName). (local_name x, m.id (Def (address i) (local_name x)))) (names_in_turn m.order i)) (imports_are ∙ settled_types (includes i) (names_in_turn m.order i) types on) none
 
   pub world_typed : HasTypes (keys m.seen) (interface_turn m.order i) (world_types w)

@@ -5,7 +5,8 @@ use Rattle.wit_walk.proofs.Common.{Names, OfFunction, Use as WrittenUse}
 use Rattle.wit_arena.proofs.Common.{Item}
 use Rattle.wit_parser.proofs.PartsTurns.{AllPresent, After, Ready, has_prefix, has_of, ready_append, functions_ready, UsesPresent, NamesPresent, names_seen, names_ready, signature_known, turn_names, turn_ready, one_at, ready_kept}
 use Rattle.wit_syntax.specs.Broken.{Use}
-use Rattle.wit_arena.proofs.MadeScopes.{scope_place-found, interface_scopes-differ, world_scopes-differ}
+use Rattle.wit_arena.proofs.Interfaces.{scope_place-found}
+use Rattle.wit_arena.proofs.MadeScopes.{interface_scopes-differ, world_scopes-differ}
 use Rattle.wit_tree.specs.declared.tree.ExternKind.TheVariants as extern
 use Rattle.wit_model.specs.declared.world.WorldKey.TheVariants as key
 use Rattle.wit_model.specs.declared.world.WorldItem.TheVariants as item

@@ -1,6 +1,6 @@
 use Rattle.std.proofs.Common.{Some, length, map, refl, sym, ap, ◌∙◌, ◌≡◌, ◌++◌, ◌∷◌, []}
 use Rattle.wit_contents.proofs.Names.{AddsDeclared, AddsInterface, Appends, AppendsAll, Id, IsLent, about, adds_one, err_from_is_err_and, finds_memory, is_world, item_view, name_view, on_ok_weaker, prefix_of, resolved_scopes_of, scope_names}
-use Rattle.wit_arena.proofs.Common.{Interface, Item}
+use Rattle.wit_arena.proofs.Common.{Item}
 use Rattle.wit_item_entries.proofs.ReachedFaults.{done, failed}
 use Rattle.wit_contents.proofs.MemberFaults.{finds_right}
 use Rattle.wit_contents.proofs.WorldFaults.{item_called}
@@ -19,7 +19,7 @@ interface_of-requires c = record {
 pub add_interface-requires : goal.add_interface-requires
 add_interface-requires c = record {
   index = c.requires.index;
-  named = ap (λ (x : Interface). x.name) c.in_ok-interface.ensures.adds.appends.holds.says
+  named = c.in_ok-interface.ensures.adds.appends.holds.called
       ∙ ap (λ (i : Item). (about i.declared).called) c.scope-scope.ensures.item
       ∙ item_called c.args.interfaces.now.files c.args.item.now c.requires.item
       ∙ ap (λ (id : Id). Some id.name.now) (sym c.declared_name-id.ensures);

@@ -1,7 +1,7 @@
-use Rattle.std.proofs.Common.{sym, ap, ◌∙◌, subst, inl}
+use Rattle.std.proofs.Common.{ℕ, List, sym, ap, ◌∙◌, subst, inl}
 use Rattle.wit_contents.proofs.Names.{Id, Names, err_from_is_err_and, reports_prefix, resolved_scopes_of, scope_item}
-use Rattle.wit_arena.proofs.Common.{about, declared_metadata}
-use Rattle.wit_arena.proofs.MadeInterfaces.{interface_from}
+use Rattle.wit_arena.proofs.Common.{Function, about, declared_metadata, interface}
+use Rattle.wit_arena.proofs.MadeInterfaces.{interface_added, interface_from}
 use Rattle.wit_types.specs.declared.types.TypeOwner.TheVariants.{Interface as OfInterface}
 use Rattle.wit_entries.proofs.Requiring.{extended_then}
 use Rattle.wit_item_entries.specs.Body.{AddsBody}
@@ -44,14 +44,9 @@ returns-clause-adds c =
       appends = record {
         own = all;
         list = has.required;
-        holds = record {
-          says = interface_from (about item.declared).called (about item.declared).id.span (declared_metadata item.declared) i (has.called ∙ c.in_ok-name.ensures) (has.there ∙ ap (λ (id : Id). id.span) c.declared_name-id.ensures) (has.docs ∙ c.in_ok-head.ensures.as_stated.docs) (has.stability ∙ c.in_ok-head.ensures.as_stated.stability) has.own has.original;
-          middle = b.middle;
-          adds = b.adds;
-          functions = made.0;
-          rest_after = b.rest_after;
-          are_present = has.has ∙ made.2;
-        };
+        holds = interface_added cs c.args.place old b.middle new i all item b.adds made.0 b.makes (
+            interface_from (about item.declared).called (about item.declared).id.span (declared_metadata item.declared) i (has.called ∙ c.in_ok-name.ensures) (has.there ∙ ap (λ (id : Id). id.span) c.declared_name-id.ensures) (has.docs ∙ c.in_ok-head.ensures.as_stated.docs) (has.stability ∙ c.in_ok-head.ensures.as_stated.stability) has.own has.original
+            ∙ ap (λ (l : List (List ℕ × Function)). interface (about item.declared).called i.types l (declared_metadata item.declared) (about item.declared).id.span) (has.has ∙ made.2)) b.ended;
       };
       extended = extended_then old c.resolve_head.new.types new c.in_ok-head.ensures.extended e.extended;
     }

@@ -38,7 +38,7 @@ returns-then-not-have_upper_case-clause-adds c =
     λ world has ss known. record {
       own = names.required.items;
       list = alone.required;
-      holds = alone_adds item empty is (others_of is.files) ws.arena c.args.resolving.now.growing.types c.world_names.new.types c.args.resolving.now.growing.inside names.types names.turn.items names.required.items n world ss has.says (has.imports ∙ alone.imports (in_turn (scope_names item) n.adds.order) n.turn) (has.exports ∙ alone.exports) (rw has.includes are);
+      holds = alone_adds item empty is (others_of is.files) ws.arena c.args.resolving.now.growing.types c.world_names.new.types c.args.resolving.now.growing.inside names.types names.turn.items names.required.items n world _ _ _ ss has (alone.imports (in_turn (scope_names item) n.adds.order) n.turn) alone.exports are;
     }
 
 pub returns-then-not-have_upper_case-clause-first : goal.returns-then-not-have_upper_case-clause-first
@@ -61,7 +61,7 @@ pub walk_sides-requires : goal.walk_sides-requires
 walk_sides-requires c =
     let are = subst (λ (w : Item). AreIncludes (addresses_of c.args.worlds.now) w c.in_ok-includes.includes) (item_here c.args.item.now c.declared_world-world.result.now c.requires.item c.declared_world-world.ensures) c.in_ok-includes.ensures.are in
     let scope : WorldScope = record { names = c.in_ok-names.names; results = c.in_ok-written.written.results; functions = c.in_ok-written.written.functions; interfaces = c.args.worlds.now.interfaces; closed = c.is_closed-closed.result } in
-    let closed = c.is_closed-closed.ensures (written_includes (item_view c.args.item.now)) (ap length c.as_slice.ensures ∙ are.count) in
+    let closed = c.is_closed-closed.ensures (written_includes (item_view c.args.item.now)) (ap length c.as_slice.ensures ∙ are.0) in
     let walks = walk_there c.args.worlds.now.interfaces.now c.args.item.now scope _ _ c.requires c.declared_world-world.ensures (turn_added _ _ _ _ _ _ _ _ c.in_ok-names.ensures.adds) c.in_ok-written.ensures.functions c.deref-2.ensures.value c.in_ok-written.ensures.results closed in
     walks
 
@@ -78,7 +78,7 @@ returns-clause-adds c =
     let h = c.in_ok-walked.ensures.adds in
     let are = subst (λ (w : Item). AreIncludes (addresses_of c.args.worlds.now) w c.in_ok-includes.includes) (item_here c.args.item.now c.declared_world-world.result.now c.requires.item c.declared_world-world.ensures) c.in_ok-includes.ensures.are in
     let scope : WorldScope = record { names = c.in_ok-names.names; results = c.in_ok-written.written.results; functions = c.in_ok-written.written.functions; interfaces = c.args.worlds.now.interfaces; closed = c.is_closed-closed.result } in
-    let closed = c.is_closed-closed.ensures (written_includes (item_view c.args.item.now)) (ap length c.as_slice.ensures ∙ are.count) in
+    let closed = c.is_closed-closed.ensures (written_includes (item_view c.args.item.now)) (ap length c.as_slice.ensures ∙ are.0) in
     let walks = walk_there c.args.worlds.now.interfaces.now c.args.item.now scope _ _ c.requires c.declared_world-world.ensures (turn_added _ _ _ _ _ _ _ _ c.in_ok-names.ensures.adds) c.in_ok-written.ensures.functions c.deref-2.ensures.value c.in_ok-written.ensures.results closed in
     let made = c.in_ok-content.ensures in
     let middle : Growing = record { types = c.world_names.new.types; inside = c.args.resolving.now.growing.inside } in
@@ -86,7 +86,7 @@ returns-clause-adds c =
     λ world has ss known. record {
       own = required ++ m.required.items;
       list = made.required;
-      holds = content_adds (record { item = c.args.item.now; scope = scope; interfaces = is }) (others_of is.files) ws.arena c.args.resolving.now.growing.types middle new required m walks c.in_ok-names.ensures.adds h.0 h.1 h.2 world ss known has.says (has.imports ∙ made.sides Imported (written_includes item) closed) (has.exports ∙ made.sides Exported (written_includes item) closed) (rw (has.includes ∙ made.includes) are);
+      holds = content_adds (record { item = c.args.item.now; scope = scope; interfaces = is }) (others_of is.files) ws.arena c.args.resolving.now.growing.types middle new required m walks c.in_ok-names.ensures.adds h.0 h.1 h.2 world _ _ _ ss known has (made.sides Imported (written_includes item) closed) (made.sides Exported (written_includes item) closed) (rw made.includes are);
     }
 
 -- the first fault: of its names, of its includes, or of what is on its sides
@@ -113,7 +113,7 @@ returns-in_err-walked-clause-first c =
     let included = sym (ap (includes_fault c.args.worlds.now) (item_here c.args.item.now c.declared_world-world.result.now c.requires.item c.declared_world-world.ensures)) ∙ c.in_ok-includes.ensures.first in
     let are = subst (λ (w : Item). AreIncludes (addresses_of c.args.worlds.now) w c.in_ok-includes.includes) (item_here c.args.item.now c.declared_world-world.result.now c.requires.item c.declared_world-world.ensures) c.in_ok-includes.ensures.are in
     let scope : WorldScope = record { names = c.in_ok-names.names; results = c.in_ok-written.written.results; functions = c.in_ok-written.written.functions; interfaces = c.args.worlds.now.interfaces; closed = c.is_closed-closed.result } in
-    let closed = c.is_closed-closed.ensures (written_includes (item_view c.args.item.now)) (ap length c.as_slice.ensures ∙ are.count) in
+    let closed = c.is_closed-closed.ensures (written_includes (item_view c.args.item.now)) (ap length c.as_slice.ensures ∙ are.0) in
     let walks = walk_there c.args.worlds.now.interfaces.now c.args.item.now scope _ _ c.requires c.declared_world-world.ensures (turn_added _ _ _ _ _ _ _ _ c.in_ok-names.ensures.adds) c.in_ok-written.ensures.functions c.deref-2.ensures.value c.in_ok-written.ensures.results closed in
     rw (p.1, p.2) (λ stable wrong right. world_found c.args.worlds.now c.args.item.now c.args.resolving.now.growing wrong right c.requires.item.named stable scope c.world_names.new.types e.adds e.first included (failed _) walks c.in_err-walked.ensures.first)
 
@@ -123,7 +123,7 @@ returns-clause-first c = λ stable wrong right.
     let included = sym (ap (includes_fault c.args.worlds.now) (item_here c.args.item.now c.declared_world-world.result.now c.requires.item c.declared_world-world.ensures)) ∙ c.in_ok-includes.ensures.first in
     let are = subst (λ (w : Item). AreIncludes (addresses_of c.args.worlds.now) w c.in_ok-includes.includes) (item_here c.args.item.now c.declared_world-world.result.now c.requires.item c.declared_world-world.ensures) c.in_ok-includes.ensures.are in
     let scope : WorldScope = record { names = c.in_ok-names.names; results = c.in_ok-written.written.results; functions = c.in_ok-written.written.functions; interfaces = c.args.worlds.now.interfaces; closed = c.is_closed-closed.result } in
-    let closed = c.is_closed-closed.ensures (written_includes (item_view c.args.item.now)) (ap length c.as_slice.ensures ∙ are.count) in
+    let closed = c.is_closed-closed.ensures (written_includes (item_view c.args.item.now)) (ap length c.as_slice.ensures ∙ are.0) in
     let walks = walk_there c.args.worlds.now.interfaces.now c.args.item.now scope _ _ c.requires c.declared_world-world.ensures (turn_added _ _ _ _ _ _ _ _ c.in_ok-names.ensures.adds) c.in_ok-written.ensures.functions c.deref-2.ensures.value c.in_ok-written.ensures.results closed in
     world_found c.args.worlds.now c.args.item.now c.args.resolving.now.growing wrong right c.requires.item.named stable scope c.world_names.new.types e.adds e.first included (done c.in_ok-walked.walked) walks c.in_ok-walked.ensures.first
 

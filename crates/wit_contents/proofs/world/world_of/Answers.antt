@@ -8,22 +8,15 @@ use Rattle.wit_contents.proofs.FileFaults.{memory_found}
 use Rattle.wit_contents.proofs.world.world_of.Goals as goal
 
 pub returns-clause-named : goal.returns-clause-named
-returns-clause-named c = ap (λ (w : World). w.name) c.in_ok-world.ensures.says ∙ ap (λ (id : Id). id.name.now) c.declared_name-id.ensures
+returns-clause-named c = ap (λ (w : World). w.name) c.in_ok-world.ensures ∙ ap (λ (id : Id). id.name.now) c.declared_name-id.ensures
 
 pub returns-clause-adds : goal.returns-clause-adds
 returns-clause-adds c =
     let item = item_view c.args.item.now in
     let made = c.in_ok-world.world in
-    let e = c.in_ok-world.ensures in
     let content = rw c.in_ok-metadata.ensures.both.1 at c.world_content-content.ensures.adds in
-    let says : made ≡ world (about item.declared).id.name.now made.imports made.exports made.includes (metadata_view c.in_ok-metadata.metadata) (about item.declared).id.span = rw c.declared_name-id.ensures at e.says in
-    let own : HasContent (about item.declared).id (declared_metadata item.declared) c.in_ok-metadata.content made = record {
-      says = world_stated (about item.declared).id.name.now (about item.declared).id.span (declared_metadata item.declared) c.in_ok-metadata.metadata made (rw c.in_ok-metadata.ensures.both.0 c.in_ok-as_stated.ensures.as_stated) says;
-      imports = e.imports;
-      exports = e.exports;
-      includes = e.includes;
-    } in
-    content made own
+    let has : HasContent (about item.declared).id (metadata_view c.in_ok-metadata.metadata) c.in_ok-metadata.content made = rw c.declared_name-id.ensures at c.in_ok-world.ensures in
+    content made (world_stated (about item.declared).id.name.now (about item.declared).id.span (declared_metadata item.declared) c.in_ok-metadata.metadata made c.in_ok-metadata.content.sides.imports c.in_ok-metadata.content.sides.exports c.in_ok-metadata.content.includes (rw c.in_ok-metadata.ensures.both.0 c.in_ok-as_stated.ensures.as_stated) has)
 
 pub returns-in_err-as_stated-clause-first : goal.returns-in_err-as_stated-clause-first
 returns-in_err-as_stated-clause-first c =

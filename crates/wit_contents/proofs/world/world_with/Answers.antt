@@ -1,5 +1,5 @@
 use Rattle.std.proofs.Common.{refl, ap, ◌∙◌}
-use Rattle.wit_arena.proofs.MadeWorlds.{world_from}
+use Rattle.wit_arena.proofs.MadeWorlds.{world_from, world_stated}
 use Rattle.wit_items.specs.BorrowedItems.{metadata_view}
 use Rattle.wit_items.specs.declared.metadata.ItemMetadata.{ItemMetadata}
 use Rattle.wit_contents.specs.declared.world.WorldContent.{WorldContent}
@@ -11,9 +11,7 @@ returns c =
     let name = rw c.in_ok-parts.ensures.both.1 at c.from_str-name.ensures in
     let docs = ap (λ (p : ItemMetadata × WorldContent). p.0.docs) parts in
     let stability = ap (λ (p : ItemMetadata × WorldContent). p.0.stability) parts in
-    record {
-      says = world_from c.args.id.name.now c.args.id.span (metadata_view c.args.metadata) _ name refl docs stability refl;
-      imports = c.shrunk.ensures ∙ ap (λ (p : ItemMetadata × WorldContent). p.1.sides.imports) parts;
-      exports = c.shrunk-2.ensures ∙ ap (λ (p : ItemMetadata × WorldContent). p.1.sides.exports) parts;
-      includes = ap (λ (p : ItemMetadata × WorldContent). p.1.includes) parts;
-    }
+    world_stated c.args.id.name.now c.args.id.span (metadata_view c.args.metadata) _ _ _ _ _ _ _ (world_from c.args.id.name.now c.args.id.span (metadata_view c.args.metadata) _ name refl docs stability refl)
+    (c.shrunk.ensures ∙ ap (λ (p : ItemMetadata × WorldContent). p.1.sides.imports) parts)
+    (c.shrunk-2.ensures ∙ ap (λ (p : ItemMetadata × WorldContent). p.1.sides.exports) parts)
+    (ap (λ (p : ItemMetadata × WorldContent). p.1.includes) parts)

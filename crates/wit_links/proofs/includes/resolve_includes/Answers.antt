@@ -14,7 +14,7 @@ part_at items xs k x y all lt is same = ap (λ (l : List WorldItem). slice_get l
 
 pub loop-part-init : goal.loop-part-init
 loop-part-init c = record {
-  are = λ ws gives. c.in_ok-includes.ensures.items;
+  are = (ap length c.in_ok-includes.ensures.items, λ ws gives. c.in_ok-includes.ensures.items);
   first = refl;
 }
 
