@@ -1,9 +1,9 @@
 -- Interfaces that were added are done.
 use Rattle.std.proofs.Common.{◌≡◌, ℕ, ◌+◌, true, false, List, [], ◌∷◌, ◌++◌, length, map, Option, Some, inl, inr, refl, sym, ap, ◌∙◌, subst, append_assoc, length-append, suc, ◌⊎◌, arith, add-zero, zero-add}
-use Rattle.wit_arena.proofs.Names.{Address, AddsDeclared, AddsForeign, AddsInterfaces, Decls, Imported, Interface, InterfaceNamed, Item, Names, Occurrence, PackageFile, Required, ResolvedScope, ScopeName, TypeDef, TypeOwner, World, address, all_items, all_occurrences, append-cancel, append-nil, at_back, at_part, at_prefix, declarations, flat_map, foreign_interfaces, foreign_use_occurrence, foreign_uses, foreign_worlds, functions, in_turn, inline_items, interface_functions, is_foreign, length-map, map-append, option_map, owner_at, resolved_scope, resolved_scopes, scope, scope_names, slice_get, slice_get-map, unwrap_or, visited, AreRequired, Function, FunctionKey, Id, Turned, WorldArenas, WorldItem, WorldKey, WorldNamed, after_one, all_handles, at_either, at_split, flat_map-append, flat_map_at, flat_map_has, import_types, keys, local_names, name_types, side_items, turn_handles, turn_occurrences, type_imports, world_functions, world_types, «Type» as Written, AddsEach, AddsInterface, GivesPlaces, IsOrder, Key, all_types, at_seam, own_interface, own_world, rows_of, scope_place}
+use Rattle.wit_arena.proofs.Names.{Address, AddsDeclared, AddsForeign, AddsInterfaces, Decls, Imported, Interface, InterfaceNamed, Item, Names, Occurrence, PackageFile, Required, ResolvedScope, ScopeName, TypeDef, TypeOwner, World, address, all_items, all_occurrences, append-cancel, append-nil, at_back, at_part, at_prefix, declarations, flat_map, foreign_interfaces, foreign_use_occurrence, foreign_uses, foreign_worlds, functions, in_turn, inline_items, interface_functions, is_foreign, length-map, map-append, option_map, owner_at, resolved_scope, resolved_scopes, scope, scope_names, slice_get, slice_get-map, unwrap_or, visited, AreRequired, Function, FunctionKey, Id, Turned, WorldArenas, WorldItem, WorldKey, WorldNamed, after_one, all_handles, at_split, flat_map-append, flat_map_at, flat_map_has, import_types, keys, local_names, name_types, side_items, turn_handles, turn_occurrences, type_imports, world_functions, world_types, «Type» as Written, AddsEach, AddsInterface, GivesPlaces, IsOrder, Key, all_types, at_seam, own_interface, own_world, rows_of, scope_place}
 use Rattle.wit_arena.proofs.FreeNames.{free_of, free_keyed}
 use Rattle.wit_arena.proofs.Settled.{world_types-all}
-use Rattle.wit_arena.proofs.Ordered.{Ordered, OrderedWorld, addresses, turned, side_turns, world_turns, all_turns, all_inside}
+use Rattle.wit_arena.proofs.Ordered.{Ordered, OrderedWorld, turned, side_turns, world_turns, all_turns, all_inside}
 use Rattle.wit_arena.proofs.Adding.{After, adds_after}
 use Rattle.wit_arena.proofs.Indexing.{resolved_scopes-append}
 use Rattle.wit_arena.proofs.Resolving.{DoneScope, resolved_scope_of, IsDone, IsTurn, done_as, turn_of}
@@ -16,7 +16,7 @@ use Rattle.wit_arena.proofs.Turns.{item_of, own_item, names_turn, occurrences, a
 use Rattle.wit_arena.proofs.OneKind.{Extended}
 use Rattle.wit_arena.proofs.DoneNames.{are_known, are_new, are_owned, none_named, required_there, scope_done, seen_in_turn}
 use Rattle.wit_arena.proofs.Occurrence.{collects_extended}
-use Rattle.wit_arena.proofs.Placing.{gives_fewer, gives_in, place_in}
+use Rattle.wit_arena.proofs.Placing.{gives_fewer}
 use Rattle.wit_arena.proofs.PlacingFunctions.{types_present}
 use Rattle.wit_types.specs.declared.types.TypeOwner.TheVariants as owner
 use Rattle.wit_syntax.specs.Source as source
@@ -293,7 +293,6 @@ pub record AreWorldsDone (files : List PackageFile) (is ws : List Item) (wprefix
   pub laid : AreLaid world_resolved_scope ws (map own_order ordered) own (map own_scope scopes)
   pub inside_turns : map turn_of (all_within scopes) ≡ map turned (all_inside ordered)
   pub inside_least : (t : ℕ) (o : Ordered) → slice_get (all_inside ordered) t ≡ Some o → IsOrder (rows_of (scope_names o.item)) o.order
-  pub addresses : a.addresses ≡ map address (inside_of us)
   pub done : IsDone files (decls files is ws) (all_occurrences files (all_turns base ordered)) (first ++ flat_map scopes_of scopes) es
   pub made : (id : Key → ℕ) → GivesPlaces id (keys done.seen) → (ss vs : List Address) → GivesPlaces (scope_place ss) (interface_list files is (inside_of ws)) → GivesPlaces (scope_place vs) (world_list files ws) → own ≡ map (ordered_world id ss vs) ordered
   pub inside_made : (id : Key → ℕ) → GivesPlaces id (keys done.seen) → a.inside ≡ map (ordered_interface id) (all_inside ordered)

@@ -2,8 +2,8 @@
 use Rattle.std.proofs.Common.{◌≡◌, ℕ, suc, List, [], ◌∷◌, ◌++◌, length, Option, Some, None, refl, sym, ap, ◌∙◌, arith}
 use Rattle.wit_arena.proofs.Names.{Address, AllDiffer, AreFunctions, AreMetadata, Def, Docs, Function, FunctionKind, GivesPlaces, Id, IsAt, Key, OneByOne, Param, ScopeName, Shape, SourceFunction, SourceParam, Span, Stability, Turned, all_params, docs_of, expr_of, exprs_of, function_in, function_types, gathered, length-map, local_name, map, map-append, map_map, metadata, name_places, option_map, option_to_list, role_kind, signature, slice_get, slice_get-map, type_of, types_of, ForeignVisit, Interface, PackageFile, map_at, no_docs, scope, visited, interface, AreDistinct, AreNames, differ_at, env_of, lookup-at}
 use Rattle.wit_types.specs.declared.types.«Type».{«Type» as Ty}
-use Rattle.wit_arena.proofs.OneKind.{Extended, same_some}
-use Rattle.wit_arena.proofs.Placing.{at_places, gives_fewer, gives_in, place_in, place_seen}
+use Rattle.wit_arena.proofs.OneKind.{same_some}
+use Rattle.wit_arena.proofs.Placing.{at_places, gives_in, place_in, place_seen}
 
 -- what is one by one beside a list, where what is beside each of its elements is stated, is its image
 pub one_by_one-image : {X Y : Type 0} (Holds : X → Y → Type 0) (f : X → Y) (xs : List X) (ys : List Y) → ((k : ℕ) (x : X) (y : Y) → slice_get xs k ≡ Some x → Holds x y → y ≡ f x) → OneByOne Holds xs ys → ys ≡ map f xs

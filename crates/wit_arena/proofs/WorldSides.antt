@@ -169,11 +169,11 @@ module _ (files : List PackageFile) (is ws : List Item) (interfaces : AreOfSort 
         prefix_longer others named (map address ws) (laid_place e.laid) t x (ap (λ (l : List Address). slice_get l t) (sym whole) ∙ at)
 
     -- so is that of an interface
-    pub interface_added : (ts : List Address) → ts ≡ a.addresses ++ map address (inline_items w) → (t : ℕ) (x : Address) → slice_get (interfaces_at ss (prefix ++ xs) ++ ts) t ≡ Some x → slice_get (interface_list files is (inside_of ws)) t ≡ Some x
-    interface_added ts are t x at =
-        let own : ts ≡ map address (inside_of (us ++ w ∷ [])) = are ∙ ap (λ (l : List Address). l ++ map address (inline_items w)) e.addresses ∙ sym (map-append address (inside_of us) (inline_items w)) ∙ ap (map address) (sym inside_split) in
+    pub interface_added : (t : ℕ) (x : Address) → slice_get (interfaces_at ss (prefix ++ xs) ++ (map address (inside_of us) ++ map address (inline_items w))) t ≡ Some x → slice_get (interface_list files is (inside_of ws)) t ≡ Some x
+    interface_added t x at =
         let some : List Address = map address (inside_of (us ++ w ∷ [])) in
-        let whole : interfaces_at ss (prefix ++ xs) ++ ts ≡ (ss ++ map address is) ++ some = ap (λ (l : List Address). l ++ ts) interface_names ∙ ap (λ (l : List Address). (ss ++ map address is) ++ l) own in
+        let own : map address (inside_of us) ++ map address (inline_items w) ≡ some = sym (map-append address (inside_of us) (inline_items w)) ∙ ap (map address) (sym inside_split) in
+        let whole : interfaces_at ss (prefix ++ xs) ++ (map address (inside_of us) ++ map address (inline_items w)) ≡ (ss ++ map address is) ++ some = ap (λ (l : List Address). l ++ (map address (inside_of us) ++ map address (inline_items w))) interface_names ∙ ap (λ (l : List Address). (ss ++ map address is) ++ l) own in
         let all : (ss ++ map address is) ++ map address (inside_of ws) ≡ interface_list files is (inside_of ws) = append_assoc ss (map address is) (map address (inside_of ws)) ∙ ap (λ (l : List Address). ss ++ l) (sym (map-append address is (inside_of ws))) in
         let longer = λ (k : ℕ) (y : Address) (h : slice_get some k ≡ Some y). (let i = map_at address (inside_of (us ++ w ∷ [])) k y h in slice_get-map address (inside_of ws) k ∙ ap (option_map address) (inside_prefix k i.0 i.1) ∙ ap Some i.2) in
         ap (λ (l : List Address). slice_get l t) (sym all) ∙ prefix_longer (ss ++ map address is) some (map address (inside_of ws)) longer t x (ap (λ (l : List Address). slice_get l t) (sym whole) ∙ at)

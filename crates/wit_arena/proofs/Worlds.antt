@@ -2,7 +2,7 @@
 use Rattle.std.proofs.Common.{◌≡◌, ℕ, suc, ◌+◌, true, false, List, [], ◌∷◌, ◌++◌, length, map, Some, inl, inr, refl, sym, ap, ◌∙◌, subst, append_assoc, arith, length-append, zero-add, add-zero}
 use Rattle.wit_arena.proofs.Names.{Address, Id, WorldItem, WorldKey, WorldSide, world_entries, AddsForeign, AddsWorld, AddsWorlds, AreRequired, Function, FunctionKey, Imported, Interface, Item, Names, Occurrence, PackageFile, Required, ScopeName, Turned, TypeDef, World, WorldArenas, address, all_handles, all_items, all_occurrences, append-nil, at_either, at_seam, flat_map, flat_map-append, foreign_interfaces, foreign_worlds, functions, import_types, in_turn, includes, inline_items, keys, length-inline_after, length-map, local_names, map-append, name_types, nil_from_length, prefix_worlds, scope_names, settled, side_items, slice_get, turn_handles, visited, world_functions, AreNames, Extends, GivesPlaces, Key, at_part, env_of, in_turn_distinct, names_in, scope_place, entries_on, function_in, name_places, type_imports}
 use Rattle.wit_arena.proofs.Visits.{AreUsableUses}
-use Rattle.wit_arena.proofs.Ordered.{Ordered, OrderedWorld, addresses, turned, side_turns, world_turns, all_turns, all_inside}
+use Rattle.wit_arena.proofs.Ordered.{Ordered, OrderedWorld, turned, side_turns, world_turns, all_turns, all_inside}
 use Rattle.wit_arena.proofs.DoneWorlds.{InterfacesDone, inside_of, interface_list, world_list, decls, world_resolved_scope, DoneWorld, own_scope, scopes_of, all_within, own_order, AreWorldsDone, named_world, own_types, written_more, scopes_more, handles_more, ordered_interface, ordered_world, all_addresses}
 use Rattle.wit_arena.proofs.Sided.{AreSided}
 use Rattle.wit_arena.proofs.DoneNames.{required_there}
@@ -16,7 +16,7 @@ use Rattle.wit_arena.proofs.OneKind.{Extended, extended_trans}
 use Rattle.wit_arena.proofs.Required.{in_scope, required_none, required_append, required_extended}
 use Rattle.wit_arena.proofs.Settled.{settled_none, settled_types}
 use Rattle.wit_arena.proofs.Resolving.{DoneScope, turn_of, resolved_scope_of, IsDone, done_as}
-use Rattle.wit_arena.proofs.WorldSides.{place, inside_split, world_added, interface_added, c, names_done, sides_done, added}
+use Rattle.wit_arena.proofs.WorldSides.{count_inside, place, inside_split, world_added, interface_added, c, names_done, sides_done, added}
 use Rattle.wit_arena.proofs.Turns.{item_of, own_item, all_name_occurrences}
 use Rattle.wit_arena.proofs.Placing.{gives_fewer, gives_in, place_in}
 use Rattle.wit_arena.proofs.MadeWorlds.{type_imports-as_stated}
@@ -51,9 +51,6 @@ module _ (files : List PackageFile) (is ws : List Item) (interfaces : AreOfSort 
     module _ (new : List TypeDef) (b : WorldArenas) (rs : List Required) (adds : AddsWorld ss others (prefix ++ xs) old new a b rs w) where
       abbrev turns_names : List ScopeName
       turns_names = in_turn (scope_names w) adds.adds.order
-
-      abbrev inside_addresses : List Address
-      inside_addresses = map address (inline_items w)
 
       abbrev both : List (FunctionKey × Function)
       both = world_functions adds.added
@@ -111,8 +108,8 @@ module _ (files : List PackageFile) (is ws : List Item) (interfaces : AreOfSort 
       -- over places it is this world
       world_is : (id : Key → ℕ) → GivesPlaces id ks → (ss vs : List Address) → GivesPlaces (scope_place ss) (interface_list files is (inside_of ws)) → GivesPlaces (scope_place vs) (world_list files ws) → adds.added ≡ ordered_world id ss vs world
       world_is id gives ss vs here there =
-          adds.made id (typed id gives) (sided.functions id gives) ss vs
-          (record { at = λ t x at. here.at t x (interface_added files is ws interfaces worlds is_items ws_items uses es prefix wprefix foreign middle xs irs d us old a qs e w next b.addresses adds.more t x at) })
+          adds.made id (typed id gives) (sided.functions id gives) (map address (inside_of us)) (length-map (inside_of us) address ∙ sym (count_inside files is ws interfaces worlds is_items ws_items uses es prefix wprefix foreign middle xs irs d us old a qs e w next)) ss vs
+          (record { at = λ t x at. here.at t x (interface_added files is ws interfaces worlds is_items ws_items uses es prefix wprefix foreign middle xs irs d us old a qs e w next t x at) })
           (record { at = λ t x at. there.at t x (world_added files is ws interfaces worlds is_items ws_items uses es prefix wprefix foreign middle xs irs d us old a qs e w next t x at) })
 
       is_resolved_scope : resolved_scope_of closed ≡ world_resolved_scope adds.added
@@ -158,7 +155,6 @@ module _ (files : List PackageFile) (is ws : List Item) (interfaces : AreOfSort 
           | inl h ↦ e.inside_least h.0 o h.1
           | inr h ↦ sided.least h.0 o h.1
         ];
-        addresses = adds.more ∙ ap (λ (l : List Address). l ++ inside_addresses) e.addresses ∙ sym (map-append address (inside_of us) (inline_items w)) ∙ ap (map address) (sym (inside_split files is ws interfaces worlds is_items ws_items uses es prefix wprefix foreign middle xs irs d us old a qs e w next));
         done = done_as (sym (written_more files d.ordered e.ordered world s turns_names refl)) (sym (scopes_more before e.scopes world_done)) sided.done;
         made = λ id gives ss vs here there. ap (λ (l : List World). l ++ adds.added ∷ []) (e.made id (gives_fewer extended_before id gives) ss vs here there) ∙ ap (λ (v : World). map (ordered_world id ss vs) e.ordered ++ v ∷ []) (world_is id gives ss vs here there) ∙ sym (map-append (ordered_world id ss vs) e.ordered (world ∷ []));
         inside_made = λ id gives. sided.last ∙ ap (λ (l : List Interface). l ++ sided.added) (e.inside_made id (gives_fewer extended_before id gives)) ∙ ap (λ (l : List Interface). map (ordered_interface id) (all_inside e.ordered) ++ l) (sided.made id gives) ∙ sym (map-append (ordered_interface id) (all_inside e.ordered) sided.ordered) ∙ ap (map (ordered_interface id)) (sym inside_orders);
@@ -178,7 +174,6 @@ module _ (files : List PackageFile) (is ws : List Item) (interfaces : AreOfSort 
     laid = laid_none world_resolved_scope ws;
     inside_turns = refl;
     inside_least = λ t o at. absurd (let f : ⊥ = cc in f);
-    addresses = refl;
     done = done_as (ap (all_occurrences files) (sym (append-nil (map turned d.ordered)))) (sym (append-nil before)) d.done;
     made = λ id gives ss vs here there. refl;
     inside_made = λ id gives. refl;

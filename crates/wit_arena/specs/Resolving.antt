@@ -1,6 +1,6 @@
 -- What resolving does: to the arena of types, from whatever occurred before, and to those of interfaces and worlds.
 use Rattle.std.specs.Prelude.{◌≡◌, ℕ, List, [], ◌∷◌, ◌++◌, length, map, Option, Some, None, ◌⊎◌, slice_get, nat_eq, IsSome, ◌+◌, take, Contains}
-use Rattle.wit_arena.specs.Names.{Address, AreDistinct, Exported, ForeignUse, Function, Id, Imported, Interface, InterfaceNamed, IsOrder, Item, Metadata, PackageFile, ScopeName, Shape, Shapes, SideFunction, SideInline, SideItem, SideLink, SourceFunction, Span, Stability, TypeDef, TypeDefKind, TypeOwner, Unknown, World, WorldNamed, about, address, all_handles, all_types, declared_metadata, first_foreign_uses, flat_map, foreign_interfaces, foreign_worlds, functions as item_functions, in_turn, includes, inline_items, insert_entry, local_name, local_names, lookup, metadata, name_types, no_docs, pointwise, rows_of, scope_names, side_items, unwrap_or, visited, written_types, «Type» as Ty, signature, stability_of, WorldInclude, AllDiffer, about_name}
+use Rattle.wit_arena.specs.Names.{Address, AreDistinct, ForeignUse, Function, Id, Interface, InterfaceNamed, IsOrder, Item, Metadata, PackageFile, ScopeName, Shape, Shapes, SideFunction, SideInline, SideItem, SideLink, SourceFunction, Span, Stability, TypeDef, TypeDefKind, TypeOwner, Unknown, World, WorldNamed, about, address, all_handles, all_types, first_foreign_uses, flat_map, foreign_interfaces, foreign_worlds, functions as item_functions, in_turn, includes, inline_items, insert_entry, local_name, local_names, lookup, metadata, name_types, no_docs, pointwise, rows_of, scope_names, side_items, unwrap_or, visited, written_types, «Type» as Ty, signature, stability_of, WorldInclude, AllDiffer, about_name}
 use Rattle.wit_arena.specs.Occurrences.{exprs_of, Key, Def, Occurrence, keys, IsSeen, Collects, Decls, name_occurrences, settled, shape_occurrences, shapes_occurrences, types_of}
 use Rattle.wit_arena.specs.UnfoldedTypes.{At}
 use Rattle.wit_arena.specs.SourceFunctions.{freestanding_names}
@@ -214,18 +214,16 @@ AddsSides cs count s names old new is is' fs rs (SideLink link ∷ xs) inside = 
 AddsSides cs count s names old new is is' fs rs (SideInline x name items ∷ xs) [] = ⊥
 AddsSides cs count s names old new is is' fs rs (SideInline x name items ∷ xs) (i ∷ inside) = (mid : List TypeDef) × (added : Interface) × (own : List Required) × (rest : List Required) × (rs ≡ own ++ rest) × AddsInterface cs (count + length is) old mid added own i × AddsSides cs count s names mid new (is ++ added ∷ []) is' fs rest xs inside
 
--- the worlds of the arena, and the interfaces that are written in them, with their addresses
+-- the worlds of the arena, and the interfaces that are written in them
 pub record WorldArenas : Type 0 where
   pub worlds : List World
   pub inside : List Interface
-  pub addresses : List Address
 
 -- What a world adds to the arenas, where these are the declared interfaces, and at first those at these addresses: over the places of what it
 -- names, and wherever the interfaces and the worlds are, it is this one.
 pub record AddsWorld (foreign others : List Address) (is : List Interface) (old new : List TypeDef) (a b : WorldArenas) (rs : List Required) (item : Item) : Type 0 where
   pub added : World
   pub last : b.worlds ≡ a.worlds ++ added ∷ []
-  pub more : b.addresses ≡ a.addresses ++ map address (inline_items item)
   pub types : Names
   pub middle : List TypeDef
   pub adds : AddsScope old middle (resolved_scopes foreign is) (owner.World (length a.worlds)) (scope_names item) types
@@ -235,7 +233,7 @@ pub record AddsWorld (foreign others : List Address) (is : List Interface) (old 
   pub rest : List Required
   pub requires : rs ≡ own ++ rest
   pub sides : AddsSides (resolved_scopes foreign is) (length is) (address item) types middle new a.inside b.inside functions rest (side_items item) (inline_items item)
-  pub made : (id : Key → ℕ) → types ≡ name_places id (address item) (in_turn (scope_names item) adds.order) → functions ≡ map (function_in id (address item)) (item_functions item) → (ss ws : List Address) → GivesPlaces (scope_place ss) (interfaces_at foreign is ++ b.addresses) → GivesPlaces (scope_place ws) (worlds_at others a.worlds) → added ≡ own_world id (λ i. adds.order) ss ws item
+  pub made : (id : Key → ℕ) → types ≡ name_places id (address item) (in_turn (scope_names item) adds.order) → functions ≡ map (function_in id (address item)) (item_functions item) → (before : List Address) → length before ≡ length a.inside → (ss ws : List Address) → GivesPlaces (scope_place ss) (interfaces_at foreign is ++ (before ++ map address (inline_items item))) → GivesPlaces (scope_place ws) (worlds_at others a.worlds) → added ≡ own_world id (λ i. adds.order) ss ws item
 
 -- what items add to the arenas, one after another, and what they require, where `Adds` says what one of them does
 abbrev pub AddsEach : {X : Type 0} → (List TypeDef → List TypeDef → X → X → List Required → Item → Type 0) → List TypeDef → List TypeDef → X → X → List Required → List Item → Type 0
@@ -252,7 +250,7 @@ AddsWorlds foreign others is old new a b rs items = AddsEach (AddsWorld foreign 
 
 -- the arenas with these worlds in front
 abbrev pub prefix_worlds : List World → WorldArenas
-prefix_worlds ws = record { worlds = ws; inside = []; addresses = [] }
+prefix_worlds ws = record { worlds = ws; inside = [] }
 
 -- the entry of a name of another package: nothing is known of it but whose it is
 abbrev pub foreign_type : List PackageFile → ForeignUse → TypeDef

@@ -1,6 +1,6 @@
 -- The kinds and the names of functions, and what is on the sides of a world, after types.
-use Rattle.std.specs.Prelude.{◌≡◌, ℕ, List, [], ◌∷◌, map, Some, slice_get, codes, if◌then◌else◌, ◌++◌, Option}
-use Rattle.wit_arena.specs.Names.{Address, Extern, ExternalId, Function, FunctionKind, Id, Include, Item, Link, SideFunction, SideInline, SideItem, SideLink, TopName, WorldItem, WorldKey, WorldSide, docs_of, function_of, includes, no_docs, option_map_or, option_to_list, path_id, path_scope, placed, role_side, same_side, side_items, stability_of, stated_text, unwrap_or}
+use Rattle.std.specs.Prelude.{ℕ, List, [], ◌∷◌, map, Some, codes, if◌then◌else◌, Option}
+use Rattle.wit_arena.specs.Names.{Extern, ExternalId, Function, FunctionKind, Id, Include, Link, WorldItem, WorldKey, WorldSide, docs_of, function_of, no_docs, option_map_or, option_to_list, path_id, placed, same_side, stability_of, stated_text, unwrap_or}
 use Rattle.wit_names.specs.Prefix.{rest_after}
 use Rattle.wit_type_tree.specs.declared.types.FuncForm.{FuncForm}
 use Rattle.wit_type_tree.specs.declared.types.FuncForm.TheVariants as form

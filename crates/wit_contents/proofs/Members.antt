@@ -1,8 +1,8 @@
 -- What is on the sides of a world, resolved one after another: nothing, more after some, and a function, an interface by its path, or an inline one.
 use Rattle.std.proofs.Common.{◌≡◌, ℕ, ◌+◌, List, [], ◌∷◌, ◌++◌, length, refl, sym, ap, ◌∙◌, subst, append_assoc, arith, Bool, true, false, if◌then◌else◌, map, Some, inl, inr, add-zero, Option, suc, None, get_or}
-use Rattle.wit_contents.proofs.Names.{Address, AddsFunctions, AddsInside, AddsInterface, AddsMembers, AddsSides, AreEnded, AreKeyed, Contains-append_cases, Entry, Extern, Function, HavePlaces, Id, Interface, InterfaceItem, IsNext, IsSeen, ItemWalk, Link, Name, Names, Puts, Required, ResolvedScope, SideFunction, SideInline, SideItem, SideLink, Sorted, SourceFunction, Stage, TheInline, TypeDef, WorldSide, address, all_handles, append-nil, at_back, at_prefix, contains_one, entry_sorted, env_of, filter-append, flat_map, flat_map-append, function_item, functions, inline_after, inline_after-append, inline_entry, inline_of, inline_side, interfaces_at, interfaces_on, item_function, item_inline, item_name, item_side, item_sorted, items_on, lead, length-append, length-inline_after, length-map, link_item, map-append, next_place, option_map_or, option_to_list, path_scope, prefix_of, put_on, resolved_scopes_of, role_side, same_side, side_items, slice_get, sorted_on, stage, written_types, AddsWorld, AddsWorlds, Appends, World, adds_append, adds_one, arenas, inline_items, prefix_worlds, resolved_scopes, item_view, Key, filter, filter_map-append, inline_item, is_interface}
+use Rattle.wit_contents.proofs.Names.{Address, AddsFunctions, AddsInside, AddsInterface, AddsMembers, AddsSides, AreEnded, AreKeyed, Contains-append_cases, Entry, Extern, Function, HavePlaces, Id, Interface, InterfaceItem, IsNext, IsSeen, ItemWalk, Link, Name, Names, Puts, Required, ResolvedScope, SideFunction, SideInline, SideItem, SideLink, Sorted, SourceFunction, Stage, TheInline, TypeDef, WorldSide, address, all_handles, append-nil, at_back, at_prefix, contains_one, entry_sorted, env_of, filter-append, flat_map, flat_map-append, function_item, functions, inline_after, inline_after-append, inline_entry, inline_of, inline_side, interfaces_at, interfaces_on, item_function, item_inline, item_name, item_side, item_sorted, items_on, lead, length-append, length-inline_after, length-map, link_item, map-append, next_place, option_map_or, option_to_list, path_scope, prefix_of, put_on, resolved_scopes_of, role_side, same_side, side_items, slice_get, sorted_on, stage, written_types, AddsWorld, AddsWorlds, Appends, World, adds_append, adds_one, arenas, prefix_worlds, item_view, Key, filter, filter_map-append, inline_item, is_interface}
 use Rattle.wit_contents.specs.declared.walk.Walked.{Walked}
-use Rattle.wit_arena.proofs.Common.{Item, link_key, function_in, entries_on, scope_place}
+use Rattle.wit_arena.proofs.Common.{Item, function_in, entries_on, scope_place, link_key}
 use Rattle.wit_entries.proofs.Requiring.{extended_then}
 use Rattle.wit_sides.specs.SideNames.{defined_on}
 use Rattle.wit_externs.specs.Clash.{item_names, bare_place, linked_on}
@@ -318,39 +318,16 @@ module _ (w : ItemWalk) (prefix : List SideItem) (a : Stage) where
   }
 
 -- Worlds that are added one after another, with the interfaces that are written in them, and one more.
--- the addresses of the interfaces that are written in worlds
-abbrev pub addresses_in : List Item → List Address
-addresses_in ws = map address (flat_map inline_items ws)
-
-pub addresses_more : (ws : List Item) (w : Item) → addresses_in (ws ++ w ∷ []) ≡ addresses_in ws ++ map address (inline_items w)
-addresses_more ws w = ap (map address) (flat_map-append inline_items ws (w ∷ []) ∙ ap (λ (l : List Item). flat_map inline_items ws ++ l) (append-nil (inline_items w))) ∙ map-append address (flat_map inline_items ws) (inline_items w)
-
--- some worlds were added, of whose interfaces these are the addresses
-pub record AreWorldsTo (foreign others : List Address) (is : List Interface) (old new : List TypeDef) (prefix ws : List World) (inside : List Interface) (before after : List Required) (items : List Item) : Type 0 where
-  pub appends : Appends before after (λ rs. AddsWorlds foreign others is old new (prefix_worlds prefix) (arenas ws inside (addresses_in items)) rs items)
-  pub put : length (addresses_in items) ≡ length inside
+-- some worlds were added
+abbrev pub AreWorldsTo : List Address → List Address → List Interface → List TypeDef → List TypeDef → List World → List World → List Interface → List Required → List Required → List Item → Type 0
+AreWorldsTo foreign others is old new prefix ws inside before after items = Appends before after (λ rs. AddsWorlds foreign others is old new (prefix_worlds prefix) (arenas ws inside) rs items)
 
 pub worlds_none : (foreign others : List Address) (is : List Interface) (old : List TypeDef) (prefix : List World) (inside : List Interface) (before : List Required) → inside ≡ [] → AreWorldsTo foreign others is old old prefix prefix inside before before []
-worlds_none foreign others is old prefix inside before bare = record {
-  appends = record { own = []; list = sym (append-nil before); holds = (refl, ap (λ (l : List Interface). arenas prefix l []) bare, refl) };
-  put = sym (ap length bare);
-}
+worlds_none foreign others is old prefix inside before bare = record { own = []; list = sym (append-nil before); holds = (refl, ap (arenas prefix) bare, refl) }
 
-pub worlds_more : (foreign others : List Address) (is : List Interface) (old mid new : List TypeDef) (prefix ws ws' : List World) (inside now : List Interface) (before between after : List Required) (items : List Item) (w : Item) → AreWorldsTo foreign others is old mid prefix ws inside before between items → ((ss : List Address) → length ss ≡ length inside → Appends between after (λ rs. AddsWorld foreign others is mid new (arenas ws inside ss) (arenas ws' now (ss ++ map address (inline_items w))) rs w)) → AreWorldsTo foreign others is old new prefix ws' now before after (items ++ w ∷ [])
-worlds_more foreign others is old mid new prefix ws ws' inside now before between after items w p adds =
-    let q = adds (addresses_in items) p.put in
-    let more = addresses_more items w in
-    record {
-      appends = record {
-        own = p.appends.own ++ q.own;
-        list = q.list ∙ ap (λ (l : List Required). l ++ q.own) p.appends.list ∙ append_assoc before p.appends.own q.own;
-        holds = subst (λ (ss : List Address). AddsWorlds foreign others is old new (prefix_worlds prefix) (arenas ws' now ss) (p.appends.own ++ q.own) (items ++ w ∷ [])) (sym more) (adds_append (AddsWorld foreign others is) old mid new (prefix_worlds prefix) (arenas ws inside (addresses_in items)) (arenas ws' now (addresses_in items ++ map address (inline_items w))) p.appends.own q.own items (w ∷ []) p.appends.holds (adds_one (AddsWorld foreign others is) mid new (arenas ws inside (addresses_in items)) (arenas ws' now (addresses_in items ++ map address (inline_items w))) q.own w q.holds));
-      };
-      put = (
-          let long = ap length more ∙ length-append (addresses_in items) (map address (inline_items w)) in
-          let count = length-map (inline_items w) address in
-          let before = p.put in
-          let extended = sides_count (resolved_scopes foreign is) (length is) (address w) q.holds.types q.holds.middle new inside now q.holds.functions q.holds.rest (side_items w) (inline_items w) q.holds.sides in
-          let own = length-inline_after w [] (side_items w) in
-          omega (arith, long, count, before, extended, own));
-    }
+pub worlds_more : (foreign others : List Address) (is : List Interface) (old mid new : List TypeDef) (prefix ws ws' : List World) (inside now : List Interface) (before between after : List Required) (items : List Item) (w : Item) → AreWorldsTo foreign others is old mid prefix ws inside before between items → Appends between after (λ rs. AddsWorld foreign others is mid new (arenas ws inside) (arenas ws' now) rs w) → AreWorldsTo foreign others is old new prefix ws' now before after (items ++ w ∷ [])
+worlds_more foreign others is old mid new prefix ws ws' inside now before between after items w p q = record {
+  own = p.own ++ q.own;
+  list = q.list ∙ ap (λ (l : List Required). l ++ q.own) p.list ∙ append_assoc before p.own q.own;
+  holds = adds_append (AddsWorld foreign others is) old mid new (prefix_worlds prefix) (arenas ws inside) (arenas ws' now) p.own q.own items (w ∷ []) p.holds (adds_one (AddsWorld foreign others is) mid new (arenas ws inside) (arenas ws' now) q.own w q.holds);
+}

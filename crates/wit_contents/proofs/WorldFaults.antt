@@ -183,11 +183,10 @@ module _ (w : ItemWalk) (others : List Address) (ws : List World) (old : List Ty
   abbrev interfaces : List Interface
   interfaces = w.interfaces.arena
 
-  pub content_adds : (added : World) (imports exports : List Entry) (included : List WorldInclude) (ss : List Address) → length ss ≡ length middle.inside → added ≡ world (about item.declared).id.name.now imports exports included (declared_metadata item.declared) (about item.declared).id.span → imports ≡ settled (includes item) m.members.sides.imports → exports ≡ settled (includes item) m.members.sides.exports → AreIncludes (worlds_at others ws) item included → AddsWorld foreign others interfaces old new.types (arenas ws middle.inside ss) (arenas (ws ++ added ∷ []) new.inside (ss ++ map address (inline_items item))) (required ++ m.required.items) item
-  content_adds added imports exports included ss known says on_imports on_exports are = record {
+  pub content_adds : (added : World) (imports exports : List Entry) (included : List WorldInclude) → added ≡ world (about item.declared).id.name.now imports exports included (declared_metadata item.declared) (about item.declared).id.span → imports ≡ settled (includes item) m.members.sides.imports → exports ≡ settled (includes item) m.members.sides.exports → AreIncludes (worlds_at others ws) item included → AddsWorld foreign others interfaces old new.types (arenas ws middle.inside) (arenas (ws ++ added ∷ []) new.inside) (required ++ m.required.items) item
+  content_adds added imports exports included says on_imports on_exports are = record {
     added = added;
     last = refl;
-    more = refl;
     types = w.scope.names.types;
     middle = middle.types;
     adds = n.adds;
@@ -197,7 +196,7 @@ module _ (w : ItemWalk) (others : List Address) (ws : List World) (old : List Ty
     rest = adds.adds.own;
     requires = ap (λ (l : List Required). l ++ m.required.items) n.handled.added ∙ ap (λ (l : List Required). n.handled.list ++ l) (adds.adds.list ∙ ap (λ (l : List Required). l ++ adds.adds.own) begun.required);
     sides = adds.adds.holds (address item);
-    made = λ id typed made all vs here there. (
+    made = λ id typed made ss known all vs here there. (
         let us = map address (inline_items item) in
         let counted = addresses_count foreign interfaces w.interfaces.prefix in
         let places : HavePlaces w middle.inside (inline_items item) all = record {
@@ -262,14 +261,13 @@ module _ (item : Item) (empty : side_items item ≡ []) where
     abbrev names : List Entry
     names = type_imports (in_turn (scope_names item) n.adds.order) types
 
-    pub alone_adds : (added : World) (imports exports : List Entry) (included : List WorldInclude) (ss : List Address) → added ≡ world (about item.declared).id.name.now imports exports included (declared_metadata item.declared) (about item.declared).id.span → imports ≡ names → exports ≡ [] → AreIncludes (worlds_at others ws) item included → AddsWorld (prefix_of is.files) others is.arena old middle (arenas ws inside ss) (arenas (ws ++ added ∷ []) inside (ss ++ map address (inline_items item))) required item
-    alone_adds added imports exports included ss says imported exported are =
+    pub alone_adds : (added : World) (imports exports : List Entry) (included : List WorldInclude) → added ≡ world (about item.declared).id.name.now imports exports included (declared_metadata item.declared) (about item.declared).id.span → imports ≡ names → exports ≡ [] → AreIncludes (worlds_at others ws) item included → AddsWorld (prefix_of is.files) others is.arena old middle (arenas ws inside) (arenas (ws ++ added ∷ []) inside) required item
+    alone_adds added imports exports included says imported exported are =
         let us = inline_items item in
         let turn = in_turn (scope_names item) n.adds.order in
         record {
           added = added;
           last = refl;
-          more = refl;
           types = types;
           middle = middle;
           adds = n.adds;
@@ -279,7 +277,7 @@ module _ (item : Item) (empty : side_items item ≡ []) where
           rest = [];
           requires = n.handled.added ∙ sym (append-nil n.handled.list);
           sides = subst (λ (xs : List SideItem). AddsSides (resolved_scopes_of is) (length is.arena) (address item) types middle middle inside inside [] [] xs us) (sym empty) (sides_none (resolved_scopes_of is) (length is.arena) (address item) types middle inside us);
-          made = λ id typed made all vs here there. (
+          made = λ id typed made ss known all vs here there. (
               let none = λ (s : WorldSide). ap (λ (xs : List SideItem). entries_on s (next_entries id all item [] xs)) empty in
               world_stated (about item.declared).id.name.now (about item.declared).id.span (declared_metadata item.declared) added imports _ exports _ included _ says
               (imported ∙ sym (names_settled (includes item) turn types) ∙ ap (settled (includes item)) (ap (type_imports turn) typed ∙ type_imports-as_stated id (address item) turn ∙ sym (append-nil (name_imports id (address item) turn)) ∙ ap (λ (l : List Entry). name_imports id (address item) turn ++ l) (sym (none Imported))))

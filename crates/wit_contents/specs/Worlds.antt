@@ -1,6 +1,6 @@
 -- What a world adds to the arenas, the walk of what it imports and exports, and its first fault.
 use Rattle.std.specs.Prelude.{◌≡◌, ℕ, List, ◌∷◌, [], ◌++◌, length, map, true, Option, Result, Some, slice_get, take}
-use Rattle.wit_contents.specs.Names.{Address, AddsScope, AddsWorld, AddsWorlds, Appends, BorrowedItem, EndsInTurn, Fault, Id, Interface, Interfaces, IsItemOf, IsNameIndex, Item, Metadata, ParseError, Required, ResolvedNames, TypeDef, World, WorldArenas, WorldNamed, about, address, declared_metadata, defined_fault, in_order, in_turn, includes, inline_items, is_world, item_stability, item_view, local_id, name_of_id, names_fault, option_or, others_of, prefix_of, prefix_worlds, resolved_scopes_of, rows_of, scope_names, side_items, worlds_at, worlds_of, SideItem}
+use Rattle.wit_contents.specs.Names.{AddsScope, AddsWorld, AddsWorlds, Appends, BorrowedItem, EndsInTurn, Fault, Id, Interface, Interfaces, IsItemOf, IsNameIndex, Item, Metadata, ParseError, Required, ResolvedNames, TypeDef, World, WorldArenas, WorldNamed, about, declared_metadata, defined_fault, in_order, in_turn, includes, is_world, item_stability, item_view, local_id, name_of_id, names_fault, option_or, others_of, prefix_of, prefix_worlds, resolved_scopes_of, rows_of, scope_names, side_items, worlds_at, worlds_of, SideItem}
 use Rattle.wit_arena.specs.Made.{world}
 use Rattle.wit_types.specs.declared.types.TypeOwner.TheVariants as owner
 use Rattle.wit_links.specs.declared.worlds.Worlds.{Worlds}
@@ -17,17 +17,17 @@ use Rattle.wit_contents.specs.declared.walk.Walked.{Walked}
 use Rattle.wit_contents.specs.declared.walk.WorldScope.{WorldScope}
 use Rattle.wit_contents.specs.Walk.{IsStart, IsWalk, ItemWalk, stage, AreRightMembers}
 
--- the worlds, and the interfaces that are written in them, at these addresses
-abbrev pub arenas : List World → List Interface → List Address → WorldArenas
-arenas ws inside ss = record { worlds = ws; inside = inside; addresses = ss }
+-- the worlds, and the interfaces that are written in them
+abbrev pub arenas : List World → List Interface → WorldArenas
+arenas ws inside = record { worlds = ws; inside = inside }
 
--- the arena of worlds is now this one: an item was added to the arenas, as a world, wherever the interfaces that were written before it are
+-- the arena of worlds is now this one: an item was added to the arenas, as a world
 abbrev pub AddsTo : Worlds → List World → BorrowedItem → Resolving → Resolving → Type 0
-AddsTo ws arena i old new = (ss : List Address) → length ss ≡ length old.growing.inside → Appends old.required.items new.required.items (λ rs. AddsWorld (prefix_of ws.interfaces.now.files) (others_of ws.interfaces.now.files) ws.interfaces.now.arena old.growing.types new.growing.types (arenas ws.arena old.growing.inside ss) (arenas arena new.growing.inside (ss ++ map address (inline_items (item_view i)))) rs (item_view i))
+AddsTo ws arena i old new = Appends old.required.items new.required.items (λ rs. AddsWorld (prefix_of ws.interfaces.now.files) (others_of ws.interfaces.now.files) ws.interfaces.now.arena old.growing.types new.growing.types (arenas ws.arena old.growing.inside) (arenas arena new.growing.inside) rs (item_view i))
 
 -- after worlds of other packages these are the worlds, and these the interfaces that are written in them: items were added, as worlds
 abbrev pub AddsWorldsAmong : Interfaces → List World → List TypeDef → List TypeDef → List BorrowedItem → List ℕ → ResolvedWorlds → Type 0
-AddsWorldsAmong is prefix old new items places r = Appends [] r.required.items (λ rs. (ss : List Address) × AddsWorlds (prefix_of is.files) (others_of is.files) is.arena old new (prefix_worlds prefix) (arenas r.worlds r.inside ss) rs (worlds_of (in_order (map item_view items) places)))
+AddsWorldsAmong is prefix old new items places r = Appends [] r.required.items (λ rs. AddsWorlds (prefix_of is.files) (others_of is.files) is.arena old new (prefix_worlds prefix) (arenas r.worlds r.inside) rs (worlds_of (in_order (map item_view items) places)))
 
 -- the names of a world that comes next were added
 abbrev pub AddsNamesOf : Worlds → BorrowedItem → List TypeDef → List TypeDef → ResolvedNames → Type 0

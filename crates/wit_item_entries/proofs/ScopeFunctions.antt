@@ -5,7 +5,7 @@ use denote.Ref.{Bor}
 use Rattle.wit_items.proofs.Common.{Metadata, Span, World, Defined, DefinitionPart, Env, ExternPart, FunctionPart, Id, IncludePart, Names, Part, ResourceFunc, ScopeName, SourceFunction, TypeBody, UsePart, definition_functions, env_of, extern_at, flat_map_has, free_function, functions, in_turn, in_turn_has, local_name, local_names, lookup-listed, map_at, names_in, option_map, part_functions, part_names, parts, resource_function, scope_names, slice_get, slice_get-map, AreDistinct, body_ok, bytes_eq, differ_at, differ_by, find-append, insert_entry, lookup, meaning, meant_ok, name_cases, name_itself, option_or, or_none, pointwise, «Type» as Written, Address, AddsFunctions, AllDiffer, AreEnded, Function, Imported, Name, Required, ResolvedScope, SideFunction, SideItem, TypeDef, TypeOwner, address, all_handles, all_handles-append, ended_append, ended_more, flat_map, function_name, is_ascii_uppercase, is_world, list_any, made_name, map_map, name_types, on_side, side_items, side_items_functions, written_types, part_of_function, option_and_then, WorldSide, names_on, items_on}
 use Rattle.wit_items.specs.declared.metadata.ItemMetadata.{ItemMetadata}
 use Rattle.wit_items.specs.BorrowedItems.{metadata_view, AreOf}
-use Rattle.wit_arena.proofs.Common.{Item, world, WorldInclude, WorldItem, WorldKey}
+use Rattle.wit_arena.proofs.Common.{Item, WorldInclude, WorldItem, WorldKey, world}
 use Rattle.wit_rules.specs.Signatures.{owner_of, HasOwner, HaveOwners, AreResults}
 use Rattle.wit_item_entries.specs.AddedNames.{IsTurn, AddsTurn}
 use Rattle.wit_item_entries.proofs.ReachedFaults.{turn_texts}
@@ -14,6 +14,7 @@ use Rattle.wit_setters.proofs.Results.{lookup-inserted}
 use Rattle.wit_arena.proofs.FunctionNames.{names_differ}
 use Rattle.wit_entries.specs.EntryFaults.{IsExtended, Requires}
 use Rattle.wit_signatures.specs.FunctionsOfScope.{name_of_function, name_of_made, name_key, name_of_id}
+use Rattle.wit_externs.specs.Clash.{item_names}
 use Rattle.wit_item_entries.specs.Body.{AddsBody}
 use Rattle.wit_item_entries.proofs.NameOrder.{differ_called, alone}
 use Rattle.wit_entries.proofs.Requiring.{requires_none}
@@ -21,7 +22,6 @@ use Rattle.wit_entries.proofs.Resolves.{extended_same}
 use Rattle.wit_type_tree.specs.declared.types.TypeBody.TheVariants as body
 use Rattle.wit_type_tree.specs.declared.types.ResourceFunc.TheVariants as resource
 use Rattle.wit_syntax.specs.SignatureRules.{ok_of}
-use Rattle.wit_externs.specs.Clash.{item_names}
 
 -- an item is what is stated of it
 pub world_stated : (name : List ℕ) (span : Span) (n : Metadata) (borrowed : ItemMetadata) (w : World) (imports exports : List (WorldKey × WorldItem)) (includes : List WorldInclude) → AreOf n borrowed → w ≡ world name imports exports includes (metadata_view borrowed) span → w ≡ world name imports exports includes n span

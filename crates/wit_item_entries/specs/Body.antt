@@ -1,11 +1,11 @@
 -- What the names and the functions of an item add: the same of an interface and of a world.
 use Rattle.std.specs.Prelude.{◌≡◌, List, Vec, map, ◌++◌}
-use Rattle.wit_arena.specs.Common.{AddsScope, Function, Global, Id, Item, Names, Required, ResolvedScope, TypeDef, TypeOwner, functions, in_turn, local_id, scope_names, side_items, AllDiffer, WorldSide, flat_map, items_on, names_on, AddsFunctions, AreEnded, address, all_handles, env_of}
+use Rattle.wit_arena.specs.Common.{AddsFunctions, AddsScope, AreEnded, Function, Global, Id, Item, Names, Required, ResolvedScope, TypeDef, TypeOwner, address, all_handles, env_of, functions, in_turn, local_id, scope_names, side_items, AllDiffer, WorldSide, flat_map, items_on, names_on}
 use Rattle.wit_arena.specs.Names.{all_types}
 use Rattle.wit_signatures.specs.FunctionsOfScope.{name_of_function, name_of_made, name_key, name_of_id}
+use Rattle.wit_externs.specs.Clash.{item_names}
 use Rattle.wit_item_entries.specs.AddedNames.{AddsTurn}
 use Rattle.wit_item_entries.specs.declared.names.ResolvedNames.{ResolvedNames}
-use Rattle.wit_externs.specs.Clash.{item_names}
 
 -- the names of an item were added, which are these in turn, and after them its functions
 pub record AddsBody (old new : List TypeDef) (cs : List ResolvedScope) (o : TypeOwner) (item : Item) (types : Names) (ids : List Id) (fs : List Function) (rs : List Required) : Type 0 where

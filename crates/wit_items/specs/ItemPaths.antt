@@ -1,6 +1,6 @@
 -- Parts of items that are borrowed, where their paths to interfaces lead, and what is found by names.
 use Rattle.std.specs.Prelude.{List, map, ◌≡◌, ◌≤◌, ℕ, Option, Some, slice_get, ◌<◌, length, None, Contains}
-use Rattle.wit_arena.specs.Common.{Address, PackageFile, foreign_interfaces, visited, Interface, Names, World, env_of, option_and_then, AstItem, Declared, DefinitionPart, ExternPart, Foreign, ForeignNamed, FunctionPart, IncludePart, Item, Local, Part, Target, UsePart, UsePath, about, all_items, flat_map, foreign_at, foreign_entry, option_map, package_of, use_path}
+use Rattle.wit_arena.specs.Common.{Address, PackageFile, foreign_interfaces, visited, Names, World, env_of, option_and_then, AstItem, Declared, DefinitionPart, ExternPart, Foreign, ForeignNamed, FunctionPart, IncludePart, Item, Local, Part, Target, UsePart, UsePath, about, all_items, flat_map, foreign_at, foreign_entry, option_map, package_of, use_path}
 use Rattle.wit_tree.specs.declared.tree.PackageName.{PackageName as Header}
 use Rattle.wit_files.specs.FileNames.{top_at}
 use Rattle.wit_items.specs.declared.part_names.Part.{Part as BorrowedPart}

@@ -1,6 +1,6 @@
 -- Where the paths lead by which a world imports and exports interfaces: to places in the arena.
 use Rattle.std.proofs.Common.{List, Option, Some, [], ap, ap₂, arith, length, map, refl, suc, sym, take, zero, ℕ, ◌++◌, ◌+◌, ◌∙◌, ◌∷◌, ◌≡◌, ◌≤◌}
-use Rattle.wit_items.proofs.Common.{Address, AreFound, AreIncludes, Fault, ForeignNamed, GivesPlaces, Include, InlineAt, Interface, InterfaceNamed, IsPlaced, Names, PackageFile, ResolvedScope, Source as BorrowedSource, Span, Stability, TheWorld, TopName, WorldInclude, WorldNamed, append-nil, first_in, flat_map, flat_map-append, found_resolved_scope, in-parts, include_in, interfaces_at, interfaces_differ, item_in, leads, length-map, map-append, option_map, package_of, part_includes, path_id, place_at-found, position-Some, prefix_of, renamed, resolved_scopes, same_address, same_address-equal, scope_place, slice_get, slice_get-get_or, slice_get-map, source_place, source_target, stability_of, take_next, target_scope, top_at, world_part}
+use Rattle.wit_items.proofs.Common.{Address, length-append, AreFound, AreIncludes, Fault, ForeignNamed, GivesPlaces, Include, InlineAt, Interface, InterfaceNamed, IsPlaced, Names, PackageFile, ResolvedScope, Source as BorrowedSource, Span, Stability, TheWorld, TopName, WorldInclude, WorldNamed, append-nil, first_in, flat_map, flat_map-append, found_resolved_scope, in-parts, include_in, interfaces_at, interfaces_differ, item_in, leads, length-map, map-append, option_map, package_of, part_includes, path_id, place_at-found, position-Some, prefix_of, renamed, resolved_scopes, same_address, same_address-equal, scope_place, slice_get, slice_get-get_or, slice_get-map, source_place, source_target, stability_of, take_next, target_scope, top_at, world_part}
 use Rattle.wit_links.specs.Links.{interface_place, included_fault, includes_fault}
 use Rattle.wit_syntax.proofs.Common.{World as Written, WorldItem}
 use Rattle.wit_links.specs.declared.worlds.Worlds.{Worlds}

@@ -9,6 +9,7 @@ ghost use Rattle.wit_arena.specs.Resolving.{AreIncludes, GivesPlaces};
 ghost use Rattle.wit_files.specs.FileNames.{top_at};
 ghost use Rattle.wit_items.specs.ItemPaths.{HasItem, world_at, world_entry, item_in, HasAmong};
 ghost use Rattle.wit_links.specs.Links.{addresses_of, included_fault, includes_fault};
+
 use crate::worlds::Worlds;
 use std::alloc::{AllocError, Global};
 use wit_items::resolved_path::entry_of;
@@ -22,7 +23,6 @@ use wit_tree::ParseResult;
 use wit_tree::tree::{self, UsePath};
 use wit_types::WorldId;
 use wit_values::{Row, Text};
-
 
 /// What an include renames.
 fn renames(alloc: Global, names: &[tree::IncludeName<'_>]) -> Result<Row<IncludeName>, AllocError>
@@ -83,7 +83,7 @@ fn resolve_include<'f, 'a>(
     include: &'f tree::Include<'a>,
 ) -> ParseResult<WorldInclude>
     requires part { HasAmong worlds.now.interfaces.now.files place (λ d. (about d).parts) (IncludePart include.now) }
-    ensures is { IfOk result (λ i. (ws : _) → GivesPlaces (scope_place ws) (addresses_of worlds.now) → i ≡ include_in ws (top_at worlds.now.interfaces.now.files place) include.now) }
+    ensures is { IfOk result (λ i. (w : _) → GivesPlaces (scope_place w) (addresses_of worlds.now) → i ≡ include_in w (top_at worlds.now.interfaces.now.files place) include.now) }
     ensures first { Finds (included_fault worlds.now (top_at worlds.now.interfaces.now.files place) include.now) result }
 {
     check_stability(alloc, &include.attributes)?;

@@ -1,6 +1,6 @@
 -- The scopes of a package are: all that occurs in files occurs in them, and each name of them means its place.
 use Rattle.std.proofs.Common.{◌≡◌, ℕ, suc, List, [], ◌∷◌, Some, ◌⊎◌, inl, inr, refl, sym, ap, ◌∙◌, subst}
-use Rattle.wit_items.proofs.Common.{Address, AreNames, Decls, Def, DoneScope, Exprs, ForeignName, ForeignUse, Form, Has, IsInSignatureOf, IsLegal, IsNameOf, IsPresent, IsWholeOf, Key, Makes, Names, Occurrence, PackageFile, ScopeName, Turned, TypeOwner, UnresolvedPackage, Whole, address, all_occurrences, all_seen, collects_from, declarations, env_of, expr_of, firsts_has, foreign_interfaces, foreign_use_key, foreign_use_occurrence, foreign_uses, has_either, has_from, in_use_has, interface_scopes, item_turns, keys, keys-append, local_name, lookup-listed, lookup-place, map, name_exprs, name_seen_in, names_of, occurrences, option_map, own_interfaces, owner_at, same_foreign_use, scope, seen, slice_get, slice_get-map, some_of, turn_occurrences, use_of_foreign-equal, use_of_foreign-from, used_from, uses_lead, visited, world_scopes}
+use Rattle.wit_items.proofs.Common.{Address, AreNames, Decls, Def, DoneScope, Exprs, ForeignName, ForeignUse, Form, Has, IsInSignatureOf, IsLegal, IsNameOf, IsPresent, IsWholeOf, Key, Makes, Names, Occurrence, PackageFile, ScopeName, Turned, TypeOwner, UnresolvedPackage, Whole, address, all_occurrences, all_seen, collects_from, declarations, env_of, expr_of, firsts_has, foreign_interfaces, foreign_use_key, foreign_use_occurrence, foreign_uses, has_either, has_from, in_use_has, interface_scopes, item_turns, keys, keys-append, local_name, lookup-listed, lookup-place, map, name_exprs, names_of, occurrences, option_map, own_interfaces, owner_at, same_foreign_use, scope, seen, slice_get, slice_get-map, some_of, turn_occurrences, use_of_foreign-equal, use_of_foreign-from, used_from, uses_lead, visited, world_scopes}
 use Rattle.wit_arena.proofs.DoneNames.{seen_in_turn}
 use Rattle.wit_parser.proofs.KnownScopes.{IsKnown}
 use Rattle.wit_parser.proofs.KnownOwners.{scopes, known_at, interface_resolved_scope, turn_part}

@@ -1,4 +1,4 @@
-use Rattle.std.proofs.Common.{List, ◌∙◌, inl, inr, sym}
+use Rattle.std.proofs.Common.{List, inl, inr, sym}
 use Rattle.wit_contents.proofs.Names.{PackageFile, err_from_is_err_and, finds_same}
 use Rattle.wit_files.proofs.Gathering.{names_agree}
 use Rattle.wit_contents.proofs.FileFaults.{names_first, names_none}

@@ -1,5 +1,5 @@
 use Rattle.std.proofs.Common.{◌≡◌, List, ◌++◌, length, map, ap, ◌∙◌, [], inl}
-use Rattle.wit_contents.proofs.Names.{Address, AddsInterfaces, AddsWorlds, Appends, IfOk-at_ok, Required, all_items, arenas, err_from_is_err_and, found_none, in_order, interfaces_of, item_view, others_of, prefix_of, prefix_worlds, uses_usable, worlds_of, Interface}
+use Rattle.wit_contents.proofs.Names.{AddsInterfaces, AddsWorlds, Appends, IfOk-at_ok, Required, all_items, arenas, err_from_is_err_and, found_none, in_order, interfaces_of, item_view, others_of, prefix_of, prefix_worlds, uses_usable, worlds_of, Interface}
 use Rattle.wit_foreign.specs.Growing.{AreDepsOf, AreDepSpansOf}
 use Rattle.wit_front.specs.ForeignPrefix.{IsPrefix}
 use Rattle.wit_contents.proofs.Files.{borrowed_within, contents_made, interfaces_enough, prefix_entries, prefix_index, prefix_started, prefix_used, prefix_worlds_index, worlds_enough}
@@ -86,13 +86,13 @@ returns-clause-made c =
     let irs = c.resolve_interfaces.new.required.items in
     let from : Appends c.new-required.result.items irs (λ rs. AddsInterfaces (prefix_of files) types middle a.interfaces now.arena rs (interfaces_of (in_order (all_items files) places))) = rw (c.of-named.ensures, all) at c.in_ok-resolve_interfaces.ensures.adds in
     let made = c.in_ok-made.made in
-    let said : Appends [] made.required.items (λ rs. (ss : List Address) × AddsWorlds (prefix_of files) (others_of files) now.arena middle c.resolve_worlds.new.types (prefix_worlds a.worlds) (arenas made.worlds made.inside ss) rs (worlds_of (in_order (all_items files) places))) = rw (kept, all) at c.in_ok-made.ensures.added in
+    let said : Appends [] made.required.items (λ rs. AddsWorlds (prefix_of files) (others_of files) now.arena middle c.resolve_worlds.new.types (prefix_worlds a.worlds) (arenas made.worlds made.inside) rs (worlds_of (in_order (all_items files) places))) = rw (kept, all) at c.in_ok-made.ensures.added in
     let r = c.in_ok-all.all in
     let parts = c.in_ok-all.ensures in
     let list : r.foreign.required_resource_types ≡ from.own ++ said.own = parts.required ∙ ap (λ (l : List Required). irs ++ l) said.list ∙ ap (λ (l : List Required). l ++ said.own) (from.list ∙ ap (λ (l : List Required). l ++ from.own) c.new-required.ensures.items) in
     let deps = IfOk-at_ok (λ found. AreDepsOf c.foreign_visits.result.now found.0) parts.deps c.foreign_deps-named.ensures.deps in
     let spans = IfOk-at_ok (λ found. AreDepSpansOf c.foreign_visits.result.now found.1) parts.deps c.foreign_deps-named.ensures.spans in
-    contents_made files places c.item_order-order.ensures c.requires.unbroken (uses_usable files e.first) types middle c.resolve_worlds.new.types a.interfaces now.arena a.worlds (arenas made.worlds made.inside said.holds.0) from.own said.own prefix.adds from.holds said.holds.1 r.foreign r.interfaces r.worlds parts.interfaces parts.worlds list (deps files c.foreign_visits.ensures) (spans files c.foreign_visits.ensures) (parts.unknown ∙ prefix.spans)
+    contents_made files places c.item_order-order.ensures c.requires.unbroken (uses_usable files e.first) types middle c.resolve_worlds.new.types a.interfaces now.arena a.worlds (arenas made.worlds made.inside) from.own said.own prefix.adds from.holds said.holds r.foreign r.interfaces r.worlds parts.interfaces parts.worlds list (deps files c.foreign_visits.ensures) (spans files c.foreign_visits.ensures) (parts.unknown ∙ prefix.spans)
 
 pub returns-in_err-prefix-clause-first : goal.returns-in_err-prefix-clause-first
 returns-in_err-prefix-clause-first c = λ known is. memory_found _ c.from_residual-in_err-prefix.result c.from_residual-in_err-prefix.ensures.1

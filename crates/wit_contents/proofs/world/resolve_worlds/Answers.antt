@@ -3,7 +3,7 @@ use Rattle.wit_contents.proofs.Names.{about, arenas, declared_view, err_from_is_
 use Rattle.wit_items.specs.declared.items.Declared.{Declared as BorrowedDeclared}
 use Rattle.wit_contents.proofs.FileFaults.{memory_found}
 use Rattle.wit_contents.proofs.WorldFaults.{among_kept, item_at}
-use Rattle.wit_contents.proofs.Members.{AreWorldsTo, addresses_in, worlds_more, worlds_none}
+use Rattle.wit_contents.proofs.Members.{AreWorldsTo, worlds_more, worlds_none}
 use Rattle.wit_contents.proofs.world.resolve_worlds.Goals.{in-World+in_ok-resolve_world-in-World, in-Interface, in-Inline}
 use Rattle.wit_contents.proofs.world.resolve_worlds.Goals as goal
 
@@ -50,7 +50,7 @@ loop-place-preserved c =
             interfaces = ap (λ r. r.now) e.interfaces ∙ was.interfaces;
             added = rw more (worlds_more (prefix_of c.args.interfaces.now.files) (others_of c.args.interfaces.now.files) c.args.interfaces.now.arena c.args.types.now c.loop-place.resolving.growing.types b.resolve_world.new.resolving.growing.types c.args.prefix c.loop-place.worlds.arena b.resolve_world.new.worlds.arena c.loop-place.resolving.growing.inside b.resolve_world.new.resolving.growing.inside [] c.loop-place.resolving.required.items b.resolve_world.new.resolving.required.items prefix w was.added (rw was.interfaces at e.adds));
             index = rw (ap (λ r. r.now) e.interfaces ∙ was.interfaces) at e.index;
-            first = λ test is_right. rw more (in-more test prefix w (was.first test is_right) ∙ b.in_ok-resolve_world-in-World.ensures.first test (is_right.each c.loop-place.worlds c.loop-place.resolving.growing.types (arenas c.loop-place.worlds.arena c.loop-place.resolving.growing.inside (addresses_in prefix)) was.added.appends.own c.loop-place.place-index x.place c.index-items-place.result was.interfaces x.next x.own sort (c.requires.items.each x.place c.index-items-place.result x.own) was.added.appends.holds refl (rw was.interfaces was.index)));
+            first = λ test is_right. rw more (in-more test prefix w (was.first test is_right) ∙ b.in_ok-resolve_world-in-World.ensures.first test (is_right.each c.loop-place.worlds c.loop-place.resolving.growing.types (arenas c.loop-place.worlds.arena c.loop-place.resolving.growing.inside) was.added.own c.loop-place.place-index x.place c.index-items-place.result was.interfaces x.next x.own sort (c.requires.items.each x.place c.index-items-place.result x.own) was.added.holds refl (rw was.interfaces was.index)));
           }))
       | in-Interface b ↦ (
           let past = kept_past is_world ws places i x.place w x.next x.at (ap (λ (d : BorrowedDeclared). (about (declared_view d)).is_world) b.in-Interface.is) in
@@ -64,8 +64,7 @@ pub returns-clause-added : goal.returns-clause-added
 returns-clause-added c =
     let ws = map item_view c.args.items.now in
     let places = c.args.places.now in
-    let p = subst (λ (l : List ℕ). AreWorldsTo (prefix_of c.args.interfaces.now.files) (others_of c.args.interfaces.now.files) c.args.interfaces.now.arena c.args.types.now c.loop-place.resolving.growing.types c.args.prefix c.loop-place.worlds.arena c.loop-place.resolving.growing.inside [] c.loop-place.resolving.required.items (worlds_of (in_order ws l))) (take_all c.loop-place.place-index places c.loop-place-test.false) c.loop-place.invariant.added in
-    record { own = p.appends.own; list = p.appends.list; holds = (addresses_in (worlds_of (in_order ws places)), p.appends.holds) }
+    subst (λ (l : List ℕ). AreWorldsTo (prefix_of c.args.interfaces.now.files) (others_of c.args.interfaces.now.files) c.args.interfaces.now.arena c.args.types.now c.loop-place.resolving.growing.types c.args.prefix c.loop-place.worlds.arena c.loop-place.resolving.growing.inside [] c.loop-place.resolving.required.items (worlds_of (in_order ws l))) (take_all c.loop-place.place-index places c.loop-place-test.false) c.loop-place.invariant.added
 
 pub returns-in_err-resolve_world-in-World-clause-first : goal.returns-in_err-resolve_world-in-World-clause-first
 returns-in_err-resolve_world-in-World-clause-first c =
@@ -78,7 +77,7 @@ returns-in_err-resolve_world-in-World-clause-first c =
     let was = c.loop-place.invariant in
     let x = item_at c.args.items.now c.args.places.now c.loop-place.place-index c.index-items-place.result c.requires.within c.loop-place-test.true c.index-items-place.is in
     let sort : is_world w ≡ true = ap (λ (d : BorrowedDeclared). (about (declared_view d)).is_world) c.in-World.is in
-    rw (q.1, q.2) (λ test is_right. among_kept is_world test ws places i x.place w _ x.next x.at sort (was.first test is_right) (c.in_err-resolve_world-in-World.ensures.first test (is_right.each c.loop-place.worlds c.loop-place.resolving.growing.types (arenas c.loop-place.worlds.arena c.loop-place.resolving.growing.inside (addresses_in prefix)) was.added.appends.own c.loop-place.place-index x.place c.index-items-place.result was.interfaces x.next x.own sort (c.requires.items.each x.place c.index-items-place.result x.own) was.added.appends.holds refl (rw was.interfaces was.index))))
+    rw (q.1, q.2) (λ test is_right. among_kept is_world test ws places i x.place w _ x.next x.at sort (was.first test is_right) (c.in_err-resolve_world-in-World.ensures.first test (is_right.each c.loop-place.worlds c.loop-place.resolving.growing.types (arenas c.loop-place.worlds.arena c.loop-place.resolving.growing.inside) was.added.own c.loop-place.place-index x.place c.index-items-place.result was.interfaces x.next x.own sort (c.requires.items.each x.place c.index-items-place.result x.own) was.added.holds refl (rw was.interfaces was.index))))
 
 pub returns-in_err-make_room-clause-first : goal.returns-in_err-make_room-clause-first
 returns-in_err-make_room-clause-first c = λ test right. memory_found _ c.from_residual.result c.from_residual.ensures.1

@@ -35,10 +35,10 @@ returns-then-not-have_upper_case-clause-adds c =
     let empty = none_there c.args.item.now c.declared_world-world.result.now c.declared_world-world.ensures (sym c.has_nothing.ensures ∙ c.if-has_nothing.true) in
     let are = subst (λ (w : Item). AreIncludes (addresses_of c.args.worlds.now) w c.in_ok-includes.includes) (item_here c.args.item.now c.declared_world-world.result.now c.requires.item c.declared_world-world.ensures) c.in_ok-includes.ensures.are in
     let alone = c.in_ok-sides.ensures in
-    λ world has ss known. record {
+    λ world has. record {
       own = names.required.items;
       list = alone.required;
-      holds = alone_adds item empty is (others_of is.files) ws.arena c.args.resolving.now.growing.types c.world_names.new.types c.args.resolving.now.growing.inside names.types names.turn.items names.required.items n world _ _ _ ss has (alone.imports (in_turn (scope_names item) n.adds.order) n.turn) alone.exports are;
+      holds = alone_adds item empty is (others_of is.files) ws.arena c.args.resolving.now.growing.types c.world_names.new.types c.args.resolving.now.growing.inside names.types names.turn.items names.required.items n world _ _ _ has (alone.imports (in_turn (scope_names item) n.adds.order) n.turn) alone.exports are;
     }
 
 pub returns-then-not-have_upper_case-clause-first : goal.returns-then-not-have_upper_case-clause-first
@@ -83,10 +83,10 @@ returns-clause-adds c =
     let made = c.in_ok-content.ensures in
     let middle : Growing = record { types = c.world_names.new.types; inside = c.args.resolving.now.growing.inside } in
     let new = c.walk_sides.new.growing in
-    λ world has ss known. record {
+    λ world has. record {
       own = required ++ m.required.items;
       list = made.required;
-      holds = content_adds (record { item = c.args.item.now; scope = scope; interfaces = is }) (others_of is.files) ws.arena c.args.resolving.now.growing.types middle new required m walks c.in_ok-names.ensures.adds h.0 h.1 h.2 world _ _ _ ss known has (made.sides Imported (written_includes item) closed) (made.sides Exported (written_includes item) closed) (rw made.includes are);
+      holds = content_adds (record { item = c.args.item.now; scope = scope; interfaces = is }) (others_of is.files) ws.arena c.args.resolving.now.growing.types middle new required m walks c.in_ok-names.ensures.adds h.0 h.1 h.2 world _ _ _ has (made.sides Imported (written_includes item) closed) (made.sides Exported (written_includes item) closed) (rw made.includes are);
     }
 
 -- the first fault: of its names, of its includes, or of what is on its sides

@@ -1,7 +1,7 @@
 use Rattle.wit_contents.proofs.Names.{HasContent, about, declared_metadata, err_from_is_err_and, item_view, Id}
 use Rattle.wit_items.specs.BorrowedItems.{metadata_view}
 use Rattle.wit_item_entries.proofs.ScopeFunctions.{world_stated}
-use Rattle.std.proofs.Common.{◌≡◌, ap, ◌∙◌}
+use Rattle.std.proofs.Common.{ap, ◌∙◌}
 use Rattle.wit_arena.proofs.Common.{World, world}
 use Rattle.wit_contents.proofs.WorldFaults.{unstable_first}
 use Rattle.wit_contents.proofs.FileFaults.{memory_found}
