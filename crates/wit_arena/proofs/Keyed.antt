@@ -1,8 +1,10 @@
 -- Types and entries of the arena, each at the place of its key, and what occurs in expressions.
-use Rattle.std.specs.Prelude.{◌≡◌, ℕ, List, [], ◌∷◌, ◌++◌, length, take, Some, None, slice_get}
-use Rattle.wit_arena.specs.Names.{AllDiffer, AreMetadata, ScopeName, TypeDef, about_name, local_name, primitive_type, «Type» as Ty}
+use Rattle.std.specs.Prelude.{◌≡◌, ℕ, List, [], ◌∷◌, ◌++◌, length, map, take, Some, None, slice_get}
+use Rattle.wit_arena.specs.Names.{Address, AllDiffer, AreMetadata, Function, ScopeName, Shape, SourceFunction, TypeDef, Unknown, about_name, local_name, primitive_type, «Type» as Ty}
 use Rattle.wit_arena.specs.Kind.{kind_of}
 use Rattle.wit_arena.specs.Occurrences.{Decls, Def, End, Expr, Exprs, Key, More, Of, Prim, Use, Whole, name_exprs}
+use Rattle.wit_arena.specs.Made.{function_in}
+use Rattle.wit_arena.specs.Resolving.{AreResolved, Env, GivesPlaces, gathered}
 use Rattle.wit_types.specs.declared.types.«Type».TheVariants as type
 use Rattle.wit_types.specs.declared.types.TypeOwner.TheVariants as owner
 
@@ -42,3 +44,11 @@ abbrev mutual
 
 abbrev pub one : Expr → Exprs
 one e = More e End
+
+-- over the places of these keys, these are the functions of a scope, in source order
+abbrev pub AreFunctions : List Key → Address → List SourceFunction → List Function → Type 0
+AreFunctions ks s written fs = (id : Key → ℕ) → GivesPlaces id ks → fs ≡ map (function_in id s) written
+
+-- From whatever occurred, the new arena is that with what occurs in these types, and they mean those.
+abbrev pub AreShapes : List TypeDef → List TypeDef → Address → Env → List Shape → List Ty → Type 0
+AreShapes old new s env xs ts = AreResolved old new s env Unknown (gathered xs) ts

@@ -15,12 +15,12 @@ pub use Rattle.wit_model.specs.declared.world.WorldInclude.{WorldInclude}
 pub use Rattle.wit_model.specs.declared.world.WorldItem.{WorldItem}
 pub use Rattle.wit_model.specs.declared.world.WorldItem.TheVariants.{Type_}
 pub use Rattle.wit_model.specs.declared.world.WorldKey.{WorldKey}
-pub use Rattle.wit_arena.specs.Resolving.{AreIncludes, AddsFunctions, AreEnded, AreFunctions, AreKnown, AreNames, AreNew, AreOwned, AreResolved, Defines, Env, Extends, GivesPlaces, HasNames, IsAdded, IsInterned, IsNameIndex, IsStored, IsUnnamedOf, Names, Required, ResolvedScope, env_of, free_functions, named, names_in, resolved_scope, resolved_scope_at, resolved_scopes, unnamed, AreShapes, gathered, AddsDeclared, AddsEach, AddsForeign, AddsInterface, AddsInterfaces, AddsScope, AddsSides, AddsWorld, AddsWorlds, WorldArenas, foreign_type, interfaces_at, prefix_worlds, worlds_at, all_function_occurrences, foreign_use_occurrence, IsOccurrence}
+pub use Rattle.wit_arena.specs.Resolving.{AreIncludes, AddsFunctions, AreEnded, AreKnown, AreNames, AreNew, AreOwned, AreResolved, Defines, Env, Extends, GivesPlaces, HasNames, IsAdded, IsInterned, IsNameIndex, IsStored, IsUnnamedOf, Names, Required, ResolvedScope, env_of, free_functions, named, names_in, resolved_scope, resolved_scope_at, resolved_scopes, unnamed, gathered, AddsDeclared, AddsEach, AddsForeign, AddsInterface, AddsInterfaces, AddsScope, AddsSides, AddsWorld, AddsWorlds, WorldArenas, foreign_type, interfaces_at, prefix_worlds, worlds_at, all_function_occurrences, foreign_use_occurrence, IsOccurrence}
 pub use Rattle.wit_arena.specs.Kind.{EntryEnd, IsOther, IsResource, IsUnknown, entry_end, found_end, kind_end, part_end, kind_of}
 pub use Rattle.wit_arena.specs.Occurrences.{End, Expr, Exprs, More, Of, Prim, Use, expr_of, exprs_of, name_exprs, Collects, Decls, Def, IsSeen, Key, Occurrence, Whole, keys, name_occurrences, shape_occurrences, shapes_occurrences, stability_at, type_of, types_of}
 pub use Rattle.wit_arena.specs.Faithful.{HasArena, HasType, IsAnonymousForm, IsFaithful, IsMadeOf, IsRoot, LiesBelow, OfFunction, OfName, node_parts}
 pub use Rattle.wit_arena.specs.Made.{IsEntryOf, Makes, entries_on, entry, foreign_interface, foreign_world, function_in, include_in, interface, interface_scopes, interface_turn, item_turns, member_turns, name_imports, name_places, names_in_turn, own_interface, own_interfaces, own_world, role_kind, scope_place, turns_of_world, world, world_entries, world_scopes}
-pub use Rattle.wit_arena.proofs.Keyed.{AreAt, IsAt, IsEntry, IsKeyed, all_seen, one, seen}
+pub use Rattle.wit_arena.proofs.Keyed.{AreAt, IsAt, IsEntry, IsKeyed, all_seen, one, seen, AreFunctions, AreShapes}
 pub use Rattle.wit_arena.proofs.Members.{entries_walked, side_entries, turns_on_sides, turns_walked, walked_entries, walked_turns}
 pub use Rattle.wit_arena.proofs.OneByOne.{OneByOne}
 pub use Rattle.wit_arena.specs.SourceFunctions.{inline_entry, link_item, link_key, put_on, settled, by_name, freestanding_names, function_item, kinds_of, placed_functions}

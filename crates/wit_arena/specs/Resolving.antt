@@ -140,13 +140,10 @@ pub record IsNameIndex (called : List ℕ → Address) (all : List Address) (by_
   pub present : (name : List ℕ) (t : ℕ) → env_of by_name name ≡ Some t → slice_get all t ≡ Some (called name)
   pub has : (t : ℕ) (name : List ℕ) → slice_get all t ≡ Some (called name) → IsSome (env_of by_name name)
 
--- over the places of these keys, these are the functions of a scope, in source order
-abbrev pub AreFunctions : List Key → Address → List SourceFunction → List Function → Type 0
-AreFunctions ks s written fs = (id : Key → ℕ) → GivesPlaces id ks → fs ≡ map (function_in id s) written
-
--- From whatever occurred, the new arena is that with what occurs in functions of a scope, whose names these are.
+-- From whatever occurred, the new arena is that with what occurs in functions of a scope, whose names these are, and over the places of it
+-- they are these, in source order.
 pub record AddsFunctions (old new : List TypeDef) (s : Address) (names : Names) (fns : List SourceFunction) (fs : List Function) : Type 0 where
-  pub from : (decls : Decls) (ms : List Occurrence) → IsOccurrence decls ms old → AreNames (keys ms) s (env_of names) → Extends decls ms (all_function_occurrences s fns) new (λ ks. AreFunctions ks s fns fs)
+  pub from : (decls : Decls) (ms : List Occurrence) → IsOccurrence decls ms old → AreNames (keys ms) s (env_of names) → Extends decls ms (all_function_occurrences s fns) new (λ ks. (id : Key → ℕ) → GivesPlaces id ks → fs ≡ map (function_in id s) fns)
 
 -- a type of another package that a handle needs to be a resource, and where it is written
 abbrev pub Required : Type 0
@@ -162,10 +159,6 @@ AreEnded env es (id ∷ ids) rs = (place : ℕ) × (steps : ℕ) × (env id.name
 abbrev pub gathered : List Shape → Shapes
 gathered [] = shape.End
 gathered (x ∷ xs) = shape.More x (gathered xs)
-
--- From whatever occurred, the new arena is that with what occurs in these types, and they mean those.
-abbrev pub AreShapes : List TypeDef → List TypeDef → Address → Env → List Shape → List Ty → Type 0
-AreShapes old new s env xs ts = AreResolved old new s env Unknown (gathered xs) ts
 
 -- what the names of a scope add to the arena of types, in the order of its table; `cs` are the scopes that they may use
 pub record AddsScope (old new : List TypeDef) (cs : List ResolvedScope) (o : TypeOwner) (xs : List ScopeName) (types : Names) : Type 0 where

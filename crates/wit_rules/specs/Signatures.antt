@@ -1,11 +1,11 @@
 -- Written functions that are borrowed until their types are resolved, and what they are resolved in.
 use Rattle.std.specs.Prelude.{Option, Some, None, ◌≡◌, ℕ, nat_eq, List, map, IsSome, slice_get, ⊤}
-use Rattle.wit_arena.specs.Common.{Address, Constructor, Env, Fault, Id, Method, OnSide, Param, Role, ScopeName, Shape, SourceFunction, SourceParam, Static, TypeDef, WorldSide, env_of, free_function, lookup, meaning, option_to_list, pointwise, resource_function, side_function, «Type» as Ty, Span, option_and_then}
+use Rattle.wit_arena.specs.Common.{Address, AreResolved, Constructor, Env, Fault, Id, Method, OnSide, Param, Role, ScopeName, Shape, SourceFunction, SourceParam, Static, TypeDef, Unknown, WorldSide, env_of, free_function, lookup, meaning, option_to_list, pointwise, resource_function, side_function, «Type» as Ty, Span, option_and_then}
 use Rattle.wit_rules.specs.declared.borrowed.BorrowedFunction.{BorrowedFunction}
 use Rattle.wit_rules.specs.declared.borrowed.BorrowedFunction.TheVariants.{Free, Of, Across}
 use Rattle.wit_type_tree.specs.declared.types.«Type».{«Type» as Written}
 use denote.Ref.{Bor}
-use Rattle.wit_arena.specs.Resolving.{AreShapes}
+use Rattle.wit_arena.specs.Resolving.{gathered}
 use Rattle.wit_syntax.specs.SignatureRules.{ok_of, meant_ok, result_ok}
 use Rattle.wit_first.specs.FunctionFaults.{result_fault}
 use Rattle.wit_rules.specs.declared.function_scope.FunctionScope.{FunctionScope}
@@ -66,8 +66,8 @@ pub record HaveOwners (env : Env) (fns : List SourceFunction) : Type 0 where
 -- these are the parameters, over their types, which were added to the arena
 pub record AreParamsOver (old new : List TypeDef) (env : Env) (ws : List SourceParam) (ps : List Param) : Type 0 where
   pub says : map {B = List ℕ × Span} (λ p. (p.name, p.span)) ps ≡ map (λ w. (w.name, w.span)) ws
-  pub types : (s : Address) → AreShapes old new s env (map (λ w. w.shape) ws) (map (λ p. p.ty) ps)
+  pub types : (s : Address) → AreResolved old new s env Unknown (gathered (map (λ w. w.shape) ws)) (map (λ p. p.ty) ps)
 
 -- this is the type of a result, which was added to the arena, where there is one
 pub record IsResultOver (old new : List TypeDef) (env : Env) (x : Option Shape) (t : Option Ty) : Type 0 where
-  pub types : (s : Address) → AreShapes old new s env (option_to_list x) (option_to_list t)
+  pub types : (s : Address) → AreResolved old new s env Unknown (gathered (option_to_list x)) (option_to_list t)
