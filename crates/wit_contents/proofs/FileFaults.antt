@@ -1,8 +1,13 @@
 -- The first fault of files from a step of the walk on: of their names, of uses, and of what is in interfaces and worlds.
-use Rattle.std.proofs.Common.{◌≡◌, ◌⊎◌, ℕ, List, Option, Some, None, inl, inr, sym, ap, ◌∙◌}
-use Rattle.wit_contents.proofs.Names.{AtCycle, AtMissing, Err, Fault, Finds, ForeignVisit, Id, InOrder, IsAllocationFailure, IsErrAnd, IsOrder, IsOutcome, IsRight, Known, Ok, Outcome, PackageFile, ParseError, Reports, Result, Row, all_items, all_uses_fault, contents_fault, cyclic_at, fault_after, files_fault, first_in, foreign_visits, in_order, interfaces_of, item_names_fault, item_rows, item_word, missing_at, option_or, or_assoc, or_none, order_fault, order_of, outcome_one, reports_back, reports_prefix, reports_same, stability_fault, tops_fault, worlds_of}
+use Rattle.std.proofs.Common.{◌≡◌, ◌⊎◌, ℕ, List, Option, Some, None, inl, inr, sym, ap, ◌∙◌, drop}
+use Rattle.wit_contents.proofs.Names.{AtCycle, AtMissing, Err, Fault, Finds, ForeignVisit, Id, InOrder, IsAllocationFailure, IsErrAnd, IsOrder, IsOutcome, IsRight, Known, Ok, Outcome, PackageFile, ParseError, Reports, Result, Row, all_items, all_uses_fault, contents_fault, cyclic_at, files_fault, first_in, foreign_visits, in_order, interfaces_of, item_names_fault, item_rows, item_word, missing_at, option_or, or_assoc, or_none, order_fault, order_of, outcome_one, reports_back, reports_prefix, reports_same, stability_fault, tops_fault, worlds_of, earliest}
 use Rattle.wit_first.specs.OrderFaults.{IsNamesFault, IsOrderFault, IsOrderedFault, names_prefix}
 use Rattle.wit_first.proofs.OrderFaults.{or_is, or_neither}
+use Rattle.wit_walk.specs.Walk.{walk_faults}
+
+-- the first fault of files after so many steps of the walk: after one there is a header, and after six there are names
+abbrev pub fault_after : ℕ → List PackageFile → Known → Option Fault
+fault_after n files known = earliest (drop n (walk_faults files known (known.outcome (item_rows files))))
 
 -- the fault of the order of a table is that of its outcome
 order_said : (lost round : Id → Fault) (rs : List Row) (o : Outcome) (first : Option Fault) → IsOutcome rs o → IsOrderFault lost round rs first → order_fault lost round o ≡ first

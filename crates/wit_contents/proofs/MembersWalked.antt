@@ -7,7 +7,7 @@ use Rattle.wit_contents.specs.declared.walk.Growing.{Growing}
 use Rattle.wit_contents.specs.declared.walk.Walked.{Walked}
 use Rattle.wit_signatures.specs.FunctionsOfScope.{name_key, name_of_id}
 use Rattle.wit_sides.specs.SideNames.{defined_on}
-use Rattle.wit_externs.specs.Clash.{again_fault as twice_fault, EndsIn, item_names, linked_on, again as same_again, signed_by, bare_place}
+use Rattle.wit_externs.specs.Clash.{again_fault as twice_fault, EndsIn, item_names, linked_on, signed_by, bare_place}
 use Rattle.wit_item_entries.proofs.NameOrder.{all_used, bare_name}
 use Rattle.wit_world_sides.specs.declared.members.Members.{Members}
 use Rattle.wit_contents.proofs.PathsWalked.{in_same}
@@ -17,6 +17,7 @@ use Rattle.wit_entries.proofs.Requiring.{extended_then}
 use Rattle.wit_externs.proofs.Steps.{at_middle}
 use Rattle.wit_links.proofs.Leading.{called_at}
 use Rattle.wit_walk.proofs.Common.{clash_of}
+use Rattle.wit_externs.proofs.AloneFaults.{again as same_again}
 
 abbrev wants : ForeignVisit → Bool
 wants v = v.wants_world

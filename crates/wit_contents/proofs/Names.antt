@@ -6,7 +6,7 @@ pub use Rattle.wit_links.specs.declared.worlds.Worlds.{Worlds}
 pub use Rattle.wit_item_entries.specs.AddedNames.{AddsTurn, IsTurn, Appends}
 pub use Rattle.wit_item_entries.specs.ReachedFaults.{EndsInTurn, FindsNames, item_stability, names_fault, ordered_fault}
 pub use Rattle.wit_contents.specs.Interfaces.{AddsAt, AppendsAll, IsIndexed, interfaces_in, AreRightOf, FindsInterface, IsLent, IsRightOf, interface_fault, names_of, rest_fault}
-pub use Rattle.wit_contents.specs.Files.{IsRight, fault_after}
+pub use Rattle.wit_contents.specs.Files.{IsRight}
 pub use Rattle.wit_contents.specs.Walk.{AreRightMembers, IsRightMember, AddsInside, AddsMembers, HavePlaces, IsNext, IsStart, IsWalk, ItemWalk, Stage, lead, next_place, puts_nothing, stage, walk_of}
 pub use Rattle.wit_contents.specs.Worlds.{AddsContent, AddsTo, AreIndexed, AreRightOfWorlds, FindsSides, HasContent, IsRightOfWorld, arenas}
 pub use Rattle.wit_items.specs.declared.interfaces.Interfaces.{Interfaces}

@@ -4,10 +4,11 @@ use Rattle.wit_contents.proofs.Names.{Called, Defined, Exported, Fault, ForeignN
 use Rattle.wit_arena.proofs.Common.{Item}
 use Rattle.wit_items.proofs.Common.{resource_items}
 use Rattle.wit_signatures.specs.FunctionsOfScope.{name_key, name_of_function, name_of_id}
-use Rattle.wit_externs.specs.Clash.{again, again_fault, alone_faults, defined_fault, lone_setters, signed_by, item_names}
+use Rattle.wit_externs.specs.Clash.{again_fault, alone_faults, defined_fault, lone_setters, signed_by, item_names}
 use Rattle.wit_item_entries.specs.ReachedFaults.{local_fault, used_fault, functions_fault}
 use Rattle.wit_item_entries.proofs.NameOrder.{all_used, bare_name}
 use Rattle.wit_syntax.proofs.Setters.{declared_includes}
+use Rattle.wit_externs.proofs.AloneFaults.{again}
 
 pub repeat-made : {X Y : Type 0} (key : Y → List ℕ) (as_fault : Y → Fault) (f : X → Y) (before : List X) (x : X) → repeat_of key as_fault (map f before) (f x) ≡ repeat_of (λ (y : X). key (f y)) (λ (y : X). as_fault (f y)) before x
 repeat-made key as_fault f before x = ap (λ (b : Bool). if b then Some (as_fault (f x)) else None) (any-map (λ y. bytes_eq (key y) (key (f x))) f before)

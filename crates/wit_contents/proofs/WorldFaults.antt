@@ -6,7 +6,7 @@ use Rattle.wit_contents.specs.declared.walk.Growing.{Growing}
 use Rattle.wit_contents.specs.declared.walk.Walked.{Walked}
 use Rattle.wit_contents.specs.declared.walk.WorldScope.{WorldScope}
 use Rattle.wit_walk.proofs.Common.{World as Written, WorldItem}
-use Rattle.wit_externs.specs.Clash.{sides_setters, again, defined_fault}
+use Rattle.wit_externs.specs.Clash.{sides_setters, defined_fault}
 use Rattle.wit_item_entries.proofs.ReachedFaults.{done, failed, turn_texts}
 use Rattle.wit_item_entries.specs.declared.names.ResolvedNames.{ResolvedNames}
 use Rattle.wit_contents.proofs.MemberFaults.{turned, world_sides}
@@ -21,6 +21,7 @@ use Rattle.wit_item_entries.proofs.NameOrder.{names_alone}
 use Rattle.wit_contents.proofs.Members.{sides_none}
 use Rattle.wit_types.specs.declared.types.TypeOwner.TheVariants as owner
 use Rattle.wit_arena.proofs.MadeWorlds.{type_imports-as_stated, world_stated}
+use Rattle.wit_externs.proofs.AloneFaults.{again}
 
 -- setters are looked at where a world includes nothing
 setters_by : (i : Item) (ns : List Include) → (if none_of ns then sides_setters (functions i) else None) ≡ (if length ns == 0 then option_or (side_setters_fault i Imported) (side_setters_fault i Exported) else None)

@@ -1,6 +1,6 @@
 -- What files make, and their first fault from a step of the walk on.
-use Rattle.std.specs.Prelude.{◌≡◌, List, Result, Some, ℕ, Option, drop}
-use Rattle.wit_contents.specs.Names.{Interface, IsLegal, Makes, PackageFile, TypeDef, World, first_docs, headers, last_header, package_of, Address, EndsAt, Fault, Id, ParseError, Row, Word, item_rows, shape_end}
+use Rattle.std.specs.Prelude.{◌≡◌, List, Result, Some, ℕ, drop}
+use Rattle.wit_contents.specs.Names.{Interface, IsLegal, Makes, PackageFile, TypeDef, World, first_docs, headers, last_header, package_of, Address, EndsAt, Id, ParseError, Row, Word, item_rows, shape_end}
 use Rattle.wit_tree.specs.declared.tree.PackageName.{PackageName as Header}
 use Rattle.wit_model.specs.Packages.{package_of_parts}
 use Rattle.wit_model.specs.declared.foreign.ForeignItems.{ForeignItems}
@@ -18,10 +18,6 @@ pub record IsRight (files : List PackageFile) (known : Known) : Type 0 where
   pub outcomes : (rs : List Row) → IsOutcome rs (known.outcome rs)
   pub enough : (s : Address) (id : Id) (end : End) → EndsAt files s id end → shape_end files known.steps s (Word id) ≡ Some end
 
--- the first fault of files after so many steps of the walk: after one there is a header, and after six there are names
-abbrev pub fault_after : ℕ → List PackageFile → Known → Option Fault
-fault_after n files known = earliest (drop n (walk_faults files known (known.outcome (item_rows files))))
-
 -- a call finds it
 abbrev pub FindsAfter : {T : Type 0} → ℕ → List PackageFile → Result T ParseError → Type 0
-FindsAfter n files r = (known : Known) → IsRight files known → Finds (fault_after n files known) r
+FindsAfter n files r = (known : Known) → IsRight files known → Finds (earliest (drop n (walk_faults files known (known.outcome (item_rows files))))) r

@@ -1,6 +1,6 @@
 -- The first fault of functions where nothing else is on the sides of a scope: names again, and tests of names in handles in an arena that grows.
 use Rattle.std.proofs.Common.{◌≡◌, ℕ, true, false, List, [], ◌∷◌, ◌++◌, map, take, Option, Some, None, Result, Ok, Err, inl, inr, refl, sym, ap, ◌∙◌, ◌+◌}
-use Rattle.wit_arena.proofs.Common.{Env, Fault, Id, IfErr, OnOk, ParseError, Refused, ScopeName, SourceFunction, SourceParam, Span, TypeDef, any_found, bytes_eq, false_from_ne_true, find-only, folded_key, if◌then◌else◌, is_none, list_any, lower_case, missing_type_at, name_equal, name_itself, option_map, option_or, param_twice, result_ok, slice_get, take_next, written_param, «Type» as Written, option_map_or}
+use Rattle.wit_arena.proofs.Common.{Env, Fault, Id, IfErr, OnOk, ParseError, Refused, ScopeName, SourceFunction, SourceParam, Span, TypeDef, any_found, bytes_eq, false_from_ne_true, find-only, folded_key, if◌then◌else◌, is_none, list_any, lower_case, missing_type_at, name_equal, name_itself, option_map, option_or, param_twice, result_ok, slice_get, take_next, written_param, «Type» as Written, option_map_or, clash, codes, fault_in}
 use Rattle.wit_walk.proofs.Common.{Finds, Param, Reports, after_kept, find_none, first_after, function_fault, given_fault, lost_word, metadata_fault, none_both, or_none_both, param_fault, repeat_of, result_fault, return_fault, type_fault, type_kept}
 use mathlib.Core.Path.{fun_ext}
 use Rattle.wit_type_tree.specs.declared.types.«Type».TheVariants as written
@@ -8,7 +8,15 @@ use Rattle.wit_refusals.specs.NameScopes.{Name, AreUsed, IsDefinedAgain}
 use Rattle.wit_entries.specs.EntryFaults.{handle_fault, name_fault, written_fault, IsExtended, end_fault, end_in}
 use Rattle.wit_entries.proofs.Faults.{written_extended}
 use Rattle.wit_signatures.specs.FunctionsOfScope.{name_key}
-use Rattle.wit_externs.specs.Clash.{EndsIn, IsSafe, again, again_fault, signed_by, words_in}
+use Rattle.wit_externs.specs.Clash.{EndsIn, IsSafe, again_fault, signed_by}
+
+-- of a name in a signature, by the functions up to that one: what it means in a scope
+abbrev pub words_in : Env → List SourceFunction → Id → Option Fault
+words_in env fns id = name_fault (lost_word fns) env id
+
+-- one of these names has the key of a name
+abbrev pub again : Name → Name → Fault
+again earlier later = fault_in 17 later.1 (clash (codes "name") earlier.0 later.0)
 
 -- a name that is defined again, and one that is not
 pub again_report : (names : List Name) (name : List ℕ) (span : Span) (e : ParseError) → Refused (IsDefinedAgain names name span) e → Reports (again_fault names (name, span)) e

@@ -65,20 +65,12 @@ IsSafe env es handle = (id : Id) (place : ℕ) → env id.name.now ≡ Some plac
 abbrev pub FindsIn : {T : Type 0} → Env → List TypeDef → ((Id → Option Fault) → Option Fault) → Result T ParseError → Type 0
 FindsIn env es wrong r = MatchResult r (λ _. (handle : Id → Option Fault) → IsSafe env es handle → wrong handle ≡ None) (λ e. IsAllocationFailure e ⊎ ((handle : Id → Option Fault) → EndsIn env es handle → wrong handle ≡ Some (fault_of e)))
 
--- one of these names has the key of a name
-abbrev pub again : Name → Name → Fault
-again earlier later = fault_in 17 later.1 (clash (codes "name") earlier.0 later.0)
-
 abbrev pub again_fault : List Name → Name → Option Fault
-again_fault before n = clash_of name_key again before n
+again_fault before n = clash_of name_key (λ (earlier : Name) (later : Name). fault_in 17 later.1 (clash (codes "name") earlier.0 later.0)) before n
 
 -- of names that are defined after these, one after another
 abbrev pub defined_fault : List Name → List Name → Option Fault
 defined_fault before names = first_after (λ earlier. again_fault (before ++ earlier)) [] names
-
--- of a name in a signature, by the functions up to that one: what it means in a scope
-abbrev pub words_in : Env → List SourceFunction → Id → Option Fault
-words_in env fns id = name_fault (lost_word fns) env id
 
 -- of a type in the signature of the last of these functions, where these are the faults of a name, and of one in a handle that means something
 abbrev pub signed_by : (List SourceFunction → Id → Option Fault) → (Id → Option Fault) → List SourceFunction → Written → Option Fault
@@ -102,4 +94,4 @@ SignaturesRequire names types fns before after = Requires (env_of names) types (
 
 -- what a call finds of the functions of a scope, whichever its names are, after the names that are defined
 abbrev pub FindsAlone : {T : Type 0} → FunctionScope → List TypeDef → Sides → Result T ParseError → Type 0
-FindsAlone scope types names r = (xs : List ScopeName) → IsScopeOf scope xs → FindsIn (env_of scope.names.now) types (λ handle. alone_faults (words_in (env_of scope.names.now)) handle xs (λ s. defined_on s names) (functions_view scope)) r
+FindsAlone scope types names r = (xs : List ScopeName) → IsScopeOf scope xs → FindsIn (env_of scope.names.now) types (λ handle. alone_faults (λ (fns : List SourceFunction) (id : Id). name_fault (lost_word fns) (env_of scope.names.now) id) handle xs (λ s. defined_on s names) (functions_view scope)) r

@@ -8,7 +8,7 @@ use Rattle.wit_sides.specs.SideNames.{defined_on}
 use Rattle.wit_sides.specs.declared.sides.Sides.{Sides}
 use Rattle.wit_entries.specs.EntryFaults.{name_fault, handle_fault, written_fault, definition_fault, IsExtended, Requires, end_fault, end_in}
 use Rattle.wit_signatures.specs.FunctionsOfScope.{name_of_id}
-use Rattle.wit_externs.specs.Clash.{words_in, EndsIn, IsSafe}
+use Rattle.wit_externs.specs.Clash.{EndsIn, IsSafe}
 use Rattle.wit_item_entries.specs.AddedNames.{AddsTurn, IsTurn}
 use Rattle.wit_items.specs.declared.interfaces.Interfaces.{Interfaces}
 use Rattle.wit_item_entries.specs.ReachedFaults.{lost_name, used_fault, spelled_fault, local_fault, ordered_fault, EndsAlong, EndsInTurn, FindsDefinitions}
@@ -21,6 +21,7 @@ use Rattle.wit_scopes.proofs.Placed.{none_unknown}
 use Rattle.wit_scopes.specs.declared.scope_name.Source.TheVariants as borrowed_source
 use Rattle.wit_type_tree.specs.declared.types.«Type».TheVariants as written
 use Rattle.wit_arena.proofs.Common.{free_functions}
+use Rattle.wit_externs.proofs.AloneFaults.{words_in}
 
 -- once the names of a scope are defined where nothing was, they are on their side
 pub used_before : (side : WorldSide) (old new : Sides) (borrowed ids : List Id) → ((s : WorldSide) → defined_on s old ≡ []) → ((s : WorldSide) → defined_on s new ≡ defined_on s old ++ names_on s (map name_of_id borrowed)) → borrowed ≡ ids → defined_on side new ≡ names_on side (map name_of_id ids)

@@ -6,7 +6,8 @@ use Rattle.wit_walk.proofs.Broken.{broken}
 use Rattle.wit_walk.proofs.Outcomes.{outcome_of}
 use Rattle.wit_walk.proofs.ScopesLegal.{steps_more}
 use Rattle.wit_walk.proofs.Steps.{enough as enough_steps}
-use Rattle.wit_contents.specs.Files.{IsRight, fault_after}
+use Rattle.wit_contents.specs.Files.{IsRight}
+use Rattle.wit_contents.proofs.FileFaults.{fault_after}
 
 -- whether an error is a failed allocation is known
 of_memory : (k : ParseErrorKind) → (k ≡ OutOfMemory) ⊎ (k ≡ OutOfMemory → ⊥)

@@ -1,7 +1,7 @@
 -- What is put on a side of a world, one entry more: where keys differ it comes last.
 use Rattle.std.proofs.Common.{◌≡◌, ◌⊎◌, ℕ, ◌<◌, ◌+◌, Bool, true, false, List, [], ◌∷◌, ◌++◌, length, Some, map, nat_eq, if◌then◌else◌, inl, inr, refl, sym, ap, ◌∙◌, arith, append_assoc, zero, suc, None, subst, Option, take}
 use Rattle.wit_arena.proofs.Common.{AllDiffer, WorldKey, WorldSide, append-nil, at_back, at_prefix, cases_Bool, differ_at, eq-value as key_test, insert_entry, insert_entry-new, name_cases, put_on, same_side, slice_get, slice_get_within, ForeignName, Id, Names, ScopeName, SideItem, differ_by, differ_none, flat_map, flat_map-append, flat_map_has, folded_key, local_id, local_name, local_names, map-append, names_in, type_imports, Function, WorldItem, after_one, at_split, codes, cond-false, cond-true, function_item, function_of, types_stated, Called, Exported, Imported, Link, SideLink, item_side, items_on, link_item, link_key, map_map, names_on, option_map_or, Type_, at_take, key_at, map, pointwise, is_name, lookup, name_itself, option_to_list}
-use Rattle.wit_world_sides.specs.Members.{Entry, inserted_on, key_places, item_word, AreCalled, AreKeyed, Puts, entry_sorted, entries_of}
+use Rattle.wit_world_sides.specs.Members.{Entry, inserted_on, key_places, item_word, AreKeyed, Puts, entry_sorted, entries_of}
 use Rattle.wit_refusals.specs.NameScopes.{Name}
 use Rattle.wit_signatures.specs.FunctionsOfScope.{name_of_id, name_key}
 use Rattle.wit_externs.specs.Clash.{item_names, linked_on}
@@ -11,6 +11,10 @@ use Rattle.wit_world_sides.specs.declared.members.Members.{Members}
 use Rattle.wit_model.specs.declared.world.WorldKey.TheVariants as key
 use Rattle.wit_model.specs.declared.world.WorldItem.TheVariants as item
 use Rattle.wit_model.specs.ItemsOfWorlds.{name_of}
+
+-- each function among these entries is at its name
+abbrev pub AreCalled : List (WorldKey × WorldItem) → Type 0
+AreCalled xs = (k : ℕ) (e : WorldKey × WorldItem) (f : Function) → slice_get xs k ≡ Some e → function_of e.1 ≡ Some f → e.0 ≡ key.Name f.name
 
 abbrev pub key_of : Entry → WorldKey
 key_of e = e.0

@@ -22,10 +22,6 @@ abbrev pub none_of : List Include → Bool
 none_of [] = true
 none_of (i ∷ is) = false
 
--- each function among these entries is at its name
-abbrev pub AreCalled : List (WorldKey × WorldItem) → Type 0
-AreCalled xs = (k : ℕ) (e : WorldKey × WorldItem) (f : Function) → slice_get xs k ≡ Some e → function_of e.1 ≡ Some f → e.0 ≡ key.Name f.name
-
 -- what is on a side
 abbrev pub entries_of : WorldSide → WorldSides → List (WorldKey × WorldItem)
 entries_of Imported s = s.imports
@@ -68,7 +64,7 @@ pub record AreKeyed (m : Members) : Type 0 where
   pub places : (s : WorldSide) → flat_map key_places (map (λ e. e.0) (entries_of s m.sides)) ≡ linked_on s m.links
   pub differ : (s : WorldSide) → AllDiffer (map name_key (defined_on s m.in_use))
   pub apart : (s : WorldSide) → AllDiffer (linked_on s m.links)
-  pub called : (s : WorldSide) → AreCalled (entries_of s m.sides)
+  pub called : (s : WorldSide) (k : ℕ) (e : WorldKey × WorldItem) (f : Function) → slice_get (entries_of s m.sides) k ≡ Some e → function_of e.1 ≡ Some f → e.0 ≡ key.Name f.name
 
 -- one more was put on its side, as this entry: its name is there, or else the place that is its key
 pub record Puts (m m' : Members) (x : SideItem) (e : Entry) : Type 0 where

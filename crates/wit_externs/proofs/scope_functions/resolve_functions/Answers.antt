@@ -6,8 +6,8 @@ use Rattle.wit_rules.specs.Signatures.{function_view, functions_view}
 use Rattle.wit_walk.proofs.Common.{after-at, after-more, function_fault, none_both}
 use Rattle.wit_signatures.specs.FunctionsOfScope.{name_of_function}
 use Rattle.wit_entries.proofs.Requiring.{extended_then}
-use Rattle.wit_externs.specs.Clash.{again_fault, alone_faults, signed_by, words_in, item_names}
-use Rattle.wit_externs.proofs.AloneFaults.{function_safe, function_same, safe_arena, safe_of}
+use Rattle.wit_externs.specs.Clash.{again_fault, alone_faults, signed_by, item_names}
+use Rattle.wit_externs.proofs.AloneFaults.{function_safe, function_same, safe_arena, safe_of, words_in}
 use Rattle.wit_externs.proofs.Clashing.{sides_more}
 use Rattle.wit_externs.proofs.DoneFunctions.{next_place, item_next, place_within, done_more, done_all, same_name}
 use Rattle.wit_externs.proofs.scope_functions.resolve_functions.Goals as goal

@@ -3,9 +3,10 @@ use Rattle.wit_arena.proofs.Common.{AllDiffer, Fault, Id, ScopeName, SideFunctio
 use Rattle.wit_sides.specs.SideNames.{defined_on}
 use Rattle.wit_rules.specs.Signatures.{IsScopeOf, functions_view}
 use Rattle.wit_signatures.specs.FunctionsOfScope.{name_key}
-use Rattle.wit_externs.specs.Clash.{IsSafe, alone_faults, words_in, item_names}
+use Rattle.wit_externs.specs.Clash.{IsSafe, alone_faults, item_names}
 use Rattle.wit_externs.proofs.DoneFunctions.{AreDone}
 use Rattle.wit_externs.proofs.scope_functions.resolve_functions.Given as goal
+use Rattle.wit_externs.proofs.AloneFaults.{words_in}
 
 -- the functions up to here are resolved, and their names are defined
 abbrev pub invariant-loop-borrowed : goal.invariant-loop-borrowed

@@ -5,13 +5,14 @@ use Rattle.wit_sides.specs.SideNames.{defined_on}
 use Rattle.wit_rules.specs.Signatures.{function_view, HaveOwners}
 use Rattle.wit_entries.proofs.Resolves.{extended_same}
 use Rattle.wit_signatures.specs.FunctionsOfScope.{name_key, name_of_function, name_of_id}
-use Rattle.wit_externs.specs.Clash.{again, alone_faults, defined_fault, words_in, item_names}
+use Rattle.wit_externs.specs.Clash.{alone_faults, defined_fault, item_names}
 use Rattle.wit_item_entries.specs.AddedNames.{IsTurn}
 use Rattle.wit_item_entries.specs.ReachedFaults.{functions_fault}
 use Rattle.wit_item_entries.proofs.ReachedFaults.{all_names, used_before, words_same}
 use Rattle.wit_item_entries.proofs.NameOrder.{no_functions, turn_keys}
 use Rattle.wit_item_entries.proofs.ScopeFunctions.{owners, turn_has, body_added, none_added}
 use Rattle.wit_item_entries.proofs.body.resolve_item_functions.Goals as goal
+use Rattle.wit_externs.proofs.AloneFaults.{again, words_in}
 
 -- whether a name has a letter in upper case
 abbrev has_upper : List Id → Bool
