@@ -162,7 +162,7 @@ module _ (files : List PackageFile) (is ws : List Item) (interfaces : AreOfSort 
         among_first : (k : ℕ) (i : Item) → slice_get inside_done k ≡ Some i → slice_get (inline_items w) k ≡ Some i
         among_first k i at = (at_take (inline_items w) count k i (ap (λ (l : List Item). slice_get l k) (sym first) ∙ at)).0
 
-        sided : AreSided files (decls files is ws) (written ++ all_name_occurrences (address w) own_scope.names) (before ++ own_scope ∷ []) _ (address w) mid a.inside now made rs xs_done inside_done
+        sided : AreSided files (decls files is ws) (written ++ all_name_occurrences (address w) own_scope.names) (before ++ own_scope ∷ []) (keys (names_done files is ws interfaces worlds is_items ws_items uses es prefix wprefix foreign middle xs irs d us old a qs e w there named types adds []).seen) (address w) mid a.inside now made rs xs_done inside_done
         sided = sides_done files is ws interfaces worlds is_items ws_items uses es prefix wprefix foreign middle xs irs d us old a qs e w there named types adds [] mid now made rs xs_done inside_done among_first sides
 
         can_be_next : IsFreshInside files (decls files is ws) (before ++ own_scope ∷ []) ((length (prefix ++ xs) + length a.inside) + count) inner

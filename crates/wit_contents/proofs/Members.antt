@@ -88,7 +88,7 @@ module _ (cs : List ResolvedScope) (count : ℕ) (s : Address) (names : Names) w
 members_then-append : (w : Item) (before xs ys : List SideItem) → members_after w before (xs ++ ys) ≡ members_after w before xs ++ members_after w (before ++ xs) ys
 members_then-append w before [] ys = ap (λ (l : List SideItem). members_after w l ys) (sym (append-nil before))
 members_then-append w before (x ∷ xs) ys =
-    let own = (x, inline_item w (length (filter is_interface (items_on (item_side x) before))) x) in
+    let own : SideItem × List Item = (x, inline_item w (length (filter is_interface (items_on (item_side x) before))) x) in
     ap (λ (l : List (SideItem × List Item)). own ∷ l) (members_then-append w (before ++ x ∷ []) xs ys) ∙ ap (λ (l : List SideItem). own ∷ (members_after w (before ++ x ∷ []) xs ++ members_after w l ys)) (append_assoc before (x ∷ []) xs)
 
 entries_then : (id : Key → ℕ) (ss : List Address) (w : Item) (before xs ys : List SideItem) (s : WorldSide) → entries_on s (next_entries id ss w before (xs ++ ys)) ≡ entries_on s (next_entries id ss w before xs) ++ entries_on s (next_entries id ss w (before ++ xs) ys)
@@ -99,13 +99,13 @@ entries_then id ss w before xs ys s =
     ∙ filter_map-append (λ (e : WorldSide × Entry). if same_side s e.0 then Some e.1 else None) (next_entries id ss w before xs) (next_entries id ss w (before ++ xs) ys)
 
 -- lists that are as long are one where they begin one list
-front_same : (as bs cs ds : List Function) → length as ≡ length cs → as ++ bs ≡ cs ++ ds → (as ≡ cs) × (bs ≡ ds)
+front_same : (xs bs cs ds : List Function) → length xs ≡ length cs → xs ++ bs ≡ cs ++ ds → (xs ≡ cs) × (bs ≡ ds)
 front_same [] bs [] ds long same = (refl, same)
-front_same (a ∷ as) bs (c ∷ cs) ds long same =
-    let rest = front_same as bs cs ds (omega (arith, long)) (cc) in
+front_same (a ∷ xs) bs (c ∷ cs) ds long same =
+    let rest = front_same xs bs cs ds (omega (arith, long)) (cc) in
     let here : a ≡ c = cc in
-    (ap (λ (x : Function). x ∷ as) here ∙ ap (λ (l : List Function). c ∷ l) rest.0, rest.1)
-front_same as bs cs ds long same = absurd (omega (arith, long))
+    (ap (λ (x : Function). x ∷ xs) here ∙ ap (λ (l : List Function). c ∷ l) rest.0, rest.1)
+front_same xs bs cs ds long same = absurd (omega (arith, long))
 
 -- the names, the words for them and the places of what is on a side, with more after it
 names_then : (s : WorldSide) (xs ys : List SideItem) → flat_map item_names (items_on s (xs ++ ys)) ≡ flat_map item_names (items_on s xs) ++ flat_map item_names (items_on s ys)

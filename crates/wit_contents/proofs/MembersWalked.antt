@@ -176,7 +176,7 @@ module _ (files : List PackageFile) (by_name : Names) (top : List TopName) (befo
 
 -- The walk's fault of what is on the sides of a world is what is found of it, one after another: of its name, and of itself.
 -- one name after others
-named_walked : (extern : Bool) (side : WorldSide) (before : List Called) (c : Called) → option_or (if extern then repeat_of (λ (m : Name). m.0) (λ (m : Name). crossed_among side (map sorted_name before) m.0 m.1) (map bare_name before) (bare_name c) else None) (again_fault (map bare_name before) (bare_name c)) ≡ called_fault extern (crossed side) before c
+named_walked : (extern : Bool) (side : WorldSide) (before : List Called) (c : Called) → option_or (if extern then repeat_of (λ (m : Name). m.0) (λ (m : Name). crossed_among side (map sorted_name before) m.0 m.1) (map bare_name before) (bare_name c) else None) (twice_fault (map bare_name before) (bare_name c)) ≡ called_fault extern (crossed side) before c
 named_walked extern side before c =
     let as_crossed = crossed_among side (map sorted_name before) in
     ap (λ (o : Option Fault). option_or (if extern then o else None) (twice_fault (map bare_name before) (bare_name c))) (repeat-made (λ (m : Name). m.0) (λ (m : Name). as_crossed m.0 m.1) bare_name before c ∙ sym (crossed_same side before c))
@@ -203,9 +203,9 @@ put_walked m xs order ids before x are state sorts =
     let side = item_side x in
     let there = items_on side before in
     let all = side_called side xs there order in
-    let wrong = (λ (n : Name). option_or (if is_extern x then repeat_of (λ (m : Name). m.0) (λ (m : Name). crossed_among side (map sorted_name all) m.0 m.1) (map bare_name all) n else None) (again_fault (map bare_name all) n)) in
-    ap (λ (l : List Sorted). first_in (λ (n : Name). option_or (if is_extern x then repeat_of (λ (m : Name). m.0) (λ (m : Name). crossed_among side l m.0 m.1) (defined_on side m.in_use) n else None) (again_fault (defined_on side m.in_use) n)) (item_names x)) (sorts side ∙ sides_sorted side xs there order)
-    ∙ ap (λ (l : List Name). first_in (λ (n : Name). option_or (if is_extern x then repeat_of (λ (m : Name). m.0) (λ (m : Name). crossed_among side (map sorted_name all) m.0 m.1) l n else None) (again_fault l n)) (item_names x)) (state side ∙ sym (all_used side xs there order ids are))
+    let wrong = (λ (n : Name). option_or (if is_extern x then repeat_of (λ (m : Name). m.0) (λ (m : Name). crossed_among side (map sorted_name all) m.0 m.1) (map bare_name all) n else None) (twice_fault (map bare_name all) n)) in
+    ap (λ (l : List Sorted). first_in (λ (n : Name). option_or (if is_extern x then repeat_of (λ (m : Name). m.0) (λ (m : Name). crossed_among side l m.0 m.1) (defined_on side m.in_use) n else None) (twice_fault (defined_on side m.in_use) n)) (item_names x)) (sorts side ∙ sides_sorted side xs there order)
+    ∙ ap (λ (l : List Name). first_in (λ (n : Name). option_or (if is_extern x then repeat_of (λ (m : Name). m.0) (λ (m : Name). crossed_among side (map sorted_name all) m.0 m.1) l n else None) (twice_fault l n)) (item_names x)) (state side ∙ sym (all_used side xs there order ids are))
     ∙ in-map wrong bare_name (item_called x)
     ∙ in_same (λ (c : Called). wrong (bare_name c)) (called_fault (is_extern x) (crossed side) all) (item_called x) (λ k c at. named_walked (is_extern x) side all c)
 

@@ -1,10 +1,10 @@
 -- The walk's fault of each world is what is found of it, once all interfaces and the worlds before it are resolved.
 use Rattle.std.proofs.Common.{◌≡◌, ◌⊎◌, ℕ, ◌+◌, true, false, List, [], ◌∷◌, ◌++◌, length, map, take, Option, Some, None, IsSome, inl, inr, refl, sym, ap, ◌∙◌, subst, Contains, arith}
-use Rattle.wit_contents.proofs.Names.{Address, AddsForeign, AddsInterfaces, AddsMembers, AddsScope, AddsSides, AddsWorlds, AllDiffer, AreIndexed, AreNamesPlaced, AreRightMembers, AreRightOfWorlds, AreUsableUses, AreWorldsDone, Attribute, Borrowed, EndsInTurn, Fault, Foreign, ForeignNamed, ForeignVisit, HasAmong, Id, InOrder, Include, IncludePart, Interface, InterfaceNamed, Interfaces, InterfacesDone, IsBrokenNames, IsForeignUse, IsIndexed, IsItemOf, IsLent, IsNameIndex, IsOrder, IsOutcome, IsResolvedUse, IsRight, IsRightOf, IsRightOfWorld, IsStart, IsWalk, Item as BorrowedItem, ItemScope, ItemWalk, Known, Link, Names, Outcome, PackageFile, PackageName, ParseError, Reports, Required, ResolvedScope, Row, ScopeName, SideItem, SideLink, Stage, TopName, TypeDef, UseName, Used, World, WorldArenas, WorldNamed, Worlds, address, all_items, all_scopes, all_uses_fault, are_interfaces, are_worlds, at_contains, bytes_eq, contains_at, contents_fault, declared_view, distinct_items, env_of, filed_item, find_at, find_passes, first_after, first_in, flat_map, foreign_at, foreign_interfaces, handle_fault, in_order, in_turn, include_fault, includes, includes_fault, inline_after, inline_after-append, inline_interface, inline_items, interface_at, interfaces, interfaces_at, interfaces_done, interfaces_in, interfaces_of, interfaces_sort, is_world, item_inline, item_name, item_named, item_rows, item_view, kept_prefix, leads, length-inline_after, local_id, member_fault, name_equal, name_view, names_at_top, next_place, option_cases, option_map, option_or, order_of, others_of, outcome_one, own_use, part_visited, parts, prefix_of, prefix_scopes, prefix_worlds, reports_same, resolved_scopes, resolved_scopes_of, rows_of, scope_names, scopes_declared, scopes_inline, setters_fault, side_items, slice_get, slice_get-map, source_view, stage, take_seam, used_interface, used_visited, uses_usable, visited, worlds, worlds_at, worlds_of, worlds_sort}
+use Rattle.wit_contents.proofs.Names.{Address, AddsForeign, AddsInterfaces, AddsMembers, AddsScope, AddsSides, AddsWorlds, AllDiffer, AreIndexed, AreNamesPlaced, AreRightMembers, AreRightOf, AreRightOfWorlds, AreUsableUses, AreWorldsDone, Attribute, Borrowed, EndsInTurn, Fault, Foreign, ForeignNamed, ForeignVisit, HasAmong, Id, InOrder, Include, IncludePart, Interface, InterfaceNamed, Interfaces, InterfacesDone, IsBrokenNames, IsForeignUse, IsIndexed, IsItemOf, IsLent, IsNameIndex, IsOrder, IsOutcome, IsResolvedUse, IsRight, IsRightOf, IsRightOfWorld, IsStart, IsWalk, Item as BorrowedItem, ItemScope, ItemWalk, Known, Link, Names, Outcome, PackageFile, PackageName, ParseError, Reports, Required, ResolvedScope, Row, ScopeName, SideItem, SideLink, Stage, TopName, TypeDef, UseName, Used, World, WorldArenas, WorldNamed, Worlds, about, address, all_items, all_scopes, all_uses_fault, are_interfaces, are_worlds, at_contains, bytes_eq, contains_at, contents_fault, declared_view, distinct_items, env_of, filed_item, find_at, find_passes, first_after, first_in, flat_map, foreign_at, foreign_interfaces, handle_fault, in_order, in_turn, include_fault, includes, includes_fault, inline_after, inline_after-append, inline_interface, inline_items, interface_at, interfaces, interfaces_at, interfaces_done, interfaces_in, interfaces_of, interfaces_sort, is_world, item_inline, item_name, item_named, item_rows, item_view, kept_prefix, leads, length-inline_after, local_id, member_fault, name_equal, name_view, names_at_top, next_place, option_cases, option_map, option_or, order_of, others_of, outcome_one, own_use, part_visited, parts, prefix_of, prefix_scopes, prefix_worlds, reports_same, resolved_scopes, resolved_scopes_of, rows_of, scope_names, scopes_declared, scopes_inline, setters_fault, side_items, slice_get, slice_get-map, source_view, stage, take_seam, used_interface, used_visited, uses_usable, visited, worlds, worlds_at, worlds_of, worlds_sort}
 use Rattle.wit_contents.specs.declared.walk.Growing.{Growing}
 use Rattle.wit_contents.specs.declared.walk.Walked.{Walked}
 use Rattle.wit_contents.specs.declared.walk.WorldScope.{WorldScope}
-use Rattle.wit_arena.proofs.Common.{Item}
+use Rattle.wit_arena.proofs.Common.{Declared, Item}
 use Rattle.wit_types.specs.declared.types.TypeOwner.TheVariants as owner
 use Rattle.wit_items.proofs.Common.{ordered_fault}
 use Rattle.wit_arena.proofs.WorldSides.{world_added}
@@ -16,7 +16,7 @@ use Rattle.wit_contents.proofs.Ends.{IsEnough, inline_ends, named_ends, world_en
 use Rattle.wit_contents.proofs.PathsWalked.{includes_walked, near_has, uses_as_walked}
 use Rattle.wit_contents.proofs.MembersWalked.{IsLeading, right_members}
 use Rattle.wit_contents.proofs.Members.{sides_count}
-use Rattle.wit_contents.proofs.RightInterfaces.{borrowed_uses, next_kept, right_interface, AreRightOf, interfaces_right}
+use Rattle.wit_contents.proofs.RightInterfaces.{borrowed_uses, next_kept, right_interface, interfaces_right}
 use Rattle.wit_contents.proofs.Walked.{AreAsWalked, head_walked, world_split}
 use Rattle.wit_contents.proofs.FileFaults.{interfaces_reported, none_after, worlds_reported, fault_after}
 use Rattle.wit_walk.proofs.MemberFaults.{path_among}

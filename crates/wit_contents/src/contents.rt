@@ -81,8 +81,6 @@ fn resolve_named<'f, 'a>(
     ensures first { FindsAfter 6 names.now result }
 {
     let order = names.item_order();
-    // Most items have a type at least.
-    types.reserve(order.len())?;
     let mut prefix = ForeignArenas::of_items(alloc, names.foreign(), order.len())?;
     let gathered = Files::of(names, &prefix.entries);
     let mut items = declared_items(alloc, files, &gathered, order.len())?;
@@ -121,7 +119,10 @@ fn resolve_gathered<'f, 'a>(
     ensures first { FindsAfter 1 files.now result }
 {
     let names = FileNames::gather(alloc, files)?;
-    resolve_named(alloc, &names, files, types)
+    let lent: &FileNames<'_, '_> = &names;
+    // Most items have a type at least.
+    types.reserve(lent.item_order().len())?;
+    resolve_named(alloc, lent, files, types)
 }
 
 /// What files make in the arenas, and what they name of other packages.

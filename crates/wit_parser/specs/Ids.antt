@@ -7,6 +7,10 @@ use Rattle.wit_model.specs.declared.ast_item.AstItem.TheVariants as entry
 use Rattle.wit_model.specs.declared.world.WorldItem.TheVariants as item
 use Rattle.wit_model.specs.declared.world.WorldKey.TheVariants as key
 
+-- each of these names means the place of a type of the package
+abbrev pub AreNamesWithin : UnresolvedPackage → List (List ℕ × ℕ) → Type 0
+AreNamesWithin p names = (k : ℕ) (name : List ℕ) (id : ℕ) → slice_get names k ≡ Some (name, id) → id < length p.types
+
 -- an owner is nobody, or has the place of an interface or of a world of the package
 abbrev pub IsOwnerWithin : UnresolvedPackage → TypeOwner → Type 0
 IsOwnerWithin p (owner.Interface id) = id < length p.interfaces
@@ -25,7 +29,7 @@ pub record IsFunctionWithin (p : UnresolvedPackage) (f : Function) : Type 0 wher
 
 -- those of an interface: those of its types and of its functions; it has none of a package, nor of an interface that it is a copy of
 pub record IsInterfaceWithin (p : UnresolvedPackage) (i : Interface) : Type 0 where
-  pub types : (k : ℕ) (name : List ℕ) (id : ℕ) → slice_get i.types k ≡ Some (name, id) → id < length p.types
+  pub types : AreNamesWithin p i.types
   pub functions : (k : ℕ) (name : List ℕ) (f : Function) → slice_get i.functions k ≡ Some (name, f) → IsFunctionWithin p f
   pub no_package : i.package ≡ None
   pub no_source : i.clone_of ≡ None

@@ -1,6 +1,6 @@
 -- Parameters and results over their types, one after the other.
 use Rattle.std.proofs.Common.{◌≡◌, ◌≤◌, ℕ, List, [], ◌∷◌, ◌++◌, length, map, Option, Some, None, refl, sym, ap, ◌∙◌, subst, arith, append_assoc}
-use Rattle.wit_arena.proofs.Common.{Address, AreShapes, Env, Id, IsInterned, Param, ResourceFunc, Shape, SourceParam, Span, TypeDef, Unknown, map-append, resource_function, self_param, shapes_append, resolved_none, written_param, «Type» as Written, length-map, all_shapes}
+use Rattle.wit_arena.proofs.Common.{Address, AreShapes, Env, Id, IsInterned, Param, ResourceFunc, Shape, SourceParam, Span, TypeDef, Unknown, map-append, resource_function, self_param, shapes_append, resolved_none, written_param, «Type» as Written, length-map, all_shapes, Word, option_map, option_map_or, shape_of}
 use Rattle.wit_arena.proofs.PlacingFunctions.{as_written, said}
 use Rattle.wit_walk.proofs.Common.{Param as WrittenParam}
 use Rattle.wit_type_tree.specs.declared.types.ResourceFunc.TheVariants as resource
@@ -10,7 +10,7 @@ use Rattle.wit_types.specs.declared.types.TypeDefKind.TheVariants as kind
 use Rattle.wit_types.specs.declared.types.Handle.TheVariants as handle
 use Rattle.wit_rules.specs.declared.borrowed.BorrowedFunction.{BorrowedFunction}
 use Rattle.wit_rules.specs.declared.borrowed.BorrowedFunction.TheVariants as borrowed
-use Rattle.wit_rules.specs.Signatures.{function_view, given_of, AreParamsOver, IsResultOver}
+use Rattle.wit_rules.specs.Signatures.{function_view, given_of, made_of, AreParamsOver, IsResultOver}
 use Rattle.wit_entries.specs.ResolvedForms.{AreParts}
 use Rattle.wit_entries.proofs.Reading.{resolved_word, whole_present}
 use Rattle.wit_signatures.proofs.SignatureTypes.{result_shape}
@@ -51,6 +51,20 @@ self_over old new env r word place i p found interned name span same =
 -- a written result means a type
 pub result_view : (old new : List TypeDef) (env : Env) (h : BorrowedFunction) (t : Written) (ty : Ty) → (function_view h).func.result ≡ Some t → AreParts old new env Unknown (all_shapes (t ∷ [])) (ty ∷ []) → IsResultOver old new env (function_view h).result (Some ty)
 result_view old new env h t ty written is = subst (λ (x : Option Shape). IsResultOver old new env x (Some ty)) (sym (result_shape h t written)) (record { types = is })
+
+-- a constructor without a written result makes its resource
+made_shape : (h : BorrowedFunction) (r : Id) → (function_view h).func.result ≡ None → made_of (function_view h).role ≡ Some r → (function_view h).result ≡ Some (Word r)
+made_shape (borrowed.Free f) r none is = absurd (let x : ⊥ = cc in x)
+made_shape (borrowed.Across side docs attributes name f) r none is = absurd (let x : ⊥ = cc in x)
+made_shape (borrowed.Of of f) r none is = by f.now none is
+  where
+    by : (g : ResourceFunc) → (resource_function of g).func.result ≡ None → made_of (resource_function of g).role ≡ Some r → (resource_function of g).result ≡ Some (Word r)
+    by (resource.Method m) none is = absurd (let x : ⊥ = cc in x)
+    by (resource.Static m) none is = absurd (let x : ⊥ = cc in x)
+    by (resource.Constructor docs attributes span params result) none is = ap (λ (o : Option Written). Some (option_map_or shape_of o (Word of))) none ∙ ap (option_map Word) is
+
+pub made_view : (es : List TypeDef) (env : Env) (h : BorrowedFunction) (r : Id) (place : ℕ) → (function_view h).func.result ≡ None → made_of (function_view h).role ≡ Some r → env r.name.now ≡ Some place → IsResultOver es es env (function_view h).result (Some (type.Id place))
+made_view es env h r place none is found = subst (λ (x : Option Shape). IsResultOver es es env x (Some (type.Id place))) (sym (made_shape h r none is)) (record { types = resolved_word es env Unknown r place found })
 
 -- a method is given its resource, and no other function is given anything
 given_resource : (h : BorrowedFunction) (r : Id) → given_of (function_view h).role ≡ Some r → (function_view h).given ≡ self_param r (function_view h).func.span ∷ []

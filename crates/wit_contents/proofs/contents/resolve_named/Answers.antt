@@ -8,7 +8,7 @@ use Rattle.wit_contents.proofs.RightWorlds.{interfaces_first, nothing_first, wor
 use Rattle.wit_contents.proofs.contents.resolve_named.Goals as goal
 
 pub of-gathered-requires : goal.of-gathered-requires
-of-gathered-requires c = rw c.deref.ensures.value (prefix_entries c.args.names.now c.foreign.result.now c.reserve.new.self c.in_ok-prefix.prefix c.foreign.ensures (c.reserve.ensures ∙ c.requires.empty) c.in_ok-prefix.ensures)
+of-gathered-requires c = rw c.deref.ensures.value (prefix_entries c.args.names.now c.foreign.result.now c.args.types.now c.in_ok-prefix.prefix c.foreign.ensures c.requires.empty c.in_ok-prefix.ensures)
 
 pub declared_items-requires : goal.declared_items-requires
 declared_items-requires c = record { files = c.of-gathered.ensures ∙ c.requires.gathered }
@@ -16,13 +16,13 @@ declared_items-requires c = record { files = c.of-gathered.ensures ∙ c.require
 pub of-named-requires : goal.of-named-requires
 of-named-requires c =
     let e = rw c.of-gathered.ensures at c.in_ok-items.ensures in
-    let prefix : IsPrefix c.args.names.now c.add_used_by_items.new.types c.add_used_by_items.new.arenas = prefix_used c.args.names.now c.foreign.result.now c.reserve.new.self c.in_ok-prefix.prefix c.foreign.ensures (c.reserve.ensures ∙ c.requires.empty) c.in_ok-prefix.ensures c.in_ok-items.items.items c.deref_mut-lent.result.now c.deref_mut-lent.ensures.value e.each c.add_used_by_items.new.types c.add_used_by_items.new.arenas e.items c.in_ok-add_used_by_items.ensures in
+    let prefix : IsPrefix c.args.names.now c.add_used_by_items.new.types c.add_used_by_items.new.arenas = prefix_used c.args.names.now c.foreign.result.now c.args.types.now c.in_ok-prefix.prefix c.foreign.ensures c.requires.empty c.in_ok-prefix.ensures c.in_ok-items.items.items c.deref_mut-lent.result.now c.deref_mut-lent.ensures.value e.each c.add_used_by_items.new.types c.add_used_by_items.new.arenas e.items c.in_ok-add_used_by_items.ensures in
     rw c.deref-2.ensures.value prefix.entries
 
 pub add_used_by_items-requires : goal.add_used_by_items-requires
 add_used_by_items-requires c =
     let e = rw c.of-gathered.ensures at c.in_ok-items.ensures in
-    prefix_started c.args.names.now c.foreign.result.now c.reserve.new.self c.in_ok-prefix.prefix c.foreign.ensures (c.reserve.ensures ∙ c.requires.empty) c.in_ok-prefix.ensures c.in_ok-items.items.items c.deref_mut-lent.result.now c.deref_mut-lent.ensures.value e.each
+    prefix_started c.args.names.now c.foreign.result.now c.args.types.now c.in_ok-prefix.prefix c.foreign.ensures c.requires.empty c.in_ok-prefix.ensures c.in_ok-items.items.items c.deref_mut-lent.result.now c.deref_mut-lent.ensures.value e.each
 
 pub resolve_interfaces-requires-clause-within : goal.resolve_interfaces-requires-clause-within
 resolve_interfaces-requires-clause-within c =
@@ -37,13 +37,13 @@ resolve_interfaces-requires-clause-items c =
 pub resolve_interfaces-requires-clause-index : goal.resolve_interfaces-requires-clause-index
 resolve_interfaces-requires-clause-index c =
     let e = rw c.of-gathered.ensures at c.in_ok-items.ensures in
-    let prefix : IsPrefix c.args.names.now c.add_used_by_items.new.types c.add_used_by_items.new.arenas = prefix_used c.args.names.now c.foreign.result.now c.reserve.new.self c.in_ok-prefix.prefix c.foreign.ensures (c.reserve.ensures ∙ c.requires.empty) c.in_ok-prefix.ensures c.in_ok-items.items.items c.deref_mut-lent.result.now c.deref_mut-lent.ensures.value e.each c.add_used_by_items.new.types c.add_used_by_items.new.arenas e.items c.in_ok-add_used_by_items.ensures in
+    let prefix : IsPrefix c.args.names.now c.add_used_by_items.new.types c.add_used_by_items.new.arenas = prefix_used c.args.names.now c.foreign.result.now c.args.types.now c.in_ok-prefix.prefix c.foreign.ensures c.requires.empty c.in_ok-prefix.ensures c.in_ok-items.items.items c.deref_mut-lent.result.now c.deref_mut-lent.ensures.value e.each c.add_used_by_items.new.types c.add_used_by_items.new.arenas e.items c.in_ok-add_used_by_items.ensures in
     rw c.of-named.ensures (prefix_index _ _ _ _ prefix.adds c.new.result c.new.ensures)
 
 pub invariant_of-interfaces : goal.invariant_of-interfaces
 invariant_of-interfaces c =
     let e = rw c.of-gathered.ensures at c.in_ok-items.ensures in
-    let prefix : IsPrefix c.args.names.now c.add_used_by_items.new.types c.add_used_by_items.new.arenas = prefix_used c.args.names.now c.foreign.result.now c.reserve.new.self c.in_ok-prefix.prefix c.foreign.ensures (c.reserve.ensures ∙ c.requires.empty) c.in_ok-prefix.ensures c.in_ok-items.items.items c.deref_mut-lent.result.now c.deref_mut-lent.ensures.value e.each c.add_used_by_items.new.types c.add_used_by_items.new.arenas e.items c.in_ok-add_used_by_items.ensures in
+    let prefix : IsPrefix c.args.names.now c.add_used_by_items.new.types c.add_used_by_items.new.arenas = prefix_used c.args.names.now c.foreign.result.now c.args.types.now c.in_ok-prefix.prefix c.foreign.ensures c.requires.empty c.in_ok-prefix.ensures c.in_ok-items.items.items c.deref_mut-lent.result.now c.deref_mut-lent.ensures.value e.each c.add_used_by_items.new.types c.add_used_by_items.new.arenas e.items c.in_ok-add_used_by_items.ensures in
     record {
       prefix = rw c.of-named.ensures (interfaces_enough _ _ _ _ prefix.adds);
       found = found_none (λ (i : Interface). i.name) (length (prefix_of c.of-named.result)) c.add_used_by_items.new.arenas.interfaces c.new.result c.new.ensures;
@@ -62,13 +62,13 @@ resolve_worlds-requires-clause-items c =
 pub resolve_worlds-requires-clause-enough : goal.resolve_worlds-requires-clause-enough
 resolve_worlds-requires-clause-enough c =
     let e = rw c.of-gathered.ensures at c.in_ok-items.ensures in
-    let prefix : IsPrefix c.args.names.now c.add_used_by_items.new.types c.add_used_by_items.new.arenas = prefix_used c.args.names.now c.foreign.result.now c.reserve.new.self c.in_ok-prefix.prefix c.foreign.ensures (c.reserve.ensures ∙ c.requires.empty) c.in_ok-prefix.ensures c.in_ok-items.items.items c.deref_mut-lent.result.now c.deref_mut-lent.ensures.value e.each c.add_used_by_items.new.types c.add_used_by_items.new.arenas e.items c.in_ok-add_used_by_items.ensures in
+    let prefix : IsPrefix c.args.names.now c.add_used_by_items.new.types c.add_used_by_items.new.arenas = prefix_used c.args.names.now c.foreign.result.now c.args.types.now c.in_ok-prefix.prefix c.foreign.ensures c.requires.empty c.in_ok-prefix.ensures c.in_ok-items.items.items c.deref_mut-lent.result.now c.deref_mut-lent.ensures.value e.each c.add_used_by_items.new.types c.add_used_by_items.new.arenas e.items c.in_ok-add_used_by_items.ensures in
     rw (c.in_ok-resolve_interfaces.ensures.files, c.of-named.ensures) (worlds_enough _ _ _ _ prefix.adds)
 
 pub resolve_worlds-requires-clause-index : goal.resolve_worlds-requires-clause-index
 resolve_worlds-requires-clause-index c =
     let e = rw c.of-gathered.ensures at c.in_ok-items.ensures in
-    let prefix : IsPrefix c.args.names.now c.add_used_by_items.new.types c.add_used_by_items.new.arenas = prefix_used c.args.names.now c.foreign.result.now c.reserve.new.self c.in_ok-prefix.prefix c.foreign.ensures (c.reserve.ensures ∙ c.requires.empty) c.in_ok-prefix.ensures c.in_ok-items.items.items c.deref_mut-lent.result.now c.deref_mut-lent.ensures.value e.each c.add_used_by_items.new.types c.add_used_by_items.new.arenas e.items c.in_ok-add_used_by_items.ensures in
+    let prefix : IsPrefix c.args.names.now c.add_used_by_items.new.types c.add_used_by_items.new.arenas = prefix_used c.args.names.now c.foreign.result.now c.args.types.now c.in_ok-prefix.prefix c.foreign.ensures c.requires.empty c.in_ok-prefix.ensures c.in_ok-items.items.items c.deref_mut-lent.result.now c.deref_mut-lent.ensures.value e.each c.add_used_by_items.new.types c.add_used_by_items.new.arenas e.items c.in_ok-add_used_by_items.ensures in
     rw (c.in_ok-resolve_interfaces.ensures.files, c.of-named.ensures) (prefix_worlds_index _ _ _ _ prefix.adds)
 
 pub returns-clause-made : goal.returns-clause-made
@@ -77,7 +77,7 @@ returns-clause-made c =
     let types = c.add_used_by_items.new.types in
     let a = c.add_used_by_items.new.arenas in
     let e = rw c.of-gathered.ensures at c.in_ok-items.ensures in
-    let prefix : IsPrefix c.args.names.now c.add_used_by_items.new.types c.add_used_by_items.new.arenas = prefix_used c.args.names.now c.foreign.result.now c.reserve.new.self c.in_ok-prefix.prefix c.foreign.ensures (c.reserve.ensures ∙ c.requires.empty) c.in_ok-prefix.ensures c.in_ok-items.items.items c.deref_mut-lent.result.now c.deref_mut-lent.ensures.value e.each c.add_used_by_items.new.types c.add_used_by_items.new.arenas e.items c.in_ok-add_used_by_items.ensures in
+    let prefix : IsPrefix c.args.names.now c.add_used_by_items.new.types c.add_used_by_items.new.arenas = prefix_used c.args.names.now c.foreign.result.now c.args.types.now c.in_ok-prefix.prefix c.foreign.ensures c.requires.empty c.in_ok-prefix.ensures c.in_ok-items.items.items c.deref_mut-lent.result.now c.deref_mut-lent.ensures.value e.each c.add_used_by_items.new.types c.add_used_by_items.new.arenas e.items c.in_ok-add_used_by_items.ensures in
     let kept : c.resolve_interfaces.new.interfaces.files ≡ c.args.names.now = c.in_ok-resolve_interfaces.ensures.files ∙ c.of-named.ensures in
     let places = c.item_order-order.result.now in
     let now = c.resolve_interfaces.new.interfaces in
@@ -95,7 +95,7 @@ returns-clause-made c =
     contents_made files places c.item_order-order.ensures c.requires.unbroken (uses_usable files e.first) types middle c.resolve_worlds.new.types a.interfaces now.arena a.worlds (arenas made.worlds made.inside) from.own said.own prefix.adds from.holds said.holds r.foreign r.interfaces r.worlds parts.interfaces parts.worlds list (deps files c.foreign_visits.ensures) (spans files c.foreign_visits.ensures) (parts.unknown ∙ prefix.spans)
 
 pub returns-in_err-prefix-clause-first : goal.returns-in_err-prefix-clause-first
-returns-in_err-prefix-clause-first c = λ known is. memory_found _ c.from_residual-in_err-prefix.result c.from_residual-in_err-prefix.ensures.1
+returns-in_err-prefix-clause-first c = λ known is. memory_found _ c.from_residual.result c.from_residual.ensures.1
 
 pub returns-in_err-items-clause-first : goal.returns-in_err-items-clause-first
 returns-in_err-items-clause-first c =
@@ -110,20 +110,20 @@ pub returns-in_err-resolve_interfaces-clause-first : goal.returns-in_err-resolve
 returns-in_err-resolve_interfaces-clause-first c =
     let p = err_from_is_err_and c.from_residual-in_err-resolve_interfaces.result c.from_residual-in_err-resolve_interfaces.ensures.1 in
     let e = rw c.of-gathered.ensures at c.in_ok-items.ensures in
-    let prefix : IsPrefix c.args.names.now c.add_used_by_items.new.types c.add_used_by_items.new.arenas = prefix_used c.args.names.now c.foreign.result.now c.reserve.new.self c.in_ok-prefix.prefix c.foreign.ensures (c.reserve.ensures ∙ c.requires.empty) c.in_ok-prefix.ensures c.in_ok-items.items.items c.deref_mut-lent.result.now c.deref_mut-lent.ensures.value e.each c.add_used_by_items.new.types c.add_used_by_items.new.arenas e.items c.in_ok-add_used_by_items.ensures in
+    let prefix : IsPrefix c.args.names.now c.add_used_by_items.new.types c.add_used_by_items.new.arenas = prefix_used c.args.names.now c.foreign.result.now c.args.types.now c.in_ok-prefix.prefix c.foreign.ensures c.requires.empty c.in_ok-prefix.ensures c.in_ok-items.items.items c.deref_mut-lent.result.now c.deref_mut-lent.ensures.value e.each c.add_used_by_items.new.types c.add_used_by_items.new.arenas e.items c.in_ok-add_used_by_items.ensures in
     rw (p.1, p.2) (λ known is. interfaces_first c.args.names.now _ c.item_order-order.ensures c.requires.unbroken e.first _ _ _ prefix.adds c.deref_mut-lent.result.now (ap (map item_view) c.deref_mut-lent.ensures.value ∙ e.items) c.of-named.result c.of-named.ensures known is _ c.in_err-resolve_interfaces.ensures.first)
 
 pub returns-in_err-made-clause-first : goal.returns-in_err-made-clause-first
 returns-in_err-made-clause-first c =
     let p = err_from_is_err_and c.from_residual-in_err-made.result c.from_residual-in_err-made.ensures.1 in
     let e = rw c.of-gathered.ensures at c.in_ok-items.ensures in
-    let prefix : IsPrefix c.args.names.now c.add_used_by_items.new.types c.add_used_by_items.new.arenas = prefix_used c.args.names.now c.foreign.result.now c.reserve.new.self c.in_ok-prefix.prefix c.foreign.ensures (c.reserve.ensures ∙ c.requires.empty) c.in_ok-prefix.ensures c.in_ok-items.items.items c.deref_mut-lent.result.now c.deref_mut-lent.ensures.value e.each c.add_used_by_items.new.types c.add_used_by_items.new.arenas e.items c.in_ok-add_used_by_items.ensures in
+    let prefix : IsPrefix c.args.names.now c.add_used_by_items.new.types c.add_used_by_items.new.arenas = prefix_used c.args.names.now c.foreign.result.now c.args.types.now c.in_ok-prefix.prefix c.foreign.ensures c.requires.empty c.in_ok-prefix.ensures c.in_ok-items.items.items c.deref_mut-lent.result.now c.deref_mut-lent.ensures.value e.each c.add_used_by_items.new.types c.add_used_by_items.new.arenas e.items c.in_ok-add_used_by_items.ensures in
     rw (p.1, p.2) (λ known is. worlds_first c.args.names.now _ c.item_order-order.ensures c.requires.unbroken e.first _ _ _ prefix.adds c.deref_mut-lent.result.now (ap (map item_view) c.deref_mut-lent.ensures.value ∙ e.items) c.of-named.result c.of-named.ensures known is c.in_ok-resolve_interfaces.ensures.first c.resolve_interfaces.new.interfaces c.in_ok-resolve_interfaces.ensures.files _ _ c.in_ok-resolve_interfaces.ensures.adds.holds c.in_ok-resolve_interfaces.ensures.index _ c.in_err-made.ensures.first)
 
 pub returns-clause-first : goal.returns-clause-first
 returns-clause-first c = λ known is.
     let e = rw c.of-gathered.ensures at c.in_ok-items.ensures in
-    let prefix : IsPrefix c.args.names.now c.add_used_by_items.new.types c.add_used_by_items.new.arenas = prefix_used c.args.names.now c.foreign.result.now c.reserve.new.self c.in_ok-prefix.prefix c.foreign.ensures (c.reserve.ensures ∙ c.requires.empty) c.in_ok-prefix.ensures c.in_ok-items.items.items c.deref_mut-lent.result.now c.deref_mut-lent.ensures.value e.each c.add_used_by_items.new.types c.add_used_by_items.new.arenas e.items c.in_ok-add_used_by_items.ensures in
+    let prefix : IsPrefix c.args.names.now c.add_used_by_items.new.types c.add_used_by_items.new.arenas = prefix_used c.args.names.now c.foreign.result.now c.args.types.now c.in_ok-prefix.prefix c.foreign.ensures c.requires.empty c.in_ok-prefix.ensures c.in_ok-items.items.items c.deref_mut-lent.result.now c.deref_mut-lent.ensures.value e.each c.add_used_by_items.new.types c.add_used_by_items.new.arenas e.items c.in_ok-add_used_by_items.ensures in
     nothing_first c.args.names.now _ c.item_order-order.ensures c.requires.unbroken e.first _ _ _ prefix.adds c.deref_mut-lent.result.now (ap (map item_view) c.deref_mut-lent.ensures.value ∙ e.items) c.of-named.result c.of-named.ensures known is c.in_ok-resolve_interfaces.ensures.first c.resolve_interfaces.new.interfaces c.in_ok-resolve_interfaces.ensures.files _ _ c.in_ok-resolve_interfaces.ensures.adds.holds c.in_ok-resolve_interfaces.ensures.index c.in_ok-made.ensures.first
 
 pub returns-in_err-all-clause-first : goal.returns-in_err-all-clause-first
