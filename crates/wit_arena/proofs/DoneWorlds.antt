@@ -1,10 +1,9 @@
 -- Interfaces that were added are done.
-use Rattle.std.proofs.Common.{◌≡◌, ℕ, ◌+◌, true, false, List, [], ◌∷◌, ◌++◌, length, map, Option, Some, inl, inr, refl, sym, ap, ◌∙◌, subst, append_assoc, length-append, suc, ◌⊎◌, arith, add-zero, zero-add}
-use Rattle.wit_arena.proofs.Names.{Address, AddsDeclared, AddsForeign, AddsInterfaces, Decls, Imported, Interface, InterfaceNamed, Item, Names, Occurrence, PackageFile, Required, ResolvedScope, ScopeName, TypeDef, TypeOwner, World, address, all_items, all_occurrences, append-cancel, append-nil, at_back, at_part, at_prefix, declarations, flat_map, foreign_interfaces, foreign_use_occurrence, foreign_uses, foreign_worlds, functions, in_turn, inline_items, interface_functions, is_foreign, length-map, map-append, option_map, owner_at, resolved_scope, resolved_scopes, scope, scope_names, slice_get, slice_get-map, unwrap_or, visited, AreRequired, Function, FunctionKey, Id, Turned, WorldArenas, WorldItem, WorldKey, WorldNamed, after_one, all_handles, at_split, flat_map-append, flat_map_at, flat_map_has, import_types, keys, local_names, name_types, side_items, turn_handles, turn_occurrences, type_imports, world_functions, world_types, «Type» as Written, AddsEach, AddsInterface, GivesPlaces, IsOrder, Key, all_types, at_seam, own_interface, own_world, rows_of, scope_place}
+use Rattle.std.proofs.Common.{◌≡◌, ℕ, ◌+◌, true, false, List, [], ◌∷◌, ◌++◌, length, map, Option, Some, inl, inr, refl, sym, ap, ◌∙◌, subst, append_assoc, length-append, suc, ◌⊎◌}
+use Rattle.wit_arena.proofs.Names.{Address, AddsForeign, Decls, Imported, Interface, InterfaceNamed, Item, Names, Occurrence, PackageFile, Required, ResolvedScope, ScopeName, TypeDef, TypeOwner, World, address, all_items, all_occurrences, append-nil, at_back, at_part, at_prefix, declarations, flat_map, foreign_interfaces, foreign_use_occurrence, foreign_uses, foreign_worlds, functions, in_turn, inline_items, interface_functions, is_foreign, length-map, map-append, option_map, owner_at, resolved_scope, resolved_scopes, scope, scope_names, slice_get, slice_get-map, unwrap_or, visited, AreRequired, Function, FunctionKey, Id, Turned, WorldArenas, WorldItem, WorldKey, WorldNamed, after_one, all_handles, at_split, flat_map-append, flat_map_at, flat_map_has, import_types, keys, local_names, name_types, side_items, turn_handles, turn_occurrences, type_imports, world_functions, world_types, «Type» as Written, AddsInterface, GivesPlaces, IsOrder, Key, all_types, at_seam, own_interface, own_world, rows_of, scope_place}
 use Rattle.wit_arena.proofs.FreeNames.{free_of, free_keyed}
 use Rattle.wit_arena.proofs.Settled.{world_types-all}
 use Rattle.wit_arena.proofs.Ordered.{Ordered, OrderedWorld, turned, side_turns, world_turns, all_turns, all_inside}
-use Rattle.wit_arena.proofs.Adding.{After, adds_after}
 use Rattle.wit_arena.proofs.Indexing.{resolved_scopes-append}
 use Rattle.wit_arena.proofs.Resolving.{DoneScope, resolved_scope_of, IsDone, IsTurn, done_as, turn_of}
 use Rattle.wit_arena.proofs.Interfaces.{AreItems, AreOfSort, AreAddresses, item_scopes, interface_address, declared_called, own_address, interface_owner_at, world_owner_at, scope_addresses, scope_of}
@@ -101,14 +100,6 @@ decls files is ws = declarations files (interface_list files is (inside_of ws)) 
 declared_by : (files : List PackageFile) (is ws : List Item) (s : Address) (o : TypeOwner) → owner_at (interface_list files is (inside_of ws)) (world_list files ws) s ≡ o → decls files is ws s ≡ (scope files s, o)
 declared_by files is ws s o known = ap (λ (x : TypeOwner). (scope files s, x)) known
 
--- each adds one entry
-interface_extends : (ss : List Address) (old new : List TypeDef) (xs xs' : List Interface) (rs : List Required) (w : Item) → AddsDeclared ss old new xs xs' rs w → (x : Interface) × (xs' ≡ xs ++ x ∷ [])
-interface_extends ss old new xs xs' rs w a = (a.added, a.last)
-
--- one more after a prefix
-last_after : {X : Type 0} (prefix xs xs' : List X) (x : X) → prefix ++ xs' ≡ (prefix ++ xs) ++ x ∷ [] → xs' ≡ xs ++ x ∷ []
-last_after prefix xs xs' x last = append-cancel prefix xs' (xs ++ x ∷ []) (last ∙ append_assoc prefix xs (x ∷ []))
-
 module _ (files : List PackageFile) (is ws : List Item) where
   -- the first interfaces are done, after these of other packages
   abbrev pub InterfacesDone : List Interface → List Item → List TypeDef → List Interface → List Required → Type 0
@@ -202,43 +193,29 @@ module _ (files : List PackageFile) (is ws : List Item) where
         interface_among = resolved_scopes_among xs d.scopes d.laid.types
 
         -- once it was added, it is done
-        interface_next : (new : List TypeDef) (xs' : List Interface) (rs : List Required) → After (AddsDeclared (map visited (foreign_interfaces files))) (interface_extends (map visited (foreign_interfaces files))) prefix old new xs xs' rs w → InterfacesDone prefix (us ++ w ∷ []) new xs' (qs ++ rs)
-        interface_next new xs' rs b =
-            let added = b.added in
-            let a = b.adds in
+        pub interface_next : (new : List TypeDef) (added : Interface) (rs : List Required) → AddsInterface (resolved_scopes (map visited (foreign_interfaces files)) (prefix ++ xs)) (length (prefix ++ xs)) old new added rs w → InterfacesDone prefix (us ++ w ∷ []) new (xs ++ added ∷ []) (qs ++ rs)
+        interface_next new added rs a =
             let o : Ordered = record { item = w; order = a.order } in
             let known = resolved_scopes (map visited (foreign_interfaces files)) (prefix ++ xs) in
             let sort = interfaces.each (length xs) w at_place in
             let next = next_scope files (decls files is ws) (all_occurrences files (map turned d.ordered)) names_before old d.done known interface_among (length (prefix ++ xs)) new added rs w interface_fresh interface_owned interface_scoped a in
-            let last = last_after prefix xs xs' added b.last in
             let handles = turned_handles d.ordered o in
             record {
               ordered = d.ordered ++ o ∷ [];
               scopes = d.scopes ++ next.scope ∷ [];
               all = map-append item_of d.ordered (o ∷ []) ∙ ap (λ (l : List Item). l ++ w ∷ []) d.all;
-              laid = subst (λ (l : List Interface). AreLaid resolved_scope is (d.ordered ++ o ∷ []) l (d.scopes ++ next.scope ∷ [])) (sym last) (laid_more resolved_scope is d.ordered xs d.scopes o next.scope added d.laid next_item a.least next.turn (next.is ∙
+              laid = laid_more resolved_scope is d.ordered xs d.scopes o next.scope added d.laid next_item a.least next.turn (next.is ∙
                   let names = free_of (interface_functions added) in
                   ap (λ (s : Address). record { address = s; types = added.types; functions = names }) (interface_address files is is_items (length xs) w at_place sort)
                   ∙ ap (called_resolved_scope added.types names) (sym (a.called ∙ declared_called files is is_items (length xs) w at_place))
-                  ∙ ap (λ (l : List (List ℕ)). called_resolved_scope added.types l added.name) (free_keyed Imported added.functions)));
+                  ∙ ap (λ (l : List (List ℕ)). called_resolved_scope added.types l added.name) (free_keyed Imported added.functions));
               done = done_as (sym (more_occurrences files d.ordered o)) (append_assoc (prefix_scopes files prefix) d.scopes (next.scope ∷ [])) next.done;
-              made = λ id gives. last ∙ ap (λ (l : List Interface). l ++ added ∷ []) (d.made id (gives_fewer next.extended id gives)) ∙ ap (λ (i : Interface). map (ordered_interface id) d.ordered ++ i ∷ []) (next.made id gives) ∙ sym (map-append (ordered_interface id) d.ordered (o ∷ []));
+              made = λ id gives. ap (λ (l : List Interface). l ++ added ∷ []) (d.made id (gives_fewer next.extended id gives)) ∙ ap (λ (i : Interface). map (ordered_interface id) d.ordered ++ i ∷ []) (next.made id gives) ∙ sym (map-append (ordered_interface id) d.ordered (o ∷ []));
               required = subst (λ (hs : List (Address × Id)). AreRequired files (keys next.done.seen) hs (qs ++ rs)) (sym handles) (required_append files (keys next.done.seen) (flat_map turn_handles (map turned d.ordered)) (turn_handles (turned o)) qs rs (required_extended files next.extended (flat_map turn_handles (map turned d.ordered)) qs d.required) next.required);
             }
 
-      -- all that are left
-      more_interfaces : (us : List Item) (old new : List TypeDef) (xs own : List Interface) (qs rs : List Required) (vs : List Item) → ((k : ℕ) (w : Item) → slice_get vs k ≡ Some w → slice_get is (length us + k) ≡ Some w) → InterfacesDone prefix us old xs qs → AddsEach (After (AddsDeclared (map visited (foreign_interfaces files))) (interface_extends (map visited (foreign_interfaces files))) prefix) old new xs own rs vs → InterfacesDone prefix (us ++ vs) new own (qs ++ rs)
-      more_interfaces us old new xs own qs rs [] there d a = rw (append-nil us, a.0, a.1, a.2, append-nil qs) d
-      more_interfaces us old new xs own qs rs (w ∷ vs) there d a =
-          let at : slice_get is (length us) ≡ Some w = subst (λ (m : ℕ). slice_get is m ≡ Some w) (add-zero (length us)) (there 0 w refl) in
-          let longer : length (us ++ w ∷ []) ≡ length us + 1 = length-append us (w ∷ []) in
-          let rest = λ (k : ℕ) (v : Item) (h : slice_get vs k ≡ Some v). subst (λ (m : ℕ). slice_get is m ≡ Some v) (let same : length us + suc k ≡ length (us ++ w ∷ []) + k = omega arith in same) (there (suc k) v h) in
-          let more : (qs ++ a.2) ++ a.3 ≡ qs ++ rs = append_assoc qs a.2 a.3 ∙ ap (λ (x : List Required). qs ++ x) (sym a.4) in
-          let whole = more_interfaces (us ++ w ∷ []) a.0 new a.1 own (qs ++ a.2) a.3 vs rest (interface_next us old xs qs w at d a.0 a.1 a.2 a.5) a.6 in
-          subst (λ (x : List Item). InterfacesDone prefix x new own (qs ++ rs)) (append_assoc us (w ∷ []) vs) (subst (λ (x : List Required). InterfacesDone prefix ((us ++ w ∷ []) ++ vs) new own x) more whole)
-
       -- none is done yet
-      no_interface : InterfacesDone prefix [] es [] []
+      pub no_interface : InterfacesDone prefix [] es [] []
       no_interface = record {
         ordered = [];
         scopes = [];
@@ -248,13 +225,6 @@ module _ (files : List PackageFile) (is ws : List Item) where
         made = λ id gives. refl;
         required = required_none files (keys foreign_done.seen);
       }
-
-      -- the first interfaces, after those of other packages
-      pub interfaces_done : (new : List TypeDef) (all : List Interface) (rs : List Required) (vs : List Item) → ((k : ℕ) (w : Item) → slice_get vs k ≡ Some w → slice_get is k ≡ Some w) → AddsInterfaces (map visited (foreign_interfaces files)) es new prefix all rs vs → (own : List Interface) × (all ≡ prefix ++ own) × InterfacesDone prefix vs new own rs
-      interfaces_done new all rs vs there a =
-          let ss = map visited (foreign_interfaces files) in
-          let own = adds_after (AddsDeclared ss) (interface_extends ss) prefix [] all es new rs vs (subst (λ (l : List Interface). AddsInterfaces ss es new l all rs vs) (sym (append-nil prefix)) a) in
-          (own.0, own.1, more_interfaces [] es new [] own.0 [] rs vs (λ k w h. subst (λ (m : ℕ). slice_get is m ≡ Some w) (sym (zero-add k)) (there k w h)) no_interface own.2)
 
 -- What is once worlds are done, each with the interfaces that are written in it.
 -- a world that was resolved, as a scope

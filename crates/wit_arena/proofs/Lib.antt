@@ -7,7 +7,6 @@ pub mod DefinitionPart
 pub mod Scoping
 pub mod UsePart
 pub mod Indexing
-pub mod Adding
 pub mod Shape
 pub mod Forms
 pub mod Depth
@@ -35,7 +34,6 @@ pub mod OrderedItems
 pub mod Visits
 pub mod DoneWorlds
 pub mod PackageIfDone
-pub mod Resolved
 pub mod LegalScopes
 pub mod KnownItems
 pub mod JoinedOthers

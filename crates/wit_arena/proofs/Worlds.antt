@@ -1,6 +1,6 @@
 -- Worlds that were added are done, after interfaces, each with the interfaces that are written in it.
-use Rattle.std.proofs.Common.{◌≡◌, ℕ, suc, ◌+◌, true, false, List, [], ◌∷◌, ◌++◌, length, map, Some, inl, inr, refl, sym, ap, ◌∙◌, subst, append_assoc, arith, length-append, zero-add, add-zero}
-use Rattle.wit_arena.proofs.Names.{Address, Id, WorldItem, WorldKey, WorldSide, world_entries, AddsForeign, AddsWorld, AddsWorlds, AreRequired, Function, FunctionKey, Imported, Interface, Item, Names, Occurrence, PackageFile, Required, ScopeName, Turned, TypeDef, World, WorldArenas, address, all_handles, all_items, all_occurrences, append-nil, at_either, at_seam, flat_map, flat_map-append, foreign_interfaces, foreign_worlds, functions, import_types, in_turn, includes, inline_items, keys, length-inline_after, length-map, local_names, map-append, name_types, nil_from_length, prefix_worlds, scope_names, settled, side_items, slice_get, turn_handles, visited, world_functions, AreNames, Extends, GivesPlaces, Key, at_part, env_of, in_turn_distinct, names_in, scope_place, entries_on, function_in, name_places, type_imports}
+use Rattle.std.proofs.Common.{◌≡◌, ℕ, true, false, List, [], ◌∷◌, ◌++◌, length, map, Some, inl, inr, refl, sym, ap, ◌∙◌, subst, append_assoc, arith, length-append}
+use Rattle.wit_arena.proofs.Names.{Address, Id, WorldItem, WorldKey, WorldSide, world_entries, AddsForeign, AddsWorld, AreRequired, Function, FunctionKey, Imported, Interface, Item, Names, Occurrence, PackageFile, Required, ScopeName, Turned, TypeDef, World, WorldArenas, address, all_handles, all_items, all_occurrences, append-nil, at_either, at_seam, flat_map, flat_map-append, foreign_interfaces, foreign_worlds, functions, import_types, in_turn, includes, inline_items, keys, length-inline_after, length-map, local_names, map-append, name_types, nil_from_length, scope_names, settled, side_items, slice_get, turn_handles, visited, world_functions, AreNames, Extends, GivesPlaces, Key, at_part, env_of, in_turn_distinct, names_in, scope_place, entries_on, function_in, name_places, type_imports}
 use Rattle.wit_arena.proofs.Visits.{AreUsableUses}
 use Rattle.wit_arena.proofs.Ordered.{Ordered, OrderedWorld, turned, side_turns, world_turns, all_turns, all_inside}
 use Rattle.wit_arena.proofs.DoneWorlds.{InterfacesDone, inside_of, interface_list, world_list, decls, world_resolved_scope, DoneWorld, own_scope, scopes_of, all_within, own_order, AreWorldsDone, named_world, own_types, written_more, scopes_more, handles_more, ordered_interface, ordered_world, all_addresses}
@@ -162,7 +162,7 @@ module _ (files : List PackageFile) (is ws : List Item) (interfaces : AreOfSort 
       }
 
   -- no world is done yet
-  no_world : WorldsDone [] middle (prefix_worlds wprefix) []
+  pub no_world : WorldsDone [] middle (record { worlds = wprefix; inside = [] }) []
   no_world = record {
     ordered = [];
     scopes = [];
@@ -179,18 +179,3 @@ module _ (files : List PackageFile) (is ws : List Item) (interfaces : AreOfSort 
     inside_made = λ id gives. refl;
     required = required_none files (keys d.done.seen);
   }
-
-  -- all that are left
-  more_worlds : (us : List Item) (old new : List TypeDef) (a b : WorldArenas) (qs rs : List Required) (vs : List Item) → ((k : ℕ) (w : Item) → slice_get vs k ≡ Some w → slice_get ws (length us + k) ≡ Some w) → WorldsDone us old a qs → AddsWorlds ss others (prefix ++ xs) old new a b rs vs → WorldsDone (us ++ vs) new b (qs ++ rs)
-  more_worlds us old new a b qs rs [] there e adds = rw (append-nil us, adds.0, adds.1, adds.2, append-nil qs) e
-  more_worlds us old new a b qs rs (w ∷ vs) there e adds =
-      let at : slice_get ws (length us) ≡ Some w = subst (λ (m : ℕ). slice_get ws m ≡ Some w) (add-zero (length us)) (there 0 w refl) in
-      let longer : length (us ++ w ∷ []) ≡ length us + 1 = length-append us (w ∷ []) in
-      let rest = λ (k : ℕ) (v : Item) (h : slice_get vs k ≡ Some v). subst (λ (m : ℕ). slice_get ws m ≡ Some v) (let same : length us + suc k ≡ length (us ++ w ∷ []) + k = omega arith in same) (there (suc k) v h) in
-      let more : (qs ++ adds.2) ++ adds.3 ≡ qs ++ rs = append_assoc qs adds.2 adds.3 ∙ ap (λ (x : List Required). qs ++ x) (sym adds.4) in
-      let whole = more_worlds (us ++ w ∷ []) adds.0 new adds.1 b (qs ++ adds.2) adds.3 vs rest (world_more us old a qs e w at adds.0 adds.1 adds.2 adds.5) adds.6 in
-      subst (λ (x : List Item). WorldsDone x new b (qs ++ rs)) (append_assoc us (w ∷ []) vs) (subst (λ (x : List Required). WorldsDone ((us ++ w ∷ []) ++ vs) new b x) more whole)
-
-  -- the first worlds, after all interfaces and after the worlds of other packages
-  pub worlds_done : (new : List TypeDef) (b : WorldArenas) (rs : List Required) (vs : List Item) → ((k : ℕ) (w : Item) → slice_get vs k ≡ Some w → slice_get ws k ≡ Some w) → AddsWorlds ss others (prefix ++ xs) middle new (prefix_worlds wprefix) b rs vs → WorldsDone vs new b rs
-  worlds_done new b rs vs there adds = more_worlds [] middle new (prefix_worlds wprefix) b [] rs vs (λ k w h. subst (λ (m : ℕ). slice_get ws m ≡ Some w) (sym (zero-add k)) (there k w h)) no_world adds

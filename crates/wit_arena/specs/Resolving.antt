@@ -178,12 +178,6 @@ pub record AddsInterface (cs : List ResolvedScope) (place : ℕ) (old new : List
       → Extends decls ms (turn_occurrences (interface_turn (λ i. order) item)) new (λ ks. AreNames ks (address item) (env_of added.types) × ((id : Key → ℕ) → GivesPlaces id ks → added ≡ own_interface id (λ i. order) item))
   pub ended : AreEnded (env_of added.types) new (all_handles (all_types (in_turn (scope_names item) order) (item_functions item))) rs
 
--- what a declared interface adds to the arenas, where those at these addresses are of other packages
-pub record AddsDeclared (foreign : List Address) (old new : List TypeDef) (is is' : List Interface) (rs : List Required) (item : Item) : Type 0 where
-  pub added : Interface
-  pub last : is' ≡ is ++ added ∷ []
-  pub adds : AddsInterface (resolved_scopes foreign is) (length is) old new added rs item
-
 -- the addresses of worlds: at first of those of other packages
 abbrev pub worlds_at : List Address → List World → List Address
 worlds_at [] ws = map (λ w. WorldNamed w.name) ws
@@ -227,23 +221,6 @@ pub record AddsWorld (foreign others : List Address) (is : List Interface) (old 
   pub requires : rs ≡ own ++ rest
   pub sides : AddsSides (resolved_scopes foreign is) (length is) (address item) types middle new a.inside b.inside functions rest (side_items item) (inline_items item)
   pub made : (id : Key → ℕ) → types ≡ name_places id (address item) (in_turn (scope_names item) adds.order) → functions ≡ map (function_in id (address item)) (item_functions item) → (before : List Address) → length before ≡ length a.inside → (ss ws : List Address) → GivesPlaces (scope_place ss) (interfaces_at foreign is ++ (before ++ map address (inline_items item))) → GivesPlaces (scope_place ws) (worlds_at others a.worlds) → added ≡ own_world id (λ i. adds.order) ss ws item
-
--- what items add to the arenas, one after another, and what they require, where `Adds` says what one of them does
-abbrev pub AddsEach : {X : Type 0} → (List TypeDef → List TypeDef → X → X → List Required → Item → Type 0) → List TypeDef → List TypeDef → X → X → List Required → List Item → Type 0
-AddsEach Adds old new x x' rs [] = (new ≡ old) × (x' ≡ x) × (rs ≡ [])
-AddsEach {X} Adds old new x x' rs (w ∷ ws) = (mid : List TypeDef) × (between : X) × (own : List Required) × (rest : List Required) × (rs ≡ own ++ rest) × Adds old mid x between own w × AddsEach Adds mid new between x' rest ws
-
--- what interfaces add, after those of other packages
-abbrev pub AddsInterfaces : List Address → List TypeDef → List TypeDef → List Interface → List Interface → List Required → List Item → Type 0
-AddsInterfaces foreign old new is is' rs items = AddsEach (AddsDeclared foreign) old new is is' rs items
-
--- what worlds add, where these are the declared interfaces
-abbrev pub AddsWorlds : List Address → List Address → List Interface → List TypeDef → List TypeDef → WorldArenas → WorldArenas → List Required → List Item → Type 0
-AddsWorlds foreign others is old new a b rs items = AddsEach (AddsWorld foreign others is) old new a b rs items
-
--- the arenas with these worlds in front
-abbrev pub prefix_worlds : List World → WorldArenas
-prefix_worlds ws = record { worlds = ws; inside = [] }
 
 -- the entry of a name of another package: nothing is known of it but whose it is
 abbrev pub foreign_type : List PackageFile → ForeignUse → TypeDef

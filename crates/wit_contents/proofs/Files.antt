@@ -1,18 +1,12 @@
 -- What holds of files, of what comes before their interfaces and worlds, and once these were added.
-use Rattle.std.proofs.Common.{◌≡◌, List, sym, ap, ◌∙◌, ◌<◌, ℕ, All, length, map, get_or, subst, ◌≤◌, [], arith, refl, ◌++◌}
-use Rattle.wit_contents.proofs.Names.{AddsForeign, AddsInterfaces, AddsWorlds, AreItemsOf, AreUsableUses, Fault, ForeignVisit, Interface, InterfaceNamed, IsBrokenNames, IsItemPlaced, IsNameIndex, IsOrder, Item as BorrowedItem, Names, PackageFile, Required, TypeDef, World, WorldArenas, WorldNamed, all_items, append-nil, dep, first_foreign_uses, foreign_entry, foreign_interfaces, foreign_items, foreign_packages, foreign_view, foreign_worlds, in_order, index_prefix, interfaces_at, interfaces_at-append, interfaces_differ, interfaces_of, item_rows, item_view, items_within, length-map, option_map, others_of, package_of, prefix_of, prefix_worlds, slice_get-get_or, visited, visited_foreign, visits_differ, worlds_at, worlds_at-append, worlds_of}
-use Rattle.wit_tree.specs.declared.tree.PackageName.{PackageName as Header}
-use Rattle.wit_arena.proofs.Common.{interfaces_count, worlds_count, first_docs, headers}
-use Rattle.wit_arena.proofs.MadePackage.{made_of_package}
-use Rattle.wit_arena.proofs.Resolved.{files_package}
-use Rattle.wit_model.specs.declared.foreign.ForeignItems.{ForeignItems}
-use Rattle.wit_contents.specs.Files.{MakeContents}
+use Rattle.std.proofs.Common.{◌≡◌, List, sym, ap, ◌∙◌, ◌<◌, ℕ, All, length, map, get_or, subst, ◌≤◌, [], arith, refl}
+use Rattle.wit_contents.proofs.Names.{AddsForeign, AreItemsOf, ForeignVisit, Interface, InterfaceNamed, IsItemPlaced, IsNameIndex, IsOrder, Item as BorrowedItem, Names, PackageFile, TypeDef, World, WorldNamed, all_items, append-nil, foreign_entry, foreign_interfaces, foreign_items, foreign_view, foreign_worlds, index_prefix, interfaces_at, interfaces_at-append, interfaces_differ, item_rows, item_view, items_within, length-map, others_of, prefix_of, slice_get-get_or, visited, visited_foreign, visits_differ, worlds_at, worlds_at-append}
+use Rattle.wit_arena.proofs.Common.{interfaces_count, worlds_count}
 use Rattle.wit_files.specs.declared.foreign.ForeignVisit.{ForeignVisit as BorrowedVisit}
 use Rattle.wit_front.specs.declared.foreign.ForeignArenas.{ForeignArenas}
 use Rattle.wit_front.specs.ForeignPrefix.{AddsPrefix, AreAdded, HasUsed, IsPrefix, entries_after}
 use Rattle.wit_front.proofs.ForeignUses.{items_placed}
 use Rattle.wit_front.proofs.Prefixes.{entries_after-among}
-use Rattle.wit_model.specs.Packages.{package_of_parts}
 
 -- the places of items are those of the items that are borrowed
 pub borrowed_within : (files : List PackageFile) (places : List ℕ) (items : List BorrowedItem) → IsOrder (item_rows files) places → map item_view items ≡ all_items files → All (λ (place : ℕ). place < length items) places
@@ -20,14 +14,6 @@ borrowed_within files places items order all = λ i d lt. (
     let p = get_or places i d in
     let long : length (all_items files) ≡ length items = sym (ap length all) ∙ length-map items item_view in
     subst (λ (n : ℕ). p < n) long (items_within files places order i p (slice_get-get_or places i d lt)))
-
--- what is added to what comes before is what files make
-module _ (files : List PackageFile) (places : List ℕ) (order : IsOrder (item_rows files) places) (names : (f : Fault) → IsBrokenNames files f → ⊥) (uses : AreUsableUses files (all_items files)) (es middle new : List TypeDef) (prefix is : List Interface) (wprefix : List World) (a : WorldArenas) (irs wrs : List Required) (foreign : AddsForeign files es prefix wprefix) (added : AddsInterfaces (map visited (foreign_interfaces files)) es middle prefix is irs (interfaces_of (in_order (all_items files) places))) (more : AddsWorlds (map visited (foreign_interfaces files)) (map visited (foreign_worlds files)) is middle new (prefix_worlds wprefix) a wrs (worlds_of (in_order (all_items files) places))) where
-  pub contents_made : (named : ForeignItems) (all : List Interface) (ws : List World) → all ≡ is ++ a.inside → ws ≡ a.worlds → named.required_resource_types ≡ irs ++ wrs → named.deps ≡ map (dep files) (foreign_packages files) → named.dep_spans ≡ map (λ v. v.of.span) (foreign_packages files) → named.unknown_type_spans ≡ map (λ t. t.id.span) (first_foreign_uses files) → MakeContents files new all ws named
-  contents_made named all ws interfaces worlds required deps spans unknown = record {
-    made = λ header last legal. made_of_package files (package_of_parts (package_of header) (record { types = new; interfaces = all; worlds = ws }) (first_docs (headers files)) header.span named) legal (rw (interfaces, worlds, required) (files_package files places order names uses es middle new prefix is wprefix a irs wrs foreign added more))
-        (ap (option_map package_of) last) (ap (option_map (λ (h : Header). h.span)) last) refl (deps, spans, unknown);
-  }
 
 module _ (files : List PackageFile) (es : List TypeDef) (is : List Interface) (ws : List World) (adds : AddsForeign files es is ws) where
   -- nothing in front goes by a name

@@ -6,6 +6,7 @@ pub mod Ends
 pub mod Walked
 pub mod PathsWalked
 pub mod MembersWalked
+pub mod ResolvedItems
 pub mod RightWorlds
 pub mod RightInterfaces
 pub mod FileFaults

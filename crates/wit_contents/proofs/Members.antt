@@ -1,6 +1,6 @@
 -- What is on the sides of a world, resolved one after another: nothing, more after some, and a function, an interface by its path, or an inline one.
 use Rattle.std.proofs.Common.{◌≡◌, ℕ, ◌+◌, List, [], ◌∷◌, ◌++◌, length, refl, sym, ap, ◌∙◌, subst, append_assoc, arith, Bool, true, false, if◌then◌else◌, map, Some, inl, inr, add-zero, Option, suc, None, get_or}
-use Rattle.wit_contents.proofs.Names.{Address, AddsFunctions, AddsInside, AddsInterface, AddsMembers, AddsSides, AreEnded, AreKeyed, Contains-append_cases, Entry, Extern, Function, HavePlaces, Id, Interface, InterfaceItem, IsNext, IsSeen, ItemWalk, Link, Name, Names, Puts, Required, ResolvedScope, SideFunction, SideInline, SideItem, SideLink, Sorted, SourceFunction, Stage, TheInline, TypeDef, WorldSide, address, all_handles, append-nil, at_back, at_prefix, contains_one, entry_sorted, env_of, filter-append, flat_map, flat_map-append, function_item, functions, inline_after, inline_after-append, inline_entry, inline_of, inline_side, interfaces_at, interfaces_on, item_function, item_inline, item_name, item_side, item_sorted, items_on, lead, length-append, length-inline_after, length-map, link_item, map-append, next_place, option_map_or, option_to_list, path_scope, prefix_of, put_on, resolved_scopes_of, role_side, same_side, side_items, slice_get, sorted_on, stage, written_types, AddsWorld, AddsWorlds, Appends, World, adds_append, adds_one, arenas, prefix_worlds, item_view, Key, filter, filter_map-append, inline_item, is_interface}
+use Rattle.wit_contents.proofs.Names.{Address, AddsFunctions, AddsInside, AddsInterface, AddsMembers, AddsSides, AreEnded, AreKeyed, Contains-append_cases, Entry, Extern, Function, HavePlaces, Id, Interface, InterfaceItem, IsNext, IsSeen, ItemWalk, Link, Name, Names, Puts, Required, ResolvedScope, SideFunction, SideInline, SideItem, SideLink, Sorted, SourceFunction, Stage, TheInline, TypeDef, WorldSide, address, all_handles, append-nil, at_back, at_prefix, contains_one, entry_sorted, env_of, filter-append, flat_map, flat_map-append, function_item, functions, inline_after, inline_after-append, inline_entry, inline_of, inline_side, interfaces_at, interfaces_on, item_function, item_inline, item_name, item_side, item_sorted, items_on, lead, length-append, length-inline_after, length-map, link_item, map-append, next_place, option_map_or, option_to_list, path_scope, prefix_of, put_on, resolved_scopes_of, role_side, same_side, side_items, slice_get, sorted_on, stage, written_types, item_view, Key, filter, filter_map-append, inline_item, is_interface}
 use Rattle.wit_contents.specs.declared.walk.Walked.{Walked}
 use Rattle.wit_arena.proofs.Common.{Item, function_in, entries_on, scope_place, link_key}
 use Rattle.wit_entries.proofs.Requiring.{extended_then}
@@ -316,18 +316,3 @@ module _ (w : ItemWalk) (prefix : List SideItem) (a : Stage) where
         ∙ ap (λ (l : List Entry). entries_of s a.walked.members.sides ++ l) (put_kept s x.written.now.side (entry (scope_place ss (address u))) [] ∙ ap (λ (us : List Item). entries_on s (map (λ (i : Item). (x.written.now.side, entry (scope_place ss (address i)))) us)) (sym own ∙ append-nil (inline_item (item_view w.item) (length (filter is_interface (items_on x.written.now.side prefix))) (inline_side x))));
     leads = λ link among. absurd (let same : inline_side x ≡ SideLink link = contains_one (inline_side x) (SideLink link) among in let wrong : ⊥ = cc in wrong);
   }
-
--- Worlds that are added one after another, with the interfaces that are written in them, and one more.
--- some worlds were added
-abbrev pub AreWorldsTo : List Address → List Address → List Interface → List TypeDef → List TypeDef → List World → List World → List Interface → List Required → List Required → List Item → Type 0
-AreWorldsTo foreign others is old new prefix ws inside before after items = Appends before after (λ rs. AddsWorlds foreign others is old new (prefix_worlds prefix) (arenas ws inside) rs items)
-
-pub worlds_none : (foreign others : List Address) (is : List Interface) (old : List TypeDef) (prefix : List World) (inside : List Interface) (before : List Required) → inside ≡ [] → AreWorldsTo foreign others is old old prefix prefix inside before before []
-worlds_none foreign others is old prefix inside before bare = record { own = []; list = sym (append-nil before); holds = (refl, ap (arenas prefix) bare, refl) }
-
-pub worlds_more : (foreign others : List Address) (is : List Interface) (old mid new : List TypeDef) (prefix ws ws' : List World) (inside now : List Interface) (before between after : List Required) (items : List Item) (w : Item) → AreWorldsTo foreign others is old mid prefix ws inside before between items → Appends between after (λ rs. AddsWorld foreign others is mid new (arenas ws inside) (arenas ws' now) rs w) → AreWorldsTo foreign others is old new prefix ws' now before after (items ++ w ∷ [])
-worlds_more foreign others is old mid new prefix ws ws' inside now before between after items w p q = record {
-  own = p.own ++ q.own;
-  list = q.list ∙ ap (λ (l : List Required). l ++ q.own) p.list ∙ append_assoc before p.own q.own;
-  holds = adds_append (AddsWorld foreign others is) old mid new (prefix_worlds prefix) (arenas ws inside) (arenas ws' now) p.own q.own items (w ∷ []) p.holds (adds_one (AddsWorld foreign others is) mid new (arenas ws inside) (arenas ws' now) q.own w q.holds);
-}

@@ -1,11 +1,14 @@
 -- What files make, and their first fault from a step of the walk on.
-use Rattle.std.specs.Prelude.{◌≡◌, List, Result, Some, ℕ, drop}
-use Rattle.wit_contents.specs.Names.{Interface, IsLegal, Makes, PackageFile, TypeDef, World, first_docs, headers, last_header, package_of, Address, EndsAt, Id, ParseError, Row, Word, item_rows, shape_end}
+use Rattle.std.specs.Prelude.{◌≡◌, List, None, Result, Some, ℕ, drop, map}
+use Rattle.wit_contents.specs.Names.{AreItemsOf, BorrowedItem, Fault, Required, item_view, Interface, IsLegal, Makes, PackageFile, TypeDef, World, first_docs, headers, last_header, package_of, Address, EndsAt, Id, ParseError, Row, Word, item_rows, shape_end}
 use Rattle.wit_tree.specs.declared.tree.PackageName.{PackageName as Header}
 use Rattle.wit_model.specs.Packages.{package_of_parts}
 use Rattle.wit_model.specs.declared.foreign.ForeignItems.{ForeignItems}
 use Rattle.wit_syntax.specs.NameEnds.{End}
 use Rattle.wit_first.specs.First.{Finds}
+use Rattle.wit_arena.specs.Common.{AddsForeign, ForeignUse, ForeignVisit, IsOrder, all_items, dep, first_foreign_uses, foreign_packages}
+use Rattle.wit_syntax.specs.Broken.{IsBrokenNames}
+use Rattle.wit_first.specs.UseFaults.{all_uses_fault}
 use Rattle.wit_walk.specs.Orders.{IsOutcome}
 use Rattle.wit_walk.specs.Walk.{Known, earliest, walk_faults}
 
@@ -21,3 +24,24 @@ pub record IsRight (files : List PackageFile) (known : Known) : Type 0 where
 -- a call finds it
 abbrev pub FindsAfter : {T : Type 0} → ℕ → List PackageFile → Result T ParseError → Type 0
 FindsAfter n files r = (known : Known) → IsRight files known → Finds (earliest (drop n (walk_faults files known (known.outcome (item_rows files))))) r
+
+-- These are all items of files, in the order of these places, where no name is broken and no use is wrong, and nothing is there but what other
+-- packages put before them.
+pub record IsReady (files : List PackageFile) (items : List BorrowedItem) (places : List ℕ) (es : List TypeDef) (is : List Interface) (ws : List World) : Type 0 where
+  pub order : IsOrder (item_rows files) places
+  pub unbroken : (f : Fault) → IsBrokenNames files f → ⊥
+  pub uses : all_uses_fault files ≡ None
+  pub all : map item_view items ≡ all_items files
+  pub each : AreItemsOf files items
+  pub foreign : AddsForeign files es is ws
+
+-- what files name of other packages, of which these types must be resources
+pub record NamesForeign (files : List PackageFile) (rs : List Required) (named : ForeignItems) : Type 0 where
+  pub deps : named.deps ≡ map (dep files) (foreign_packages files)
+  pub spans : named.dep_spans ≡ map (λ (v : ForeignVisit). v.of.span) (foreign_packages files)
+  pub unknown : named.unknown_type_spans ≡ map (λ (t : ForeignUse). t.id.span) (first_foreign_uses files)
+  pub required : named.required_resource_types ≡ rs
+
+-- these are the arenas that files make, and what they require of other packages
+abbrev pub MakeArenas : List PackageFile → List TypeDef → List Interface → List World → List Required → Type 0
+MakeArenas files es is ws rs = (named : ForeignItems) → NamesForeign files rs named → MakeContents files es is ws named

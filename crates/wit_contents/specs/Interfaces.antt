@@ -1,16 +1,12 @@
 -- What an interface adds to the arenas, and its first fault, by the interfaces that are resolved and by where its names end.
-use Rattle.std.specs.Prelude.{◌≡◌, ℕ, List, Vec, map, false, Option, Result, length, take, Some, slice_get}
-use Rattle.wit_contents.specs.Names.{AddsBody, AddsInterface, AddsInterfaces, Appends, BorrowedItem, EndsInTurn, Fault, Function, Global, HasTurn, Id, Interface, InterfaceNamed, Interfaces, IsExtended, IsNameIndex, Item, ItemScope, PackageFile, ParseError, Required, ResolvedNames, ResolvedScope, ScopeName, TypeDef, TypeOwner, functions, in_order, in_turn, interfaces_at, interfaces_of, is_world, item_stability, item_view, local_id, lone_setters, names_fault, option_or, prefix_of, resolved_scopes_of, rows_of, scope_item, scope_names}
+use Rattle.std.specs.Prelude.{[], ◌++◌, ◌∷◌, ◌≡◌, ℕ, List, Vec, map, Option, Result, length}
+use Rattle.wit_contents.specs.Names.{AddsBody, AddsInterface, Appends, EndsInTurn, Fault, Function, Global, HasTurn, Id, Interface, InterfaceNamed, Interfaces, IsExtended, IsNameIndex, Item, ItemScope, PackageFile, ParseError, Required, ResolvedNames, ResolvedScope, ScopeName, TypeDef, TypeOwner, functions, in_turn, interfaces_at, item_stability, local_id, lone_setters, names_fault, option_or, prefix_of, resolved_scopes_of, rows_of, scope_item, scope_names}
 use Rattle.wit_arena.specs.SourceFunctions.{placed_functions}
 use Rattle.wit_types.specs.declared.types.TypeOwner.TheVariants as owner
-use Rattle.wit_first.specs.First.{Finds, first_in}
+use Rattle.wit_first.specs.First.{Finds}
 use Rattle.wit_walk.specs.Orders.{Outcome, IsOutcome, order_of}
 use Rattle.wit_scopes.specs.BorrowedNames.{name_view, AreNamesPlaced}
 use Rattle.wit_item_entries.specs.ReachedFaults.{functions_fault}
-
--- the interfaces among items, in the order of their places
-abbrev pub interfaces_in : List BorrowedItem → List ℕ → List Item
-interfaces_in items places = interfaces_of (in_order (map item_view items) places)
 
 -- after the names of an item, which stay, its functions were added, which are at these names
 pub record AddsTable (n n' : ResolvedNames) (now new : List TypeDef) (i : Item) (table : List (List ℕ × Function)) : Type 0 where
@@ -26,9 +22,9 @@ pub record AddsAt (is : Interfaces) (place : ℕ) (old new : List TypeDef) (befo
 abbrev pub IsIndexed : Interfaces → Type 0
 IsIndexed is = IsNameIndex InterfaceNamed (interfaces_at (prefix_of is.files) is.arena) is.by_name
 
--- interfaces come after others: these items were added
-abbrev pub AppendsAll : Interfaces → Interfaces → List TypeDef → List TypeDef → Vec Required Global → Vec Required Global → List Item → Type 0
-AppendsAll is now old new before after items = Appends before.items after.items (λ rs. AddsInterfaces (prefix_of is.files) old new is.arena now.arena rs items)
+-- a declared interface was added after those before it
+abbrev pub AddsDeclared : Interfaces → Interfaces → List TypeDef → List TypeDef → Vec Required Global → Vec Required Global → Item → Type 0
+AddsDeclared is now old new before after item = (added : Interface) × (now.arena ≡ is.arena ++ added ∷ []) × AddsAt is (length is.arena) old new before.items after.items item added
 
 -- the names of an item that is borrowed
 abbrev pub names_of : ItemScope → List ScopeName
@@ -63,10 +59,3 @@ pub record IsRightOf (wrong : Item → Option Fault) (is : Interfaces) (old : Li
 -- a call finds what each such test says
 abbrev pub FindsOne : {T : Type 0} → Interfaces → List TypeDef → Item → Result T ParseError → Type 0
 FindsOne is old w r = (wrong : Item → Option Fault) → IsRightOf wrong is old (length is.arena) w → Finds (wrong w) r
-
--- so of each of items of files, in the order of their places, once the interfaces before it are resolved, which come after these
-abbrev pub AreRightOf : (Item → Option Fault) → List PackageFile → List Interface → List TypeDef → List BorrowedItem → List ℕ → Type 0
-AreRightOf wrong files arena old items places = (now : Interfaces) (mid : List TypeDef) (rs : List Required) (count place : ℕ) (w : Item) → now.files ≡ files → slice_get places count ≡ Some place → slice_get (map item_view items) place ≡ Some w → is_world w ≡ false → AddsInterfaces (prefix_of files) old mid arena now.arena rs (interfaces_of (in_order (map item_view items) (take count places))) → IsIndexed now → IsRightOf wrong now mid (length now.arena) w
-
-abbrev pub FindsAmong : {T : Type 0} → Interfaces → List TypeDef → List BorrowedItem → List ℕ → Result T ParseError → Type 0
-FindsAmong is old items places r = (wrong : Item → Option Fault) → AreRightOf wrong is.files is.arena old items places → Finds (first_in wrong (interfaces_in items places)) r

@@ -1,15 +1,14 @@
 -- What a world adds to the arenas, the walk of what it imports and exports, and its first fault.
-use Rattle.std.specs.Prelude.{◌≡◌, ℕ, List, ◌∷◌, [], ◌++◌, length, map, true, Option, Result, Some, slice_get, take}
-use Rattle.wit_contents.specs.Names.{AddsScope, AddsWorld, AddsWorlds, Appends, BorrowedItem, EndsInTurn, Fault, Id, Interface, Interfaces, IsItemOf, IsNameIndex, Item, Metadata, ParseError, Required, ResolvedNames, TypeDef, World, WorldArenas, WorldNamed, about, declared_metadata, defined_fault, in_order, in_turn, includes, is_world, item_stability, item_view, local_id, name_of_id, names_fault, option_or, others_of, prefix_of, prefix_worlds, resolved_scopes_of, rows_of, scope_names, side_items, worlds_at, worlds_of, SideItem}
+use Rattle.std.specs.Prelude.{◌≡◌, List, ◌∷◌, [], ◌++◌, length, map, Option, Result}
+use Rattle.wit_contents.specs.Names.{AddsScope, AddsWorld, Appends, BorrowedItem, EndsInTurn, Fault, Id, Interface, IsNameIndex, Item, Metadata, ParseError, ResolvedNames, TypeDef, World, WorldArenas, WorldNamed, about, declared_metadata, defined_fault, in_turn, includes, item_stability, item_view, local_id, name_of_id, names_fault, option_or, others_of, prefix_of, resolved_scopes_of, rows_of, scope_names, side_items, worlds_at, SideItem}
 use Rattle.wit_arena.specs.Made.{world}
 use Rattle.wit_types.specs.declared.types.TypeOwner.TheVariants as owner
 use Rattle.wit_links.specs.declared.worlds.Worlds.{Worlds}
 use Rattle.wit_item_entries.specs.AddedNames.{AddsTurn}
-use Rattle.wit_first.specs.First.{Finds, first_after, first_in}
+use Rattle.wit_first.specs.First.{Finds, first_after}
 use Rattle.wit_walk.specs.Orders.{IsOutcome, Outcome, order_of}
 use Rattle.wit_walk.specs.Setters.{setters_fault}
 use Rattle.wit_links.specs.Links.{includes_fault}
-use Rattle.wit_contents.specs.declared.world.ResolvedWorlds.{ResolvedWorlds}
 use Rattle.wit_contents.specs.declared.world.Resolving.{Resolving}
 use Rattle.wit_contents.specs.declared.world.WorldContent.{WorldContent}
 use Rattle.wit_contents.specs.declared.walk.Growing.{Growing}
@@ -24,10 +23,6 @@ arenas ws inside = record { worlds = ws; inside = inside }
 -- the arena of worlds is now this one: an item was added to the arenas, as a world
 abbrev pub AddsTo : Worlds → List World → BorrowedItem → Resolving → Resolving → Type 0
 AddsTo ws arena i old new = Appends old.required.items new.required.items (λ rs. AddsWorld (prefix_of ws.interfaces.now.files) (others_of ws.interfaces.now.files) ws.interfaces.now.arena old.growing.types new.growing.types (arenas ws.arena old.growing.inside) (arenas arena new.growing.inside) rs (item_view i))
-
--- after worlds of other packages these are the worlds, and these the interfaces that are written in them: items were added, as worlds
-abbrev pub AddsWorldsAmong : Interfaces → List World → List TypeDef → List TypeDef → List BorrowedItem → List ℕ → ResolvedWorlds → Type 0
-AddsWorldsAmong is prefix old new items places r = Appends [] r.required.items (λ rs. AddsWorlds (prefix_of is.files) (others_of is.files) is.arena old new (prefix_worlds prefix) (arenas r.worlds r.inside) rs (worlds_of (in_order (map item_view items) places)))
 
 -- the names of a world that comes next were added
 abbrev pub AddsNamesOf : Worlds → BorrowedItem → List TypeDef → List TypeDef → ResolvedNames → Type 0
@@ -68,11 +63,3 @@ pub record IsRightOfWorld (wrong : Item → Option Fault) (ws : Worlds) (old : G
 -- a call finds what it says
 abbrev pub FindsWorld : {T : Type 0} → Worlds → Growing → BorrowedItem → Result T ParseError → Type 0
 FindsWorld ws old i r = (wrong : Item → Option Fault) → IsRightOfWorld wrong ws old i → Finds (wrong (item_view i)) r
-
--- so of each world among items, in the order of their places, once those before it are resolved
-pub record AreRightOfWorlds (wrong : Item → Option Fault) (is : Interfaces) (prefix : List World) (old : List TypeDef) (items : List BorrowedItem) (places : List ℕ) : Type 0 where
-  pub each : (ws : Worlds) (mid : List TypeDef) (arenas : WorldArenas) (rs : List Required) (count place : ℕ) (i : BorrowedItem) → ws.interfaces.now ≡ is → slice_get places count ≡ Some place → slice_get items place ≡ Some i → is_world (item_view i) ≡ true → IsItemOf is.files i
-      → AddsWorlds (prefix_of is.files) (others_of is.files) is.arena old mid (prefix_worlds prefix) arenas rs (worlds_of (in_order (map item_view items) (take count places))) → arenas.worlds ≡ ws.arena → AreIndexed ws → IsRightOfWorld wrong ws (record { types = mid; inside = arenas.inside }) i
-
-abbrev pub FindsWorlds : {T : Type 0} → Interfaces → List World → List TypeDef → List BorrowedItem → List ℕ → Result T ParseError → Type 0
-FindsWorlds is prefix old items places r = (wrong : Item → Option Fault) → AreRightOfWorlds wrong is prefix old items places → Finds (first_in wrong (worlds_of (in_order (map item_view items) places))) r

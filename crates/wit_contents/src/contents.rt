@@ -4,11 +4,9 @@ ghost use Rattle.wit_type_tree.specs.RefusalText.{IsAllocationFailure};
 ghost use Rattle.wit_syntax.specs.Broken.{IsBrokenNames};
 ghost use Rattle.wit_contents.specs.Files.{FindsAfter, MakeContents};
 
-use crate::declared::resolve_interfaces;
-use crate::world::{ResolvedWorlds, resolve_worlds};
+use crate::items::{ResolvedWorlds, resolve_items};
 use std::alloc::{AllocError, Global};
 use wit_entries::entries::Entries;
-use wit_entries::scope::Required;
 use wit_files::FileNames;
 use wit_foreign::{Packages, foreign_deps};
 use wit_front::foreign::ForeignArenas;
@@ -31,34 +29,31 @@ struct Made {
 }
 
 /// These interfaces with those that are written in worlds after them, these worlds, and what is named of
-/// other packages, whose types are first used at these spans; what they require comes first.
+/// other packages, whose types are first used at these spans.
 ///
 /// The error is a failed allocation.
 fn made_of(
     interfaces: Arena<Interface, InterfacePlace>,
     made: ResolvedWorlds,
     unknown_type_spans: Vec<Span>,
-    required: Vec<Required>,
     named: Result<(Packages, Row<Span>), AllocError>,
 ) -> ParseResult<Made>
     ensures interfaces { IfOk result (λ r. r.interfaces ≡ interfaces ++ made.inside) }
     ensures worlds { IfOk result (λ r. r.worlds ≡ made.worlds) }
     ensures deps { IfOk result (λ r. named ≡ Ok (r.foreign.deps, r.foreign.dep_spans)) }
     ensures unknown { IfOk result (λ r. r.foreign.unknown_type_spans ≡ unknown_type_spans.items) }
-    ensures required { IfOk result (λ r. r.foreign.required_resource_types ≡ required.items ++ made.required.items) }
+    ensures required { IfOk result (λ r. r.foreign.required_resource_types ≡ made.required.items) }
     ensures refused { IfErr result IsAllocationFailure }
 {
     let (deps, dep_spans) = named?;
     let mut interfaces = interfaces;
     let mut made = made;
-    let mut required = required;
-    required.append(&mut made.required)?;
     interfaces.append(&mut made.inside)?;
     let foreign = ForeignItems {
         deps,
         dep_spans,
         unknown_type_spans: Row::from(unknown_type_spans),
-        required_resource_types: Row::from(required),
+        required_resource_types: Row::from(made.required),
     };
     Ok(Made {
         interfaces,
@@ -100,11 +95,9 @@ fn resolve_named<'f, 'a>(
         by_name: TextTable::new(alloc),
     };
     let known: &mut Interfaces<'_, '_, '_, '_> = &mut interfaces;
-    let mut required = Vec::new(alloc);
-    resolve_interfaces(lent, types, &mut required, known, order)?;
-    let made = resolve_worlds(lent, types, known, worlds, order)?;
+    let made = resolve_items(lent, types, known, worlds, order)?;
     let named = foreign_deps(alloc, names.foreign_visits());
-    let all = made_of(interfaces.arena, made, spans, required, named)?;
+    let all = made_of(interfaces.arena, made, spans, named)?;
     Ok(all)
 }
 

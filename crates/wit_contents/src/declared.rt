@@ -1,15 +1,15 @@
-//! Declared interfaces, one after another.
-ghost use Rattle.std.specs.Prelude.{◌≡◌, ◌<◌, ◌++◌, ◌∷◌, [], All, IfErr, OnOk, Some, false, length};
+//! A declared interface.
+ghost use Rattle.std.specs.Prelude.{◌≡◌, ◌++◌, ◌∷◌, [], IfErr, OnOk, Some, false};
 ghost use Rattle.wit_type_tree.specs.RefusalText.{IsAllocationFailure};
 ghost use Rattle.wit_syntax.specs.Source.{is_world};
-ghost use Rattle.wit_items.specs.BorrowedItems.{item_view, AreItemsOf, IsItemOf};
-ghost use Rattle.wit_contents.specs.Interfaces.{AppendsAll, IsIndexed, interfaces_in, FindsAmong, FindsOne};
+ghost use Rattle.wit_items.specs.BorrowedItems.{item_view, IsItemOf};
+ghost use Rattle.wit_contents.specs.Interfaces.{AddsDeclared, IsIndexed, FindsOne};
 
 use crate::interface::interface_of;
 use wit_entries::entries::Entries;
 use wit_entries::scope::Required;
 use wit_items::interfaces::Interfaces;
-use wit_items::items::{Declared, Item};
+use wit_items::items::Item;
 use wit_links::inside::declared_name;
 use wit_model::Interface;
 use wit_tree::ParseResult;
@@ -36,7 +36,7 @@ fn add_interface(
 
 /// Adds a declared interface with what is stated of it, its names, and what is in them, and then its
 /// functions.
-fn resolve_interface<'f, 'a>(
+pub(crate) fn resolve_interface<'f, 'a>(
     item: &Item<'f, 'a>,
     types: &mut Entries,
     required: &mut Vec<Required>,
@@ -46,7 +46,7 @@ fn resolve_interface<'f, 'a>(
     requires item { IsItemOf interfaces.old.files item.now }
     requires index { IsIndexed interfaces.old }
     ensures files { OnOk result (interfaces.new.files ≡ interfaces.old.files) }
-    ensures adds { OnOk result (AppendsAll interfaces.old interfaces.new types.old types.new required.old required.new (item_view item.now ∷ [])) }
+    ensures adds { OnOk result (AddsDeclared interfaces.old interfaces.new types.old types.new required.old required.new (item_view item.now)) }
     ensures index { OnOk result (IsIndexed interfaces.new) }
     ensures first { FindsOne interfaces.old types.old (item_view item.now) result }
 {
@@ -55,33 +55,4 @@ fn resolve_interface<'f, 'a>(
     let interface = interface_of(&scope, types, required, interfaces, place)?;
     let id = declared_name(&item.declared);
     add_interface(interfaces, id.name, interface)
-}
-
-/// Adds the interfaces among items, in the order of their places, after those of other packages.
-pub fn resolve_interfaces<'f, 'a>(
-    items: &[Item<'f, 'a>],
-    types: &mut Entries,
-    required: &mut Vec<Required>,
-    interfaces: &mut Interfaces<'f, 'a, '_, '_>,
-    places: &[usize],
-) -> ParseResult<()>
-    requires within { All (λ place. place < length items.now) places.now }
-    requires items { AreItemsOf interfaces.old.files items.now }
-    requires index { IsIndexed interfaces.old }
-    ensures files { OnOk result (interfaces.new.files ≡ interfaces.old.files) }
-    ensures adds { OnOk result (AppendsAll interfaces.old interfaces.new types.old types.new required.old required.new (interfaces_in items.now places.now)) }
-    ensures index { OnOk result (IsIndexed interfaces.new) }
-    ensures first { FindsAmong interfaces.old types.old items.now places.now result }
-{
-    for place in places {
-        let item = &items[*place];
-        match item.declared {
-            Declared::Interface(_) => {
-                resolve_interface(item, types, required, interfaces)?;
-            }
-            Declared::World(_) => {}
-            Declared::Inline(_) => {}
-        }
-    }
-    Ok(())
 }

@@ -5,6 +5,7 @@
 pub mod contents;
 pub mod declared;
 pub mod interface;
+pub mod items;
 pub mod sides;
 pub mod walk;
 pub mod world;

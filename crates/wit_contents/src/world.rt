@@ -1,44 +1,42 @@
 //! Declared worlds.
-ghost use Rattle.std.specs.Prelude.{◌≡◌, ◌<◌, ◌≤◌, All, List, None, IfOk, IfErr, OnOk, map, ◌++◌, ◌∷◌, [], length};
+ghost use Rattle.std.specs.Prelude.{◌≡◌, List, None, IfOk, IfErr, OnOk, map, ◌++◌, ◌∷◌, [], length};
 ghost use Rattle.std.specs.List.{flat_map};
 ghost use Rattle.wit_types.specs.declared.types.TypeOwner.TheVariants.{World as OfWorld};
 ghost use Rattle.wit_type_tree.specs.RefusalText.{IsAllocationFailure};
 ghost use Rattle.wit_syntax.specs.Function.{part_functions};
 ghost use Rattle.wit_syntax.specs.Repeats.{AllDiffer};
 ghost use Rattle.wit_syntax.specs.Source.{about, local_id, local_name, world_part};
-ghost use Rattle.wit_arena.specs.Common.{IsNameIndex, WorldNamed, worlds_at, type_imports};
+ghost use Rattle.wit_arena.specs.Common.{type_imports};
 ghost use Rattle.wit_rules.specs.Signatures.{function_view, AreResults};
 ghost use Rattle.wit_scopes.specs.BorrowedNames.{name_view};
-ghost use Rattle.wit_items.specs.BorrowedItems.{item_view, metadata_view, AreItemsOf, IsItemOf, others_of};
+ghost use Rattle.wit_items.specs.BorrowedItems.{item_view, metadata_view, IsItemOf};
 ghost use Rattle.wit_item_entries.specs.AddedNames.{IsTurn};
 ghost use Rattle.wit_item_entries.specs.ReachedFaults.{item_stability, FindsNames};
 ghost use Rattle.wit_world_sides.specs.Members.{AreKeyed, AreSettled};
-ghost use Rattle.wit_contents.specs.Worlds.{AddsContent, AddsNamesOf, AddsTo, AddsWorldsAmong, AreIndexed, HasContent, FindsWorld, FindsWorlds};
+ghost use Rattle.wit_contents.specs.Worlds.{AddsContent, AddsNamesOf, AddsTo, AreIndexed, HasContent, FindsWorld};
 ghost use Rattle.wit_contents.specs.Walk.{IsWorldOf};
 
 use crate::sides::{has_nothing, walk_sides};
 use crate::walk::{Growing, Walked, WorldScope};
 use std::alloc::{AllocError, Global};
-use std::mem::replace;
 use wit_entries::entries::Entries;
 use wit_entries::scope::Required;
 use wit_item_entries::functions::{world_functions, written_results};
 use wit_item_entries::names::{ResolvedNames, resolve_names};
 use wit_item_entries::own_keys::have_upper_case;
 use wit_item_entries::required::add_required;
-use wit_items::interfaces::Interfaces;
-use wit_items::items::{Declared, Item};
+use wit_items::items::Item;
 use wit_items::metadata::{ItemMetadata, item_metadata};
 use wit_links::includes::resolve_includes;
 use wit_links::inside::{declared_name, declared_world};
 use wit_links::worlds::Worlds;
 use wit_maps::TextTable;
-use wit_model::{Interface, World, WorldInclude};
+use wit_model::{World, WorldInclude};
 use wit_rules::borrowed::BorrowedFunction;
 use wit_scopes::scope_name::ScopeName;
 use wit_tree::ParseResult;
 use wit_tree::tree::{self, Id, Type};
-use wit_types::{Arena, InterfacePlace, TypeOwner, WorldPlace};
+use wit_types::TypeOwner;
 use wit_values::{Row, Text, pair_with};
 use wit_world_sides::sides::{WorldSides, named_sides};
 use wit_world_sides::sides_setters::{is_closed, settle};
@@ -48,14 +46,6 @@ use wit_world_sides::sides_setters::{is_closed, settle};
 pub struct WorldContent {
     pub sides: WorldSides,
     pub includes: Row<WorldInclude>,
-}
-
-/// The worlds of other packages and of items, what is written in those of items, and what these require.
-#[derive(Drop)]
-pub struct ResolvedWorlds {
-    pub worlds: Arena<World, WorldPlace>,
-    pub inside: Arena<Interface, InterfacePlace>,
-    pub required: Vec<Required>,
 }
 
 /// What grows while worlds are resolved, and what they require of types of other packages.
@@ -240,7 +230,7 @@ fn world_of<'f, 'a>(
 }
 
 /// Adds a world with what it has.
-fn resolve_world<'f, 'a>(
+pub(crate) fn resolve_world<'f, 'a>(
     item: &Item<'f, 'a>,
     resolving: &mut Resolving,
     worlds: &mut Worlds<'f, 'a, '_, '_, '_>,
@@ -255,91 +245,4 @@ fn resolve_world<'f, 'a>(
     let world = world_of(item, resolving, worlds)?;
     let id = declared_name(&item.declared);
     add_world(worlds, id.name, world)
-}
-
-/// How many worlds are among items.
-fn world_count(items: &[Item<'_, '_>]) -> usize {
-    let mut count: usize = 0;
-    for item in items {
-        if let Declared::World(_) = item.declared {
-            count = count.saturating_add(1);
-        }
-    }
-    count
-}
-
-/// How many interfaces are written in the worlds among items.
-fn inside_count(items: &[Item<'_, '_>]) -> usize {
-    let mut count: usize = 0;
-    for item in items {
-        count = count.saturating_add(item.imported.len());
-        count = count.saturating_add(item.exported.len());
-    }
-    count
-}
-
-/// Reserves capacity for the worlds among items, and for the interfaces that are written in them.
-#[inline(never)]
-fn make_room(
-    items: &[Item<'_, '_>],
-    inside: &mut Arena<Interface, InterfacePlace>,
-    worlds: &mut Arena<World, WorldPlace>,
-) -> Result<(), AllocError>
-    ensures inside { inside.new ≡ inside.old }
-    ensures worlds { worlds.new ≡ worlds.old }
-{
-    inside.reserve(inside_count(items))?;
-    worlds.reserve(world_count(items))
-}
-
-/// Adds the worlds among items, in the order of their places, to those of other packages, which are the
-/// prefix; gives all worlds, the interfaces that are written in them, in the order in which they are
-/// seen, and what they require of types of other packages. Where it refuses, no types are left.
-pub fn resolve_worlds<'f, 'a>(
-    items: &[Item<'f, 'a>],
-    types: &mut Entries,
-    interfaces: &Interfaces<'f, 'a, '_, '_>,
-    prefix: Arena<World, WorldPlace>,
-    places: &[usize],
-) -> ParseResult<ResolvedWorlds>
-    requires within { All (λ place. place < length items.now) places.now }
-    requires items { AreItemsOf interfaces.now.files items.now }
-    requires enough { length (others_of interfaces.now.files) ≤ length prefix }
-    requires index { IsNameIndex WorldNamed (worlds_at (others_of interfaces.now.files) prefix) [] }
-    ensures added { IfOk result (AddsWorldsAmong interfaces.now prefix types.old types.new items.now places.now) }
-    ensures first { FindsWorlds interfaces.now prefix types.old items.now places.now result }
-{
-    let alloc = *interfaces.by_name.allocator();
-    let none = Entries::new(alloc);
-    let inside = Arena::new(alloc);
-    let mut growing = Growing {
-        types: replace(types, none),
-        inside,
-    };
-    let required = Vec::new(alloc);
-    let mut arena = prefix;
-    make_room(items, &mut growing.inside, &mut arena)?;
-    let mut resolving = Resolving { growing, required };
-    let mut worlds = Worlds {
-        interfaces,
-        arena,
-        by_name: TextTable::new(alloc),
-    };
-    for place in places {
-        let item = &items[*place];
-        match item.declared {
-            Declared::World(_) => {
-                resolve_world(item, &mut resolving, &mut worlds)?;
-            }
-            Declared::Interface(_) => {}
-            Declared::Inline(_) => {}
-        }
-    }
-    let Resolving { growing, required } = resolving;
-    *types = growing.types;
-    Ok(ResolvedWorlds {
-        worlds: worlds.arena,
-        inside: growing.inside,
-        required,
-    })
 }

@@ -1,5 +1,5 @@
 use Rattle.std.proofs.Common.{Some, length, map, refl, sym, ap, ◌∙◌, ◌≡◌, ◌++◌, ◌∷◌, []}
-use Rattle.wit_contents.proofs.Names.{AddsDeclared, AddsInterface, Appends, AppendsAll, Id, IsLent, about, adds_one, err_from_is_err_and, finds_memory, is_world, item_view, name_view, on_ok_weaker, prefix_of, resolved_scopes_of, scope_names}
+use Rattle.wit_contents.proofs.Names.{AddsAt, AddsDeclared, Id, IsLent, about, err_from_is_err_and, finds_memory, is_world, item_view, name_view, on_ok_weaker, scope_names}
 use Rattle.wit_arena.proofs.Common.{Item}
 use Rattle.wit_item_entries.proofs.ReachedFaults.{done, failed}
 use Rattle.wit_contents.proofs.MemberFaults.{finds_right}
@@ -30,12 +30,8 @@ returns-clause-adds c =
     let is = c.args.interfaces.now in
     let item = item_view c.args.item.now in
     let made = c.in_ok-interface.interface in
-    let one : Appends c.args.required.now.items c.interface_of.new.required.items (λ rs. AddsInterface (resolved_scopes_of is) (length is.arena) c.args.types.now c.interface_of.new.types made rs item) = rw (c.next_id-place.ensures, c.scope-scope.ensures.item) at c.in_ok-interface.ensures.adds.appends in
-    let put : c.add_interface.new.interfaces.arena ≡ is.arena ++ made ∷ [] → AppendsAll is c.add_interface.new.interfaces c.args.types.now c.interface_of.new.types c.args.required.now c.interface_of.new.required (item ∷ []) = λ last. record {
-      own = one.own;
-      list = one.list;
-      holds = adds_one (AddsDeclared (prefix_of is.files)) c.args.types.now c.interface_of.new.types is.arena c.add_interface.new.interfaces.arena one.own item (record { added = made; last = last; adds = one.holds });
-    } in
+    let one : AddsAt is (length is.arena) c.args.types.now c.interface_of.new.types c.args.required.now.items c.interface_of.new.required.items item made = rw (c.next_id-place.ensures, c.scope-scope.ensures.item) at c.in_ok-interface.ensures.adds in
+    let put : c.add_interface.new.interfaces.arena ≡ is.arena ++ made ∷ [] → AddsDeclared is c.add_interface.new.interfaces c.args.types.now c.interface_of.new.types c.args.required.now c.interface_of.new.required item = λ last. (made, last, one) in
     on_ok_weaker c.add_interface.result put c.add_interface.ensures.added
 
 pub returns-in_err-interface-clause-first : goal.returns-in_err-interface-clause-first
