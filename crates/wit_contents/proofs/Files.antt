@@ -1,19 +1,12 @@
 -- What holds of files, of what comes before their interfaces and worlds, and once these were added.
-use Rattle.std.proofs.Common.{◌≡◌, List, sym, ap, ◌∙◌, ◌<◌, ℕ, All, length, map, get_or, subst, ◌≤◌, [], arith, refl}
-use Rattle.wit_contents.proofs.Names.{AddsForeign, AreItemsOf, ForeignVisit, Interface, InterfaceNamed, IsItemPlaced, IsNameIndex, IsOrder, Item as BorrowedItem, Names, PackageFile, TypeDef, World, WorldNamed, all_items, append-nil, foreign_entry, foreign_interfaces, foreign_items, foreign_view, foreign_worlds, index_prefix, interfaces_at, interfaces_at-append, interfaces_differ, item_rows, item_view, items_within, length-map, others_of, prefix_of, slice_get-get_or, visited, visited_foreign, visits_differ, worlds_at, worlds_at-append}
+use Rattle.std.proofs.Common.{◌≡◌, List, sym, ap, ◌∙◌, All, length, map, subst, ◌≤◌, [], arith, refl}
+use Rattle.wit_contents.proofs.Names.{AddsForeign, AreItemsOf, ForeignVisit, Interface, InterfaceNamed, IsItemPlaced, IsNameIndex, Item as BorrowedItem, Names, PackageFile, TypeDef, World, WorldNamed, all_items, append-nil, foreign_entry, foreign_interfaces, foreign_items, foreign_view, foreign_worlds, index_prefix, interfaces_at, interfaces_at-append, interfaces_differ, item_view, length-map, others_of, prefix_of, visited, visited_foreign, visits_differ, worlds_at, worlds_at-append}
 use Rattle.wit_arena.proofs.Common.{interfaces_count, worlds_count}
 use Rattle.wit_files.specs.declared.foreign.ForeignVisit.{ForeignVisit as BorrowedVisit}
 use Rattle.wit_front.specs.declared.foreign.ForeignArenas.{ForeignArenas}
 use Rattle.wit_front.specs.ForeignPrefix.{AddsPrefix, AreAdded, HasUsed, IsPrefix, entries_after}
 use Rattle.wit_front.proofs.ForeignUses.{items_placed}
 use Rattle.wit_front.proofs.Prefixes.{entries_after-among}
-
--- the places of items are those of the items that are borrowed
-pub borrowed_within : (files : List PackageFile) (places : List ℕ) (items : List BorrowedItem) → IsOrder (item_rows files) places → map item_view items ≡ all_items files → All (λ (place : ℕ). place < length items) places
-borrowed_within files places items order all = λ i d lt. (
-    let p = get_or places i d in
-    let long : length (all_items files) ≡ length items = sym (ap length all) ∙ length-map items item_view in
-    subst (λ (n : ℕ). p < n) long (items_within files places order i p (slice_get-get_or places i d lt)))
 
 module _ (files : List PackageFile) (es : List TypeDef) (is : List Interface) (ws : List World) (adds : AddsForeign files es is ws) where
   -- nothing in front goes by a name

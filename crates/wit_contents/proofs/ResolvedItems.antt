@@ -1,6 +1,6 @@
 -- Interfaces and worlds of files that are resolved, one after another, in the order of their places.
-use Rattle.std.proofs.Common.{◌≡◌, ℕ, ◌+◌, Bool, true, false, not, List, [], ◌∷◌, ◌++◌, length, map, take, Some, refl, sym, ap, ◌∙◌, subst, append_assoc}
-use Rattle.wit_contents.proofs.Names.{Address, AddsInterface, AddsWorld, AllDiffer, Appends, AreUsableUses, AreWorldsDone, Interface, Interfaces, InterfacesDone, IsIndexed, IsReady, Item as BorrowedItem, PackageFile, Required, ResolvedScope, TypeDef, World, all_items, append-nil, are_interfaces, are_worlds, arenas, at_seam, distinct_items, filter, foreign_interfaces, in_order, interfaces_of, interfaces_sort, is_world, item_name, kept_next, kept_prefix, option_map, others_of, package_of, prefix_of, prefix_scopes, resolved_scopes, resolved_scopes_of, slice_get, uses_usable, visited, worlds_of, worlds_sort}
+use Rattle.std.proofs.Common.{◌≡◌, ◌<◌, ℕ, ◌+◌, All, get_or, Bool, true, false, not, List, [], ◌∷◌, ◌++◌, length, map, take, Some, refl, sym, ap, ◌∙◌, subst, append_assoc}
+use Rattle.wit_contents.proofs.Names.{Address, AddsInterface, AddsWorld, AllDiffer, Appends, AreUsableUses, AreWorldsDone, Interface, Interfaces, InterfacesDone, IsIndexed, IsItemOf, IsReady, Item as BorrowedItem, PackageFile, Required, ResolvedScope, TypeDef, World, all_items, append-nil, are_interfaces, are_worlds, arenas, at_seam, distinct_items, filter, foreign_interfaces, in_order, interfaces_of, interfaces_sort, is_world, item_name, item_view, items_within, kept_next, kept_prefix, length-map, option_map, others_of, package_of, prefix_of, prefix_scopes, resolved_scopes, resolved_scopes_of, slice_get, slice_get-get_or, slice_get-map, uses_usable, visited, worlds_of, worlds_sort}
 use Rattle.wit_arena.proofs.Common.{Item, first_docs, headers}
 use Rattle.wit_tree.specs.declared.tree.PackageName.{PackageName as Header}
 use Rattle.wit_arena.proofs.DoneWorlds.{interface_next, no_interface}
@@ -15,6 +15,13 @@ pub next_kept : (test : Item → Bool) (all : List Item) (places : List ℕ) (k 
 next_kept test all places k p w next at passes =
     let before = filter test (in_order all (take k places)) in
     kept_prefix test all places (k + 1) (length before) w (ap (λ (l : List Item). slice_get l (length before)) (kept_next test all places k p w next at passes) ∙ at_seam before w)
+
+-- a borrowed item of files, by its place in an order
+pub record IsAt (files : List PackageFile) (places : List ℕ) (k : ℕ) (x : BorrowedItem) : Type 0 where
+  pub place : ℕ
+  pub next : slice_get places k ≡ Some place
+  pub at : slice_get (all_items files) place ≡ Some (item_view x)
+  pub own : IsItemOf files x
 
 -- after those of other packages the first of the interfaces of files are resolved
 pub record HasInterfaces (files : List PackageFile) (places : List ℕ) (prefix : List Interface) (us : List Item) (is : Interfaces) (es : List TypeDef) (rs : List Required) : Type 0 where
@@ -54,6 +61,23 @@ module _ (files : List PackageFile) (items : List BorrowedItem) (places : List �
 
   abbrev is_interface : Item → Bool
   is_interface i = not (is_world i)
+
+  pub within : All (λ (place : ℕ). place < length items) places
+  within i d lt =
+      let p = get_or places i d in
+      let long : length all ≡ length items = sym (ap length r.all) ∙ length-map items item_view in
+      subst (λ (n : ℕ). p < n) long (items_within files places r.order i p (slice_get-get_or places i d lt))
+
+  pub item_at : (k : ℕ) (x : BorrowedItem) → k < length places → x ≡ get_or items (get_or places k 0) x → IsAt files places k x
+  item_at k x lt is =
+      let p = get_or places k 0 in
+      let own : slice_get items p ≡ Some x = slice_get-get_or items p x (within k 0 lt) ∙ ap Some (sym is) in
+      record {
+        place = p;
+        next = slice_get-get_or places k 0 lt;
+        at = subst (λ (l : List Item). slice_get l p ≡ Some (item_view x)) r.all (slice_get-map item_view items p ∙ ap (option_map item_view) own);
+        own = r.each.each p x own;
+      }
 
   -- none is resolved yet
   pub none_resolved : (is : Interfaces) → is.files ≡ files → is.arena ≡ prefix → IsIndexed is → HasInterfaces files places prefix [] is es []

@@ -1,6 +1,6 @@
 -- The first fault of a world: of its attributes, of its names, of its includes, or of what is on its sides.
-use Rattle.std.proofs.Common.{◌≡◌, ℕ, ◌+◌, Bool, false, true, List, [], ◌∷◌, ◌++◌, drop, length, map, take, Option, Some, None, refl, sym, ap, ◌∙◌, subst, All, ◌<◌, get_or, ◌==◌, arith}
-use Rattle.wit_contents.proofs.Names.{AddsTurn, AreKeyed, Declared, EndsInTurn, Exported, Fault, Finds, FindsNames, FindsSides, Id, Imported, Include, IsItemOf, IsNext, IsOutcome, IsRightOfWorld, IsSeen, IsWalk, Item as BorrowedItem, ItemWalk, Outcome, PackageFile, ParseError, Reports, ResolvedScope, Result, ScopeName, SourceFunction, TheInline, TheInterface, TheWorld, TopName, TypeDef, TypeOwner, Worlds, about, all_declared, all_items, append-nil, at_contains, declared_view, eqb-suc-zero, filter, filter-append, filter_map-append, finds_same, first_after, first_in, functions, if◌then◌else◌, in-append, in-more, in_order, in_turn, includes, includes_fault, is_inside, item_in, item_stability, item_view, kept_next, local_id, names_at_top, names_fault, name_view, option_map, option_or, order_of, reports_back, reports_prefix, reports_same, resolved_scopes_of, rows_of, scope_names, setters_fault, side_items, side_setters_fault, slice_get, slice_get-get_or, slice_get-map, take-append-drop, Address, AddsMembers, AddsSides, AddsWorld, AllDiffer, AreIncludes, Borrowed, Entry, HavePlaces, Interface, Interfaces, IsStart, IsTurn, Name, Names, Required, SideItem, World, WorldSide, address, and_parts, arenas, at_back, at_prefix, declared_metadata, eqb-true, flat_map, function_of, in_turn_distinct, inline_items, interfaces_at, is_ascii_uppercase, item_function, list_all, list_any, names_on, nil_from_length, no_clashes, none_both, part_functions, part_items, prefix_of, puts_nothing, settled, stage, type_imports, world_part, worlds_at, functions_parts}
+use Rattle.std.proofs.Common.{◌≡◌, ℕ, ◌+◌, Bool, false, true, List, [], ◌∷◌, ◌++◌, drop, length, map, take, Option, Some, None, refl, sym, ap, ◌∙◌, subst, ◌==◌, arith}
+use Rattle.wit_contents.proofs.Names.{AddsTurn, AreKeyed, Declared, EndsInTurn, Exported, Fault, Finds, FindsNames, FindsSides, Id, Imported, Include, IsItemOf, IsNext, IsOutcome, IsRightOfWorld, IsSeen, IsWalk, Item as BorrowedItem, ItemWalk, Outcome, PackageFile, ParseError, Reports, ResolvedScope, Result, ScopeName, SourceFunction, TheInline, TheInterface, TheWorld, TopName, TypeDef, TypeOwner, Worlds, about, all_declared, all_items, append-nil, at_contains, declared_view, eqb-suc-zero, filter, filter-append, filter_map-append, finds_same, first_after, first_in, functions, if◌then◌else◌, in-append, in-more, in_order, in_turn, includes, includes_fault, is_inside, item_in, item_stability, item_view, kept_next, local_id, names_at_top, names_fault, name_view, option_or, order_of, reports_back, reports_prefix, reports_same, resolved_scopes_of, rows_of, scope_names, setters_fault, side_items, side_setters_fault, slice_get, take-append-drop, Address, AddsMembers, AddsSides, AddsWorld, AllDiffer, AreIncludes, Borrowed, Entry, HavePlaces, Interface, Interfaces, IsStart, IsTurn, Name, Names, Required, SideItem, World, WorldSide, address, and_parts, arenas, at_back, at_prefix, declared_metadata, eqb-true, flat_map, function_of, in_turn_distinct, inline_items, interfaces_at, is_ascii_uppercase, item_function, list_all, list_any, names_on, nil_from_length, no_clashes, none_both, part_functions, part_items, prefix_of, puts_nothing, settled, stage, type_imports, world_part, worlds_at, functions_parts}
 use Rattle.wit_arena.proofs.Common.{Item, world, entries_on, name_imports, WorldInclude}
 use Rattle.wit_contents.specs.declared.walk.Growing.{Growing}
 use Rattle.wit_contents.specs.declared.walk.Walked.{Walked}
@@ -126,18 +126,6 @@ item_called files i own =
     by (TheInterface x) free = refl
     by (TheWorld x) free = refl
     by (TheInline world place x name items) free = absurd (let f : ⊥ = cc in f)
-
--- a borrowed item, by its place in an order
-pub record IsAt (items : List BorrowedItem) (places : List ℕ) (k : ℕ) (x : BorrowedItem) : Type 0 where
-  pub place : ℕ
-  pub next : slice_get places k ≡ Some place
-  pub own : slice_get items place ≡ Some x
-  pub at : slice_get (map item_view items) place ≡ Some (item_view x)
-
-pub item_at : (items : List BorrowedItem) (places : List ℕ) (k : ℕ) (x : BorrowedItem) → All (λ (place : ℕ). place < length items) places → k < length places → x ≡ get_or items (get_or places k 0) x → IsAt items places k x
-item_at items places k x within lt is =
-    let own : slice_get items (get_or places k 0) ≡ Some x = slice_get-get_or items (get_or places k 0) x (within k 0 lt) ∙ ap Some (sym is) in
-    record { place = get_or places k 0; next = slice_get-get_or places k 0 lt; own = own; at = slice_get-map item_view items (get_or places k 0) ∙ ap (option_map item_view) own }
 
 -- the first fault of items that are kept of an order is that of one, where those before it have none
 pub among_kept : (keep : Item → Bool) (wrong : Item → Option Fault) (ws : List Item) (places : List ℕ) (k p : ℕ) (w : Item) (e : ParseError) → slice_get places k ≡ Some p → slice_get ws p ≡ Some w → keep w ≡ true → first_in wrong (filter keep (in_order ws (take k places))) ≡ None → Reports (wrong w) e → Reports (first_in wrong (filter keep (in_order ws places))) e

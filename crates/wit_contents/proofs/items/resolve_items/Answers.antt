@@ -1,13 +1,12 @@
 use Rattle.std.proofs.Common.{◌≡◌, ◌+◌, ◌++◌, ◌∷◌, List, ℕ, [], take, true, false, not, None, Some, refl, ap, sym, ◌∙◌, subst}
-use Rattle.wit_contents.proofs.Names.{World, about, all_items, contents_fault, declared_view, err_from_is_err_and, first_in, found_none, in-more, in_order, interfaces_of, is_world, item_called, item_view, kept_next, kept_past, length, others_of, slice_get, take_all, worlds_of}
-use Rattle.wit_arena.proofs.Common.{Item}
+use Rattle.wit_contents.proofs.Names.{World, about, all_items, contents_fault, declared_view, err_from_is_err_and, first_in, found_none, in-more, in_order, interfaces_of, is_world, item_called, item_view, kept_next, kept_past, length, others_of, take_all, worlds_of}
 use Rattle.wit_items.specs.declared.items.Declared.{Declared as BorrowedDeclared}
 use Rattle.wit_contents.proofs.FileFaults.{interfaces_reported, memory_found, none_after, worlds_reported}
-use Rattle.wit_contents.proofs.Files.{borrowed_within, prefix_index, prefix_worlds_index, worlds_enough}
-use Rattle.wit_contents.proofs.ResolvedItems.{HasInterfaces, HasWorlds, arenas_made, interface_resolved, no_world_resolved, none_resolved, world_resolved}
+use Rattle.wit_contents.proofs.Files.{prefix_index, prefix_worlds_index, worlds_enough}
+use Rattle.wit_contents.proofs.ResolvedItems.{HasInterfaces, HasWorlds, arenas_made, interface_resolved, item_at, no_world_resolved, none_resolved, world_resolved}
 use Rattle.wit_contents.proofs.RightInterfaces.{right_next}
 use Rattle.wit_contents.proofs.RightWorlds.{right_next_world}
-use Rattle.wit_contents.proofs.WorldFaults.{among_kept, item_at}
+use Rattle.wit_contents.proofs.WorldFaults.{among_kept}
 use Rattle.wit_contents.proofs.items.resolve_items.Goals.{in-Interface+in_ok-resolve_interface-in-Interface, in-World, in-Inline, in-World+in_ok-resolve_world-in-World, in-Interface}
 use Rattle.wit_contents.proofs.items.resolve_items.Goals as goal
 
@@ -25,10 +24,10 @@ pub resolve_interface-requires : goal.resolve_interface-requires
 resolve_interface-requires c =
     let r = c.requires.ready in
     let was = c.loop-place.invariant in
-    let x = item_at c.args.items.now c.args.places.now c.loop-place.place-index c.index-items-place.result (borrowed_within c.args.interfaces.now.files c.args.places.now c.args.items.now r.order r.all) c.loop-place-test.true c.index-items-place.is in
+    let x = item_at c.args.interfaces.now.files c.args.items.now c.args.places.now c.args.types.now c.args.interfaces.now.arena c.args.prefix r c.loop-place.place-index c.index-items-place.result c.loop-place-test.true c.index-items-place.is in
     record {
       sort = ap (λ (d : BorrowedDeclared). (about (declared_view d)).is_world) c.in-Interface.is;
-      item = rw was.resolved.same (r.each.each x.place c.index-items-place.result x.own);
+      item = rw was.resolved.same x.own;
       index = was.resolved.index;
     }
 
@@ -42,23 +41,22 @@ loop-place-preserved c =
     let i = c.loop-place.place-index in
     let w = item_view c.index-items-place.result in
     let was = c.loop-place.invariant in
-    let x = item_at items places i c.index-items-place.result (borrowed_within is.files places items r.order r.all) c.loop-place-test.true c.index-items-place.is in
-    let at : slice_get all x.place ≡ Some w = subst (λ (l : List Item). slice_get l x.place ≡ Some w) r.all x.at in
+    let x = item_at is.files items places c.args.types.now is.arena c.args.prefix r i c.index-items-place.result c.loop-place-test.true c.index-items-place.is in
     let before = interfaces_of (in_order all (take i places)) in
     elim c.match-item.branch [
       | in-Interface+in_ok-resolve_interface-in-Interface b ↦ (
           let sort : is_world w ≡ false = ap (λ (d : BorrowedDeclared). (about (declared_view d)).is_world) b.in-Interface.is in
-          let more : interfaces_of (in_order all (take (i + 1) places)) ≡ before ++ w ∷ [] = kept_next (λ v. not (is_world v)) all places i x.place w x.next at (ap not sort) in
+          let more : interfaces_of (in_order all (take (i + 1) places)) ≡ before ++ w ∷ [] = kept_next (λ v. not (is_world v)) all places i x.place w x.next x.at (ap not sort) in
           let e = b.in_ok-resolve_interface-in-Interface.ensures in
           let adds = e.adds in
           rw (b.interfaces-is, b.types-is, b.required-is) (record {
-            resolved = rw adds.2.appends.list (interface_resolved is.files items places c.args.types.now is.arena c.args.prefix r i x.place w x.next at sort c.loop-place.interfaces c.loop-place.types c.loop-place.required.items was.resolved b.resolve_interface.new.interfaces b.resolve_interface.new.types adds.0 adds.2.appends.own e.files adds.1 adds.2.appends.holds e.index);
-            first = λ known right. rw more (in-more (contents_fault is.files known) before w (was.first known right) ∙ e.first (contents_fault is.files known) (right_next is.files items places c.args.types.now is.arena c.args.prefix r i x.place w x.next at sort c.loop-place.interfaces c.loop-place.types c.loop-place.required.items was.resolved known right));
+            resolved = rw adds.2.appends.list (interface_resolved is.files items places c.args.types.now is.arena c.args.prefix r i x.place w x.next x.at sort c.loop-place.interfaces c.loop-place.types c.loop-place.required.items was.resolved b.resolve_interface.new.interfaces b.resolve_interface.new.types adds.0 adds.2.appends.own e.files adds.1 adds.2.appends.holds e.index);
+            first = λ known right. rw more (in-more (contents_fault is.files known) before w (was.first known right) ∙ e.first (contents_fault is.files known) (right_next is.files items places c.args.types.now is.arena c.args.prefix r i x.place w x.next x.at sort c.loop-place.interfaces c.loop-place.types c.loop-place.required.items was.resolved known right));
           }))
       | in-World b ↦ (
-          let past = kept_past (λ v. not (is_world v)) all places i x.place w x.next at (ap (λ (d : BorrowedDeclared). not (about (declared_view d)).is_world) b.in-World.is) in
+          let past = kept_past (λ v. not (is_world v)) all places i x.place w x.next x.at (ap (λ (d : BorrowedDeclared). not (about (declared_view d)).is_world) b.in-World.is) in
           rw (b.interfaces-is, b.types-is, b.required-is) (record { resolved = rw past was.resolved; first = λ known right. rw past (was.first known right) }))
-      | in-Inline b ↦ absurd (let wrong : None ≡ Some (about w.declared).id.name.now = ap (λ (d : BorrowedDeclared). (about (declared_view d)).called) (sym b.in-Inline.is) ∙ item_called is.files c.index-items-place.result (r.each.each x.place c.index-items-place.result x.own) in let f : ⊥ = cc in f)
+      | in-Inline b ↦ absurd (let wrong : None ≡ Some (about w.declared).id.name.now = ap (λ (d : BorrowedDeclared). (about (declared_view d)).called) (sym b.in-Inline.is) ∙ item_called is.files c.index-items-place.result x.own in let f : ⊥ = cc in f)
     ]
 
 pub returns-in_err-resolve_interface-in-Interface-clause-first : goal.returns-in_err-resolve_interface-in-Interface-clause-first
@@ -72,11 +70,10 @@ returns-in_err-resolve_interface-in-Interface-clause-first c =
     let i = c.loop-place.place-index in
     let w = item_view c.index-items-place.result in
     let was = c.loop-place.invariant in
-    let x = item_at items places i c.index-items-place.result (borrowed_within is.files places items r.order r.all) c.loop-place-test.true c.index-items-place.is in
-    let at : slice_get all x.place ≡ Some w = subst (λ (l : List Item). slice_get l x.place ≡ Some w) r.all x.at in
+    let x = item_at is.files items places c.args.types.now is.arena c.args.prefix r i c.index-items-place.result c.loop-place-test.true c.index-items-place.is in
     let sort : is_world w ≡ false = ap (λ (d : BorrowedDeclared). (about (declared_view d)).is_world) c.in-Interface.is in
-    rw (q.1, q.2) (λ known right. interfaces_reported is.files known right places r.order _ r.uses (among_kept (λ v. not (is_world v)) (contents_fault is.files known) all places i x.place w _ x.next at (ap not sort) (was.first known right)
-    (c.in_err-resolve_interface-in-Interface.ensures.first (contents_fault is.files known) (right_next is.files items places c.args.types.now is.arena c.args.prefix r i x.place w x.next at sort c.loop-place.interfaces c.loop-place.types c.loop-place.required.items was.resolved known right))))
+    rw (q.1, q.2) (λ known right. interfaces_reported is.files known right places r.order _ r.uses (among_kept (λ v. not (is_world v)) (contents_fault is.files known) all places i x.place w _ x.next x.at (ap not sort) (was.first known right)
+    (c.in_err-resolve_interface-in-Interface.ensures.first (contents_fault is.files known) (right_next is.files items places c.args.types.now is.arena c.args.prefix r i x.place w x.next x.at sort c.loop-place.interfaces c.loop-place.types c.loop-place.required.items was.resolved known right))))
 
 -- the worlds
 pub returns-in_err-make_room-clause-first : goal.returns-in_err-make_room-clause-first
@@ -110,11 +107,11 @@ pub resolve_world-requires : goal.resolve_world-requires
 resolve_world-requires c =
     let r = c.requires.ready in
     let was = c.loop-next.invariant in
-    let x = item_at c.args.items.now c.args.places.now c.loop-next.next-index c.index-items-next.result (borrowed_within c.args.interfaces.now.files c.args.places.now c.args.items.now r.order r.all) c.loop-next-test.true c.index-items-next.is in
+    let x = item_at c.args.interfaces.now.files c.args.items.now c.args.places.now c.args.types.now c.args.interfaces.now.arena c.args.prefix r c.loop-next.next-index c.index-items-next.result c.loop-next-test.true c.index-items-next.is in
     record {
       item = record {
         sort = ap (λ (d : BorrowedDeclared). (about (declared_view d)).is_world) c.in-World.is;
-        item = rw (was.interfaces, was.resolved.interfaces.same) (r.each.each x.place c.index-items-next.result x.own);
+        item = rw (was.interfaces, was.resolved.interfaces.same) x.own;
       };
       index = rw (was.interfaces, was.resolved.interfaces.same) was.index;
     }
@@ -131,27 +128,26 @@ loop-next-preserved c =
     let was = c.loop-next.invariant in
     let ws = c.loop-next.worlds in
     let g = c.loop-next.resolving.growing in
-    let x = item_at items places i c.index-items-next.result (borrowed_within is.files places items r.order r.all) c.loop-next-test.true c.index-items-next.is in
-    let at : slice_get all x.place ≡ Some w = subst (λ (l : List Item). slice_get l x.place ≡ Some w) r.all x.at in
+    let x = item_at is.files items places c.args.types.now is.arena c.args.prefix r i c.index-items-next.result c.loop-next-test.true c.index-items-next.is in
     let before = worlds_of (in_order all (take i places)) in
     elim c.match-world.branch [
       | in-World+in_ok-resolve_world-in-World b ↦ (
           let sort : is_world w ≡ true = ap (λ (d : BorrowedDeclared). (about (declared_view d)).is_world) b.in-World.is in
-          let more : worlds_of (in_order all (take (i + 1) places)) ≡ before ++ w ∷ [] = kept_next is_world all places i x.place w x.next at sort in
+          let more : worlds_of (in_order all (take (i + 1) places)) ≡ before ++ w ∷ [] = kept_next is_world all places i x.place w x.next x.at sort in
           let e = b.in_ok-resolve_world-in-World.ensures in
           let new = b.resolve_world.new in
           let same = ap (λ r. r.now) e.interfaces ∙ was.interfaces in
           rw (b.worlds-is, b.resolving-is) (record {
-            resolved = world_resolved is.files items places c.args.types.now is.arena c.args.prefix r i x.place w x.next at sort c.loop-place.interfaces ws.arena new.worlds.arena g.inside new.resolving.growing.inside g.types new.resolving.growing.types c.loop-next.resolving.required.items new.resolving.required.items was.resolved (rw was.interfaces at e.adds);
+            resolved = world_resolved is.files items places c.args.types.now is.arena c.args.prefix r i x.place w x.next x.at sort c.loop-place.interfaces ws.arena new.worlds.arena g.inside new.resolving.growing.inside g.types new.resolving.growing.types c.loop-next.resolving.required.items new.resolving.required.items was.resolved (rw was.interfaces at e.adds);
             interfaces = same;
             index = rw (same, was.resolved.interfaces.same) at e.index;
-            first = λ known right. rw more (in-more (contents_fault is.files known) before w (was.first known right) ∙ e.first (contents_fault is.files known) (right_next_world is.files items places c.args.types.now is.arena c.args.prefix r ws i x.place c.index-items-next.result x.next at sort (r.each.each x.place c.index-items-next.result x.own) g.inside g.types c.loop-next.resolving.required.items (rw was.interfaces was.resolved) (rw (was.interfaces, was.resolved.interfaces.same) was.index) known right));
+            first = λ known right. rw more (in-more (contents_fault is.files known) before w (was.first known right) ∙ e.first (contents_fault is.files known) (right_next_world is.files items places c.args.types.now is.arena c.args.prefix r ws i x.place c.index-items-next.result x.next x.at sort x.own g.inside g.types c.loop-next.resolving.required.items (rw was.interfaces was.resolved) (rw (was.interfaces, was.resolved.interfaces.same) was.index) known right));
           }))
       | in-Interface b ↦ (
-          let past = kept_past is_world all places i x.place w x.next at (ap (λ (d : BorrowedDeclared). (about (declared_view d)).is_world) b.in-Interface.is) in
+          let past = kept_past is_world all places i x.place w x.next x.at (ap (λ (d : BorrowedDeclared). (about (declared_view d)).is_world) b.in-Interface.is) in
           rw (b.worlds-is, b.resolving-is) (record { resolved = rw past was.resolved; interfaces = was.interfaces; index = was.index; first = λ known right. rw past (was.first known right) }))
       | in-Inline b ↦ (
-          let past = kept_past is_world all places i x.place w x.next at (ap (λ (d : BorrowedDeclared). (about (declared_view d)).is_world) b.in-Inline.is) in
+          let past = kept_past is_world all places i x.place w x.next x.at (ap (λ (d : BorrowedDeclared). (about (declared_view d)).is_world) b.in-Inline.is) in
           rw (b.worlds-is, b.resolving-is) (record { resolved = rw past was.resolved; interfaces = was.interfaces; index = was.index; first = λ known right. rw past (was.first known right) }))
     ]
 
@@ -168,13 +164,12 @@ returns-in_err-resolve_world-in-World-clause-first c =
     let was = c.loop-next.invariant in
     let ws = c.loop-next.worlds in
     let g = c.loop-next.resolving.growing in
-    let x = item_at items places i c.index-items-next.result (borrowed_within is.files places items r.order r.all) c.loop-next-test.true c.index-items-next.is in
-    let at : slice_get all x.place ≡ Some w = subst (λ (l : List Item). slice_get l x.place ≡ Some w) r.all x.at in
+    let x = item_at is.files items places c.args.types.now is.arena c.args.prefix r i c.index-items-next.result c.loop-next-test.true c.index-items-next.is in
     let sort : is_world w ≡ true = ap (λ (d : BorrowedDeclared). (about (declared_view d)).is_world) c.in-World.is in
     rw (q.1, q.2) (λ known right. worlds_reported is.files known right places r.order _ r.uses
     (ap (λ (l : List ℕ). first_in (contents_fault is.files known) (interfaces_of (in_order all l))) (sym (take_all c.loop-place.place-index places c.loop-place-test.false)) ∙ c.loop-place.invariant.first known right)
-    (among_kept is_world (contents_fault is.files known) all places i x.place w _ x.next at sort (was.first known right)
-    (c.in_err-resolve_world-in-World.ensures.first (contents_fault is.files known) (right_next_world is.files items places c.args.types.now is.arena c.args.prefix r ws i x.place c.index-items-next.result x.next at sort (r.each.each x.place c.index-items-next.result x.own) g.inside g.types c.loop-next.resolving.required.items (rw was.interfaces was.resolved) (rw (was.interfaces, was.resolved.interfaces.same) was.index) known right))))
+    (among_kept is_world (contents_fault is.files known) all places i x.place w _ x.next x.at sort (was.first known right)
+    (c.in_err-resolve_world-in-World.ensures.first (contents_fault is.files known) (right_next_world is.files items places c.args.types.now is.arena c.args.prefix r ws i x.place c.index-items-next.result x.next x.at sort x.own g.inside g.types c.loop-next.resolving.required.items (rw was.interfaces was.resolved) (rw (was.interfaces, was.resolved.interfaces.same) was.index) known right))))
 
 pub returns-clause-made : goal.returns-clause-made
 returns-clause-made c =
