@@ -1,6 +1,6 @@
 -- Interfaces that were added are done.
 use Rattle.std.proofs.Common.{◌≡◌, ℕ, ◌+◌, true, false, List, [], ◌∷◌, ◌++◌, length, map, Option, Some, inl, inr, refl, sym, ap, ◌∙◌, subst, append_assoc, length-append, suc, ◌⊎◌}
-use Rattle.wit_arena.proofs.Names.{Address, AddsForeign, Decls, Imported, Interface, InterfaceNamed, Item, Names, Occurrence, PackageFile, Required, ResolvedScope, ScopeName, TypeDef, TypeOwner, World, address, all_items, all_occurrences, append-nil, at_back, at_part, at_prefix, declarations, flat_map, foreign_interfaces, foreign_use_occurrence, foreign_uses, foreign_worlds, functions, in_turn, inline_items, interface_functions, is_foreign, length-map, map-append, option_map, owner_at, resolved_scope, resolved_scopes, scope, scope_names, slice_get, slice_get-map, unwrap_or, visited, AreRequired, Function, FunctionKey, Id, Turned, WorldArenas, WorldItem, WorldKey, WorldNamed, after_one, all_handles, at_split, flat_map-append, flat_map_at, flat_map_has, import_types, keys, local_names, name_types, side_items, turn_handles, turn_occurrences, type_imports, world_functions, world_types, «Type» as Written, AddsInterface, GivesPlaces, IsOrder, Key, all_types, at_seam, own_interface, own_world, rows_of, scope_place}
+use Rattle.wit_arena.proofs.Names.{Address, AddsForeign, Decls, Imported, Interface, InterfaceNamed, Item, Names, Occurrence, PackageFile, Required, ResolvedScope, ScopeName, TypeDef, TypeOwner, World, address, all_items, all_occurrences, append-nil, at_back, at_part, at_prefix, declarations, flat_map, foreign_interfaces, foreign_use_occurrence, foreign_uses, foreign_worlds, functions, in_turn, inline_items, interface_functions, is_foreign, length-map, map-append, option_map, owner_at, resolved_scope, resolved_scopes, scope, scope_names, slice_get, slice_get-map, unwrap_or, visited, AreRequired, Function, FunctionKey, Id, Turned, WorldItem, WorldKey, WorldNamed, after_one, all_handles, at_split, flat_map-append, flat_map_at, flat_map_has, import_types, keys, local_names, name_types, side_items, turn_handles, turn_occurrences, type_imports, world_functions, world_types, «Type» as Written, AddsInterface, GivesPlaces, IsOrder, Key, all_types, at_seam, own_interface, own_world, rows_of, scope_place}
 use Rattle.wit_arena.proofs.FreeNames.{free_of, free_keyed}
 use Rattle.wit_arena.proofs.Settled.{world_types-all}
 use Rattle.wit_arena.proofs.Ordered.{Ordered, OrderedWorld, turned, side_turns, world_turns, all_turns, all_inside}
@@ -252,11 +252,11 @@ own_order w = w.own
 
 -- The first of some worlds are done after interfaces, in some orders of their names: over the places of what occurred, and wherever the
 -- interfaces and the worlds are, these are they and the interfaces that are written in them.
-pub record AreWorldsDone (files : List PackageFile) (is ws : List Item) (wprefix : List World) (base : List Ordered) (first : List DoneScope) (us : List Item) (es : List TypeDef) (a : WorldArenas) (rs : List Required) : Type 0 where
+pub record AreWorldsDone (files : List PackageFile) (is ws : List Item) (wprefix : List World) (base : List Ordered) (first : List DoneScope) (us : List Item) (es : List TypeDef) (worlds : List World) (inline : List Interface) (rs : List Required) : Type 0 where
   pub ordered : List OrderedWorld
   pub scopes : List DoneWorld
   pub own : List World
-  pub arena : a.worlds ≡ wprefix ++ own
+  pub arena : worlds ≡ wprefix ++ own
   pub all : map own_item ordered ≡ us
   pub each_inside : (t : ℕ) (o : OrderedWorld) → slice_get ordered t ≡ Some o → map item_of o.inside ≡ inline_items o.own.item
   pub inside : map item_of (all_inside ordered) ≡ inside_of us
@@ -265,7 +265,7 @@ pub record AreWorldsDone (files : List PackageFile) (is ws : List Item) (wprefix
   pub inside_least : (t : ℕ) (o : Ordered) → slice_get (all_inside ordered) t ≡ Some o → IsOrder (rows_of (scope_names o.item)) o.order
   pub done : IsDone files (decls files is ws) (all_occurrences files (all_turns base ordered)) (first ++ flat_map scopes_of scopes) es
   pub made : (id : Key → ℕ) → GivesPlaces id (keys done.seen) → (ss vs : List Address) → GivesPlaces (scope_place ss) (interface_list files is (inside_of ws)) → GivesPlaces (scope_place vs) (world_list files ws) → own ≡ map (ordered_world id ss vs) ordered
-  pub inside_made : (id : Key → ℕ) → GivesPlaces id (keys done.seen) → a.inside ≡ map (ordered_interface id) (all_inside ordered)
+  pub inside_made : (id : Key → ℕ) → GivesPlaces id (keys done.seen) → inline ≡ map (ordered_interface id) (all_inside ordered)
   pub required : AreRequired files (keys done.seen) (flat_map turn_handles (flat_map world_turns ordered)) rs
 
 abbrev pub named_world : Names → List (FunctionKey × Function) → List ℕ → ResolvedScope

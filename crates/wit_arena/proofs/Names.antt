@@ -15,7 +15,7 @@ pub use Rattle.wit_model.specs.declared.world.WorldInclude.{WorldInclude}
 pub use Rattle.wit_model.specs.declared.world.WorldItem.{WorldItem}
 pub use Rattle.wit_model.specs.declared.world.WorldItem.TheVariants.{Type_}
 pub use Rattle.wit_model.specs.declared.world.WorldKey.{WorldKey}
-pub use Rattle.wit_arena.specs.Resolving.{AreIncludes, AddsFunctions, AreEnded, AreKnown, AreNames, AreNew, AreOwned, AreResolved, Defines, Env, Extends, GivesPlaces, HasNames, IsAdded, IsInterned, IsNameIndex, IsStored, IsUnnamedOf, Names, Required, ResolvedScope, env_of, free_functions, named, names_in, resolved_scope, resolved_scope_at, resolved_scopes, unnamed, gathered, AddsForeign, AddsInterface, AddsScope, AddsSides, AddsWorld, WorldArenas, foreign_type, interfaces_at, worlds_at, all_function_occurrences, foreign_use_occurrence, IsOccurrence}
+pub use Rattle.wit_arena.specs.Resolving.{AreIncludes, AddsFunctions, AreEnded, AreKnown, AreNames, AreNew, AreOwned, AreResolved, Defines, Env, Extends, GivesPlaces, HasNames, IsAdded, IsInterned, IsNameIndex, IsStored, IsUnnamedOf, Names, Required, ResolvedScope, env_of, free_functions, named, names_in, resolved_scope, resolved_scope_at, resolved_scopes, unnamed, gathered, AddsForeign, AddsInterface, AddsScope, AddsSides, AddsWorld, foreign_type, interfaces_at, worlds_at, all_function_occurrences, foreign_use_occurrence, IsOccurrence}
 pub use Rattle.wit_arena.specs.Kind.{EntryEnd, IsOther, IsResource, IsUnknown, entry_end, found_end, kind_end, part_end, kind_of}
 pub use Rattle.wit_arena.specs.Occurrences.{End, Expr, Exprs, More, Of, Prim, Use, expr_of, exprs_of, name_exprs, Collects, Decls, Def, IsSeen, Key, Occurrence, Whole, keys, name_occurrences, shape_occurrences, shapes_occurrences, stability_at, type_of, types_of}
 pub use Rattle.wit_arena.specs.Faithful.{HasArena, HasType, IsAnonymousForm, IsFaithful, IsMadeOf, IsRoot, LiesBelow, OfFunction, OfName, node_parts}

@@ -1,6 +1,6 @@
 -- The package that files make, part by part: what the steps of resolving them come to.
-use Rattle.std.proofs.Common.{◌≡◌, ℕ, List, Some, sym, ap, ◌∙◌, subst, arith, ◌+◌, ◌++◌, inl, inr, append_assoc}
-use Rattle.wit_arena.proofs.Names.{settled, Address, AreRequired, Collects, Exported, Function, Imported, Interface, IsOccurrence, Key, Occurrence, PackageFile, Required, TypeDef, UnresolvedPackage, World, [], about, address, all_occurrences, declarations, declared_metadata, dep, first_foreign_uses, flat_map, foreign_interfaces, foreign_packages, foreign_worlds, functions as item_functions, keys, map, placed_functions, turn_handles, type_imports, world_types, AreAt, Decls, Def, ScopeName, SourceFunction, TypeOwner, at_within, differ_at, kind_of, local_name, map_at, name_exprs, one, option_map, scope, slice_get, slice_get-map, slice_get_within, AddsForeign, AreFunctions, Id, IsOrder, Item, WorldArenas, all_items, at_part, flat_map-append, functions, in_order, interfaces_of, item_rows, map-append, map_map, rows_of, scope_names, visited, worlds_of, foreign_world, interface, GivesPlaces, foreign_interface, foreign_use_occurrence, foreign_uses, scope_place, WorldItem, WorldKey, WorldSide, includes, side_items}
+use Rattle.std.proofs.Common.{◌≡◌, ℕ, List, Some, sym, ap, ◌∙◌, subst, arith, ◌++◌, inl, inr, append_assoc}
+use Rattle.wit_arena.proofs.Names.{settled, Address, AreRequired, Collects, Exported, Function, Imported, Interface, IsOccurrence, Key, Occurrence, PackageFile, Required, TypeDef, UnresolvedPackage, World, [], about, address, all_occurrences, declarations, declared_metadata, dep, first_foreign_uses, flat_map, foreign_interfaces, foreign_packages, foreign_worlds, functions as item_functions, keys, map, placed_functions, turn_handles, type_imports, world_types, AreAt, Decls, Def, ScopeName, SourceFunction, TypeOwner, at_within, differ_at, kind_of, local_name, map_at, name_exprs, one, option_map, scope, slice_get, slice_get-map, slice_get_within, AddsForeign, AreFunctions, Id, IsOrder, Item, all_items, at_part, flat_map-append, functions, in_order, interfaces_of, item_rows, map-append, map_map, rows_of, scope_names, visited, worlds_of, foreign_world, interface, GivesPlaces, foreign_interface, foreign_use_occurrence, foreign_uses, scope_place, WorldItem, WorldKey, WorldSide, includes, side_items}
 use Rattle.wit_arena.proofs.Ordered.{AreOrdered, Ordered, ordered_names, turned, OrderedWorld, all_turns, all_inside, interface_addresses, world_addresses, world_turns}
 use Rattle.wit_arena.proofs.OneKind.{all_at_untaken, Extended}
 use Rattle.wit_arena.proofs.PlacingFunctions.{IsFunction, function_of, made_count, HasTypes, types_named}
@@ -103,7 +103,7 @@ module _ (files : List PackageFile) (decls : Decls) (written : List Occurrence) 
       (f.0, f.1, function_of ks c.address c.functions c.made are k fn f.0 fat f.1)
 
 -- What follows for a package once all interfaces and all worlds are done.
-module _ (files : List PackageFile) (is ws : List Item) (start middle : List TypeDef) (prefix xs : List Interface) (wprefix : List World) (foreign : AddsForeign files start prefix wprefix) (irs wrs : List Required) (new : List TypeDef) (a : WorldArenas) (d : InterfacesDone files is ws prefix is middle xs irs) (e : AreWorldsDone files is ws wprefix d.ordered (prefix_scopes files prefix ++ d.scopes) ws new a wrs) where
+module _ (files : List PackageFile) (is ws : List Item) (start middle : List TypeDef) (prefix xs : List Interface) (wprefix : List World) (foreign : AddsForeign files start prefix wprefix) (irs wrs : List Required) (new : List TypeDef) (arena : List World) (inline : List Interface) (d : InterfacesDone files is ws prefix is middle xs irs) (e : AreWorldsDone files is ws wprefix d.ordered (prefix_scopes files prefix ++ d.scopes) ws new arena inline wrs) where
   abbrev seen_keys : List Key
   seen_keys = keys e.done.seen
 
@@ -117,12 +117,12 @@ module _ (files : List PackageFile) (is ws : List Item) (start middle : List Typ
   foreign_extended : Extended (keys (map foreign_use_occurrence (first_foreign_uses files))) seen_keys
   foreign_extended = collects_longer (map foreign_use_occurrence (foreign_uses files)) (occurrences (all_turns d.ordered e.ordered)) [] (map foreign_use_occurrence (first_foreign_uses files)) e.done.seen (foreign_uses_seen files) e.done.collects
 
-  interfaces_are : (id : Key → ℕ) → GivesPlaces id seen_keys → (prefix ++ xs) ++ a.inside ≡ map (foreign_interface files id) (foreign_interfaces files) ++ map (ordered_interface id) all
+  interfaces_are : (id : Key → ℕ) → GivesPlaces id seen_keys → (prefix ++ xs) ++ inline ≡ map (foreign_interface files id) (foreign_interfaces files) ++ map (ordered_interface id) all
   interfaces_are id gives =
       let others = map (foreign_interface files id) (foreign_interfaces files) in
-      append_assoc prefix xs a.inside
-      ∙ ap (λ (l : List Interface). l ++ (xs ++ a.inside)) (foreign.interfaces id (gives_fewer foreign_extended id gives))
-      ∙ ap (λ (l : List Interface). others ++ (l ++ a.inside)) (d.made id (gives_fewer interfaces_extended id gives))
+      append_assoc prefix xs inline
+      ∙ ap (λ (l : List Interface). l ++ (xs ++ inline)) (foreign.interfaces id (gives_fewer foreign_extended id gives))
+      ∙ ap (λ (l : List Interface). others ++ (l ++ inline)) (d.made id (gives_fewer interfaces_extended id gives))
       ∙ ap (λ (l : List Interface). others ++ (map (ordered_interface id) d.ordered ++ l)) (e.inside_made id gives)
       ∙ ap (λ (l : List Interface). others ++ l) (sym (map-append (ordered_interface id) d.ordered (all_inside e.ordered)))
 
@@ -133,7 +133,7 @@ module _ (files : List PackageFile) (is ws : List Item) (start middle : List Typ
   same_worlds : world_list files ws ≡ world_addresses files e.ordered
   same_worlds = ap (λ (l : List Address). map visited (foreign_worlds files) ++ l) (ap (map address) (sym e.all) ∙ map_map address own_item e.ordered)
 
-  worlds_are : (id : Key → ℕ) → GivesPlaces id seen_keys → (ss vs : List Address) → GivesPlaces (scope_place ss) (interface_addresses files all) → GivesPlaces (scope_place vs) (world_addresses files e.ordered) → a.worlds ≡ map foreign_world (foreign_worlds files) ++ map (ordered_world id ss vs) e.ordered
+  worlds_are : (id : Key → ℕ) → GivesPlaces id seen_keys → (ss vs : List Address) → GivesPlaces (scope_place ss) (interface_addresses files all) → GivesPlaces (scope_place vs) (world_addresses files e.ordered) → arena ≡ map foreign_world (foreign_worlds files) ++ map (ordered_world id ss vs) e.ordered
   worlds_are id gives ss vs here there =
       e.arena
       ∙ ap (λ (l : List World). l ++ e.own) foreign.worlds
@@ -158,7 +158,7 @@ module _ (files : List PackageFile) (is ws : List Item) (start middle : List Typ
   seen_addresses : IsOccurrence (declarations files (interface_addresses files all) (world_addresses files e.ordered)) e.done.seen new
   seen_addresses = subst (λ (y : List Address). IsOccurrence (declarations files (interface_addresses files all) y) e.done.seen new) same_worlds (subst (λ (y : List Address). IsOccurrence (declarations files y (world_list files ws)) e.done.seen new) same_interfaces e.done.occurrence)
 
-  pub package_of : (places : List ℕ) → IsOrder (item_rows files) places → is ≡ interfaces_of (in_order (all_items files) places) → ws ≡ worlds_of (in_order (all_items files) places) → IsPackage files new ((prefix ++ xs) ++ a.inside) a.worlds (irs ++ wrs)
+  pub package_of : (places : List ℕ) → IsOrder (item_rows files) places → is ≡ interfaces_of (in_order (all_items files) places) → ws ≡ worlds_of (in_order (all_items files) places) → IsPackage files new ((prefix ++ xs) ++ inline) arena (irs ++ wrs)
   package_of places order in_order_interfaces in_order_worlds = record {
     seen = e.done.seen;
     own = d.ordered;

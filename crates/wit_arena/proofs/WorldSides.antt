@@ -1,6 +1,6 @@
 -- The names of a world that comes next, and what is on its sides, after interfaces and worlds that are done.
 use Rattle.std.proofs.Common.{◌≡◌, ℕ, ◌+◌, true, false, List, [], ◌∷◌, ◌++◌, length, map, Some, inl, inr, sym, ap, ◌∙◌, subst, append_assoc, arith, length-append, refl}
-use Rattle.wit_arena.proofs.Names.{Address, AddsForeign, AddsScope, AddsSides, Function, FunctionKey, Interface, Item, Names, Occurrence, PackageFile, Required, ResolvedScope, ScopeName, SideItem, Turned, TypeDef, TypeOwner, World, WorldArenas, WorldNamed, address, all_items, all_occurrences, append-nil, at_back, at_either, at_part, at_prefix, at_seam, differ_at, differ_by, flat_map, flat_map-append, foreign_interfaces, foreign_worlds, in_turn, inline_inside, inline_items, inline_items_differ, inside_one, interfaces_at, is_inside, length-map, map-append, map_at, option_map, resolved_scopes, scope, scope_names, slice_get, slice_get-map, slice_get_within, visited, worlds_at, AreNames, Extends, env_of, keys, local_names, names_in}
+use Rattle.wit_arena.proofs.Names.{Address, AddsForeign, AddsScope, AddsSides, Function, FunctionKey, Interface, Item, Names, Occurrence, PackageFile, Required, ResolvedScope, ScopeName, SideItem, Turned, TypeDef, TypeOwner, World, WorldNamed, address, all_items, all_occurrences, append-nil, at_back, at_either, at_part, at_prefix, at_seam, differ_at, differ_by, flat_map, flat_map-append, foreign_interfaces, foreign_worlds, in_turn, inline_inside, inline_items, inline_items_differ, inside_one, interfaces_at, is_inside, length-map, map-append, map_at, option_map, resolved_scopes, scope, scope_names, slice_get, slice_get-map, slice_get_within, visited, worlds_at, AreNames, Extends, env_of, keys, local_names, names_in}
 use Rattle.wit_arena.proofs.Visits.{AreUsableUses}
 use Rattle.wit_arena.proofs.Ordered.{all_turns, all_inside, turned}
 use Rattle.wit_arena.proofs.DoneWorlds.{InterfacesDone, WorldOwner, inside_of, interface_list, world_list, decls, prefix_apart, resolved_scopes_among, next_world, inline_declared, world_item_declared, scopes_of, all_within, own_order, AreWorldsDone, prefix_longer, flat_map_longer, scope_either, ordered_interface}
@@ -31,8 +31,8 @@ module _ (files : List PackageFile) (is ws : List Item) (interfaces : AreOfSort 
   known = resolved_scopes ss (prefix ++ xs)
 
   -- the first worlds are done, after all interfaces
-  abbrev pub WorldsDone : List Item → List TypeDef → WorldArenas → List Required → Type 0
-  WorldsDone us new a rs = AreWorldsDone files is ws wprefix d.ordered before us new a rs
+  abbrev pub WorldsDone : List Item → List TypeDef → List World → List Interface → List Required → Type 0
+  WorldsDone us new arena inline rs = AreWorldsDone files is ws wprefix d.ordered before us new arena inline rs
 
   -- as many interfaces come first as other packages have, and as many after as are declared
   long_prefix : length (prefix ++ xs) ≡ length ss + length is
@@ -66,7 +66,7 @@ module _ (files : List PackageFile) (is ws : List Item) (interfaces : AreOfSort 
     | inr h ↦ (interface_outside h.0 c h.1).1 (source.item_name w) (same ∙ world_address w (worlds.each t w at))
   ]
 
-  module _ (us : List Item) (old : List TypeDef) (a : WorldArenas) (qs : List Required) (e : WorldsDone us old a qs) (w : Item) (next : slice_get ws (length us) ≡ Some w) where
+  module _ (us : List Item) (old : List TypeDef) (arena : List World) (inline : List Interface) (qs : List Required) (e : WorldsDone us old arena inline qs) (w : Item) (next : slice_get ws (length us) ≡ Some w) where
     abbrev s : Address
     s = address w
 
@@ -108,13 +108,13 @@ module _ (files : List PackageFile) (is ws : List Item) (interfaces : AreOfSort 
     own_inside k i at = inside_prefix (length (inside_of us) + k) i (ap (λ (l : List Item). slice_get l (length (inside_of us) + k)) inside_split ∙ at_back (inside_of us) (inline_items w) k i at)
 
     -- there are as many entries
-    pub count_inside : length a.inside ≡ length (inside_of us)
+    pub count_inside : length inline ≡ length (inside_of us)
     count_inside =
         let id = place_in (keys e.done.seen) 0 in
         ap length (e.inside_made id (gives_in (keys e.done.seen) 0 e.done.occurrence.once)) ∙ length-map (all_inside e.ordered) (ordered_interface id) ∙ sym (length-map (all_inside e.ordered) item_of) ∙ ap length e.inside
 
     -- where the next interface that is written in a world is
-    pub next_place : length (prefix ++ xs) + length a.inside ≡ length ss + (length is + length (inside_of us))
+    pub next_place : length (prefix ++ xs) + length inline ≡ length ss + (length is + length (inside_of us))
     next_place = omega (arith, long_prefix, count_inside)
 
     -- the item of a scope that is written in a world
@@ -162,10 +162,10 @@ module _ (files : List PackageFile) (is ws : List Item) (interfaces : AreOfSort 
         ]
 
     -- the address of a world that was added is that of its item
-    pub world_added : (t : ℕ) (x : Address) → slice_get (worlds_at others a.worlds) t ≡ Some x → slice_get (world_list files ws) t ≡ Some x
+    pub world_added : (t : ℕ) (x : Address) → slice_get (worlds_at others arena) t ≡ Some x → slice_get (world_list files ws) t ≡ Some x
     world_added t x at =
         let named = map (λ (v : World). WorldNamed v.name) e.own in
-        let whole : worlds_at others a.worlds ≡ others ++ named = ap (worlds_at others) e.arena ∙ worlds_at-append others wprefix e.own (worlds_count foreign ∙ sym (length-map (foreign_worlds files) visited)) in
+        let whole : worlds_at others arena ≡ others ++ named = ap (worlds_at others) e.arena ∙ worlds_at-append others wprefix e.own (worlds_count foreign ∙ sym (length-map (foreign_worlds files) visited)) in
         prefix_longer others named (map address ws) (laid_place e.laid) t x (ap (λ (l : List Address). slice_get l t) (sym whole) ∙ at)
 
     -- so is that of an interface
@@ -190,21 +190,21 @@ module _ (files : List PackageFile) (is ws : List Item) (interfaces : AreOfSort 
     known_before t c at = (let it = known_among [] t c at in (it.0, ap (λ (l : List DoneScope). slice_get (map resolved_scope_of l) it.0) (sym (append-nil first)) ∙ it.1))
 
     -- whom the package knows its scope by
-    pub world_owned : decls files is ws s ≡ (scope files s, owner.World (length a.worlds))
+    pub world_owned : decls files is ws s ≡ (scope files s, owner.World (length arena))
     world_owned =
-        let whose : owner.World (length a.worlds) ≡ WorldOwner files (length e.own) = ap (λ (l : List World). owner.World (length l)) e.arena ∙ next_world files is ws interfaces worlds is_items ws_items uses es prefix wprefix foreign e.own in
+        let whose : owner.World (length arena) ≡ WorldOwner files (length e.own) = ap (λ (l : List World). owner.World (length l)) e.arena ∙ next_world files is ws interfaces worlds is_items ws_items uses es prefix wprefix foreign e.own in
         world_item_declared files is ws interfaces worlds is_items ws_items (length e.own) w at_own ∙ ap (λ (o : TypeOwner). (scope files s, o)) (sym whose)
 
     pub world_scoped : scope files s ≡ scope_names w
     world_scoped = scope_of files ws (item_scopes files ws ws_items) (length us) w next
 
     -- once the names of this world were added; nothing hangs on what is stated of its scope besides
-    module _ (mid : List TypeDef) (types : Names) (adds : AddsScope old mid known (owner.World (length a.worlds)) (scope_names w) types) (stated : List (FunctionKey × Function)) where
+    module _ (mid : List TypeDef) (types : Names) (adds : AddsScope old mid known (owner.World (length arena)) (scope_names w) types) (stated : List (FunctionKey × Function)) where
       abbrev names : List ScopeName
       names = in_turn (scope_names w) adds.order
 
       abbrev pub c : DoneScope
-      c = laid_scope (owner.World (length a.worlds)) (record { item = w; order = adds.order }) types [] stated []
+      c = laid_scope (owner.World (length arena)) (record { item = w; order = adds.order }) types [] stated []
 
       abbrev named : List Occurrence
       named = all_name_occurrences s names
@@ -213,17 +213,17 @@ module _ (files : List PackageFile) (is ws : List Item) (interfaces : AreOfSort 
       turn = subst (λ (l : List ScopeName). IsTurn l names) (sym world_scoped) (in_turn_is (scope_names w) adds.order adds.least adds.distinct)
 
       abbrev pub added : Extends (decls files is ws) e.done.seen named mid (λ ks. AreNames ks s (env_of types) × (names_in types ≡ local_names names))
-      added = (adds.defines s).from (decls files is ws) e.done.seen (are_owned files (decls files is ws) written first old e.done s (owner.World (length a.worlds)) names world_fresh world_owned turn) turn.differ (are_new files (decls files is ws) written first old e.done s (owner.World (length a.worlds)) names world_fresh world_owned turn) (are_known files (decls files is ws) written first old e.done s (owner.World (length a.worlds)) names world_fresh world_owned turn known known_before) e.done.occurrence (none_named files (decls files is ws) written first old e.done s (owner.World (length a.worlds)) names world_fresh world_owned turn)
+      added = (adds.defines s).from (decls files is ws) e.done.seen (are_owned files (decls files is ws) written first old e.done s (owner.World (length arena)) names world_fresh world_owned turn) turn.differ (are_new files (decls files is ws) written first old e.done s (owner.World (length arena)) names world_fresh world_owned turn) (are_known files (decls files is ws) written first old e.done s (owner.World (length arena)) names world_fresh world_owned turn known known_before) e.done.occurrence (none_named files (decls files is ws) written first old e.done s (owner.World (length arena)) names world_fresh world_owned turn)
 
       -- its names are done
       abbrev pub names_done : IsDone files (decls files is ws) (written ++ named) (first ++ c ∷ []) mid
-      names_done = scope_done files (decls files is ws) written first old e.done s (owner.World (length a.worlds)) names world_fresh world_owned turn mid c refl refl refl named (name_seen_in s names) added added.holds.0 added.holds.1
+      names_done = scope_done files (decls files is ws) written first old e.done s (owner.World (length arena)) names world_fresh world_owned turn mid c refl refl refl named (name_seen_in s names) added added.holds.0 added.holds.1
 
       -- an interface that is written in it can come next
-      pub fresh_inside : (k : ℕ) (i : Item) → slice_get (inline_items w) k ≡ Some i → IsFreshInside files (decls files is ws) (first ++ c ∷ []) ((length (prefix ++ xs) + length a.inside) + k) i
+      pub fresh_inside : (k : ℕ) (i : Item) → slice_get (inline_items w) k ≡ Some i → IsFreshInside files (decls files is ws) (first ++ c ∷ []) ((length (prefix ++ xs) + length inline) + k) i
       fresh_inside k i at =
           let there = own_inside k i at in
-          let spot : length ss + (length is + (length (inside_of us) + k)) ≡ (length (prefix ++ xs) + length a.inside) + k = (let p = next_place in omega arith) in
+          let spot : length ss + (length is + (length (inside_of us) + k)) ≡ (length (prefix ++ xs) + length inline) + k = (let p = next_place in omega arith) in
           record {
             fresh = λ t b b_at same. elim (at_either first c t b b_at) [
               | inl h ↦ inline_fresh k i at t b h same
@@ -237,5 +237,5 @@ module _ (files : List PackageFile) (is ws : List Item) (interfaces : AreOfSort 
           }
 
       -- and so is what is on its sides, as far as it was added
-      pub sides_done : (new : List TypeDef) (js : List Interface) (fs : List Function) (rs : List Required) (items : List SideItem) (inside : List Item) → ((k : ℕ) (i : Item) → slice_get inside k ≡ Some i → slice_get (inline_items w) k ≡ Some i) → AddsSides known (length (prefix ++ xs)) s types mid new a.inside js fs rs items inside → AreSided files (decls files is ws) (written ++ named) (first ++ c ∷ []) (keys names_done.seen) s new a.inside js fs rs items inside
-      sides_done new js fs rs items inside among sides = are_sided files (decls files is ws) (written ++ named) (first ++ c ∷ []) mid new known (length (prefix ++ xs)) (length first) c a.inside js fs rs items inside names_done (at_seam first c) (known_among (c ∷ [])) (differ_by address inside (λ i j x y at_i at_j same. differ_at address (inline_items w) (inline_items_differ w) i j x y (among i x at_i) (among j y at_j) same)) (λ k i at. fresh_inside k i (among k i at)) sides
+      pub sides_done : (new : List TypeDef) (js : List Interface) (fs : List Function) (rs : List Required) (items : List SideItem) (inside : List Item) → ((k : ℕ) (i : Item) → slice_get inside k ≡ Some i → slice_get (inline_items w) k ≡ Some i) → AddsSides known (length (prefix ++ xs)) s types mid new inline js fs rs items inside → AreSided files (decls files is ws) (written ++ named) (first ++ c ∷ []) (keys names_done.seen) s new inline js fs rs items inside
+      sides_done new js fs rs items inside among sides = are_sided files (decls files is ws) (written ++ named) (first ++ c ∷ []) mid new known (length (prefix ++ xs)) (length first) c inline js fs rs items inside names_done (at_seam first c) (known_among (c ∷ [])) (differ_by address inside (λ i j x y at_i at_j same. differ_at address (inline_items w) (inline_items_differ w) i j x y (among i x at_i) (among j y at_j) same)) (λ k i at. fresh_inside k i (among k i at)) sides

@@ -1,6 +1,6 @@
 -- Worlds that were added are done, after interfaces, each with the interfaces that are written in it.
 use Rattle.std.proofs.Common.{◌≡◌, ℕ, true, false, List, [], ◌∷◌, ◌++◌, length, map, Some, inl, inr, refl, sym, ap, ◌∙◌, subst, append_assoc, arith, length-append}
-use Rattle.wit_arena.proofs.Names.{Address, Id, WorldItem, WorldKey, WorldSide, world_entries, AddsForeign, AddsWorld, AreRequired, Function, FunctionKey, Imported, Interface, Item, Names, Occurrence, PackageFile, Required, ScopeName, Turned, TypeDef, World, WorldArenas, address, all_handles, all_items, all_occurrences, append-nil, at_either, at_seam, flat_map, flat_map-append, foreign_interfaces, foreign_worlds, functions, import_types, in_turn, includes, inline_items, keys, length-inline_after, length-map, local_names, map-append, name_types, nil_from_length, scope_names, settled, side_items, slice_get, turn_handles, visited, world_functions, AreNames, Extends, GivesPlaces, Key, at_part, env_of, in_turn_distinct, names_in, scope_place, entries_on, function_in, name_places, type_imports}
+use Rattle.wit_arena.proofs.Names.{Address, Id, WorldItem, WorldKey, WorldSide, world_entries, AddsForeign, AddsWorld, AreRequired, Function, FunctionKey, Imported, Interface, Item, Names, Occurrence, PackageFile, Required, ScopeName, Turned, TypeDef, World, address, all_handles, all_items, all_occurrences, append-nil, at_either, at_seam, flat_map, flat_map-append, foreign_interfaces, foreign_worlds, functions, import_types, in_turn, includes, inline_items, keys, length-inline_after, length-map, local_names, map-append, name_types, nil_from_length, scope_names, settled, side_items, slice_get, turn_handles, visited, world_functions, AreNames, Extends, GivesPlaces, Key, at_part, env_of, in_turn_distinct, names_in, scope_place, entries_on, function_in, name_places, type_imports}
 use Rattle.wit_arena.proofs.Visits.{AreUsableUses}
 use Rattle.wit_arena.proofs.Ordered.{Ordered, OrderedWorld, turned, side_turns, world_turns, all_turns, all_inside}
 use Rattle.wit_arena.proofs.DoneWorlds.{InterfacesDone, inside_of, interface_list, world_list, decls, world_resolved_scope, DoneWorld, own_scope, scopes_of, all_within, own_order, AreWorldsDone, named_world, own_types, written_more, scopes_more, handles_more, ordered_interface, ordered_world, all_addresses}
@@ -34,10 +34,10 @@ module _ (files : List PackageFile) (is ws : List Item) (interfaces : AreOfSort 
   before = prefix_scopes files prefix ++ d.scopes
 
   -- the first worlds are done, after all interfaces
-  abbrev WorldsDone : List Item → List TypeDef → WorldArenas → List Required → Type 0
-  WorldsDone us new a rs = AreWorldsDone files is ws wprefix d.ordered before us new a rs
+  abbrev WorldsDone : List Item → List TypeDef → List World → List Interface → List Required → Type 0
+  WorldsDone us new arena inline rs = AreWorldsDone files is ws wprefix d.ordered before us new arena inline rs
 
-  module _ (us : List Item) (old : List TypeDef) (a : WorldArenas) (qs : List Required) (e : WorldsDone us old a qs) (w : Item) (next : slice_get ws (length us) ≡ Some w) where
+  module _ (us : List Item) (old : List TypeDef) (arena : List World) (inline : List Interface) (qs : List Required) (e : WorldsDone us old arena inline qs) (w : Item) (next : slice_get ws (length us) ≡ Some w) where
     abbrev s : Address
     s = address w
 
@@ -48,7 +48,7 @@ module _ (files : List PackageFile) (is ws : List Item) (interfaces : AreOfSort 
     written = all_occurrences files (all_turns d.ordered e.ordered)
 
     -- what this world adds
-    module _ (new : List TypeDef) (b : WorldArenas) (rs : List Required) (adds : AddsWorld ss others (prefix ++ xs) old new a b rs w) where
+    module _ (new : List TypeDef) (arena' : List World) (inline' : List Interface) (rs : List Required) (adds : AddsWorld ss others (prefix ++ xs) old new arena arena' inline inline' rs w) where
       abbrev turns_names : List ScopeName
       turns_names = in_turn (scope_names w) adds.adds.order
 
@@ -56,13 +56,13 @@ module _ (files : List PackageFile) (is ws : List Item) (interfaces : AreOfSort 
       both = world_functions adds.added
 
       abbrev closed : DoneScope
-      closed = c files is ws interfaces worlds is_items ws_items uses es prefix wprefix foreign middle xs irs d us old a qs e w next adds.middle adds.types adds.adds both
+      closed = c files is ws interfaces worlds is_items ws_items uses es prefix wprefix foreign middle xs irs d us old arena inline qs e w next adds.middle adds.types adds.adds both
 
       abbrev names_part : IsDone files (decls files is ws) (written ++ all_name_occurrences s turns_names) (first ++ closed ∷ []) adds.middle
-      names_part = names_done files is ws interfaces worlds is_items ws_items uses es prefix wprefix foreign middle xs irs d us old a qs e w next adds.middle adds.types adds.adds both
+      names_part = names_done files is ws interfaces worlds is_items ws_items uses es prefix wprefix foreign middle xs irs d us old arena inline qs e w next adds.middle adds.types adds.adds both
 
-      sided : AreSided files (decls files is ws) (written ++ all_name_occurrences s turns_names) (first ++ closed ∷ []) (keys names_part.seen) s new a.inside b.inside adds.functions adds.rest (side_items w) (inline_items w)
-      sided = sides_done files is ws interfaces worlds is_items ws_items uses es prefix wprefix foreign middle xs irs d us old a qs e w next adds.middle adds.types adds.adds both new b.inside adds.functions adds.rest (side_items w) (inline_items w) (λ k i at. at) adds.sides
+      sided : AreSided files (decls files is ws) (written ++ all_name_occurrences s turns_names) (first ++ closed ∷ []) (keys names_part.seen) s new inline inline' adds.functions adds.rest (side_items w) (inline_items w)
+      sided = sides_done files is ws interfaces worlds is_items ws_items uses es prefix wprefix foreign middle xs irs d us old arena inline qs e w next adds.middle adds.types adds.adds both new inline' adds.functions adds.rest (side_items w) (inline_items w) (λ k i at. at) adds.sides
 
       abbrev sides : List Turned
       sides = side_turns s (side_items w) sided.ordered
@@ -82,7 +82,7 @@ module _ (files : List PackageFile) (is ws : List Item) (interfaces : AreOfSort 
           sym (append-nil (map item_of sided.ordered)) ∙ ap (λ (l : List Item). map item_of sided.ordered ++ l) (sym none) ∙ sided.items
 
       abbrev named : Extends (decls files is ws) e.done.seen (all_name_occurrences s turns_names) adds.middle (λ ks. AreNames ks s (env_of adds.types) × (names_in adds.types ≡ local_names turns_names))
-      named = added files is ws interfaces worlds is_items ws_items uses es prefix wprefix foreign middle xs irs d us old a qs e w next adds.middle adds.types adds.adds both
+      named = added files is ws interfaces worlds is_items ws_items uses es prefix wprefix foreign middle xs irs d us old arena inline qs e w next adds.middle adds.types adds.adds both
 
       extended_before : Extended (keys e.done.seen) ks
       extended_before = extended_trans (collects_longer written (all_name_occurrences s turns_names) [] e.done.seen names_part.seen e.done.collects names_part.collects) sided.extended
@@ -108,9 +108,9 @@ module _ (files : List PackageFile) (is ws : List Item) (interfaces : AreOfSort 
       -- over places it is this world
       world_is : (id : Key → ℕ) → GivesPlaces id ks → (ss vs : List Address) → GivesPlaces (scope_place ss) (interface_list files is (inside_of ws)) → GivesPlaces (scope_place vs) (world_list files ws) → adds.added ≡ ordered_world id ss vs world
       world_is id gives ss vs here there =
-          adds.made id (typed id gives) (sided.functions id gives) (map address (inside_of us)) (length-map (inside_of us) address ∙ sym (count_inside files is ws interfaces worlds is_items ws_items uses es prefix wprefix foreign middle xs irs d us old a qs e w next)) ss vs
-          (record { at = λ t x at. here.at t x (interface_added files is ws interfaces worlds is_items ws_items uses es prefix wprefix foreign middle xs irs d us old a qs e w next t x at) })
-          (record { at = λ t x at. there.at t x (world_added files is ws interfaces worlds is_items ws_items uses es prefix wprefix foreign middle xs irs d us old a qs e w next t x at) })
+          adds.made id (typed id gives) (sided.functions id gives) (map address (inside_of us)) (length-map (inside_of us) address ∙ sym (count_inside files is ws interfaces worlds is_items ws_items uses es prefix wprefix foreign middle xs irs d us old arena inline qs e w next)) ss vs
+          (record { at = λ t x at. here.at t x (interface_added files is ws interfaces worlds is_items ws_items uses es prefix wprefix foreign middle xs irs d us old arena inline qs e w next t x at) })
+          (record { at = λ t x at. there.at t x (world_added files is ws interfaces worlds is_items ws_items uses es prefix wprefix foreign middle xs irs d us old arena inline qs e w next t x at) })
 
       is_resolved_scope : resolved_scope_of closed ≡ world_resolved_scope adds.added
       is_resolved_scope =
@@ -128,7 +128,7 @@ module _ (files : List PackageFile) (is ws : List Item) (interfaces : AreOfSort 
           ∙ ap (λ (x : Names). named_world x both adds.added.name) (sym types)
 
       all_laid : AreLaid world_resolved_scope ws (map own_order (e.ordered ++ world ∷ [])) (e.own ++ adds.added ∷ []) (map own_scope (e.scopes ++ world_done ∷ []))
-      all_laid = rw (map-append own_order e.ordered (world ∷ []), map-append own_scope e.scopes (world_done ∷ [])) (laid_more world_resolved_scope ws (map own_order e.ordered) e.own (map own_scope e.scopes) world.own closed adds.added e.laid (ap (slice_get ws) (place files is ws interfaces worlds is_items ws_items uses es prefix wprefix foreign middle xs irs d us old a qs e w next) ∙ next) adds.adds.least refl is_resolved_scope)
+      all_laid = rw (map-append own_order e.ordered (world ∷ []), map-append own_scope e.scopes (world_done ∷ [])) (laid_more world_resolved_scope ws (map own_order e.ordered) e.own (map own_scope e.scopes) world.own closed adds.added e.laid (ap (slice_get ws) (place files is ws interfaces worlds is_items ws_items uses es prefix wprefix foreign middle xs irs d us old arena inline qs e w next) ∙ next) adds.adds.least refl is_resolved_scope)
 
       inside_orders : all_inside (e.ordered ++ world ∷ []) ≡ all_inside e.ordered ++ sided.ordered
       inside_orders = flat_map-append (λ (x : OrderedWorld). x.inside) e.ordered (world ∷ []) ∙ ap (λ (l : List Ordered). all_inside e.ordered ++ l) (append-nil sided.ordered)
@@ -137,7 +137,7 @@ module _ (files : List PackageFile) (is ws : List Item) (interfaces : AreOfSort 
       inside_scopes = flat_map-append (λ (x : DoneWorld). x.inside) e.scopes (world_done ∷ []) ∙ ap (λ (l : List DoneScope). all_within e.scopes ++ l) (append-nil sided.scopes)
 
       -- one world more
-      pub world_more : WorldsDone (us ++ w ∷ []) new b (qs ++ rs)
+      pub world_more : WorldsDone (us ++ w ∷ []) new arena' inline' (qs ++ rs)
       world_more = record {
         ordered = e.ordered ++ world ∷ [];
         scopes = e.scopes ++ world_done ∷ [];
@@ -148,7 +148,7 @@ module _ (files : List PackageFile) (is ws : List Item) (interfaces : AreOfSort 
           | inl old ↦ e.each_inside t p old
           | inr new ↦ subst (λ (x : OrderedWorld). map item_of x.inside ≡ inline_items x.own.item) (sym new.1) items_all
         ];
-        inside = ap (map item_of) inside_orders ∙ map-append item_of (all_inside e.ordered) sided.ordered ∙ ap (λ (l : List Item). l ++ map item_of sided.ordered) e.inside ∙ ap (λ (l : List Item). inside_of us ++ l) items_all ∙ sym (inside_split files is ws interfaces worlds is_items ws_items uses es prefix wprefix foreign middle xs irs d us old a qs e w next);
+        inside = ap (map item_of) inside_orders ∙ map-append item_of (all_inside e.ordered) sided.ordered ∙ ap (λ (l : List Item). l ++ map item_of sided.ordered) e.inside ∙ ap (λ (l : List Item). inside_of us ++ l) items_all ∙ sym (inside_split files is ws interfaces worlds is_items ws_items uses es prefix wprefix foreign middle xs irs d us old arena inline qs e w next);
         laid = all_laid;
         inside_turns = ap (map turn_of) inside_scopes ∙ map-append turn_of (all_within e.scopes) sided.scopes ∙ ap (λ (l : List Turned). l ++ map turn_of sided.scopes) e.inside_turns ∙ ap (λ (l : List Turned). map turned (all_inside e.ordered) ++ l) sided.turns ∙ sym (map-append turned (all_inside e.ordered) sided.ordered) ∙ ap (map turned) (sym inside_orders);
         inside_least = λ t o at. elim (at_part (all_inside e.ordered) sided.ordered t o (ap (λ (l : List Ordered). slice_get l t) (sym inside_orders) ∙ at)) [
@@ -162,7 +162,7 @@ module _ (files : List PackageFile) (is ws : List Item) (interfaces : AreOfSort 
       }
 
   -- no world is done yet
-  pub no_world : WorldsDone [] middle (record { worlds = wprefix; inside = [] }) []
+  pub no_world : WorldsDone [] middle wprefix [] []
   no_world = record {
     ordered = [];
     scopes = [];

@@ -3,7 +3,7 @@ pub use Rattle.wit_arena.specs.Names.{Address, AllDiffer, AreDistinct, AstItem, 
 pub use Rattle.wit_arena.specs.Kind.{EntryEnd, IsOther, IsResource, IsUnknown, entry_end, kind_of}
 pub use Rattle.wit_arena.specs.Made.{Makes}
 pub use Rattle.wit_arena.specs.Occurrences.{shape_occurrences, shapes_occurrences, stability_at}
-pub use Rattle.wit_arena.specs.Resolving.{AddsForeign, AddsInterface, AddsScope, AddsSides, AddsWorld, WorldArenas, interfaces_at, worlds_at, AddsFunctions, AreEnded, AreResolved, Defines, Env, HasNames, IsNameIndex, IsStored, IsUnnamedOf, Names, Required, ResolvedScope, env_of, free_functions, named, names_in, resolved_scopes}
+pub use Rattle.wit_arena.specs.Resolving.{AddsForeign, AddsInterface, AddsScope, AddsSides, AddsWorld, interfaces_at, worlds_at, AddsFunctions, AreEnded, AreResolved, Defines, Env, HasNames, IsNameIndex, IsStored, IsUnnamedOf, Names, Required, ResolvedScope, env_of, free_functions, named, names_in, resolved_scopes}
 pub use Rattle.wit_arena.specs.SourceFunctions.{link_item, put_on, settled}
 pub use Rattle.wit_arena.specs.UnfoldedTypes.{At, IsBelow, function_types, functions_of}
 pub use Rattle.wit_arena.specs.Whole.{dep, first_docs, foreign_entry, owner_at, place_at, type_imports}

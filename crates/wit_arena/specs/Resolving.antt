@@ -201,26 +201,21 @@ AddsSides cs count s names old new is is' fs rs (SideLink link ∷ xs) inside = 
 AddsSides cs count s names old new is is' fs rs (SideInline x name items ∷ xs) [] = ⊥
 AddsSides cs count s names old new is is' fs rs (SideInline x name items ∷ xs) (i ∷ inside) = (mid : List TypeDef) × (added : Interface) × (own : List Required) × (rest : List Required) × (rs ≡ own ++ rest) × AddsInterface cs (count + length is) old mid added own i × AddsSides cs count s names mid new (is ++ added ∷ []) is' fs rest xs inside
 
--- the worlds of the arena, and the interfaces that are written in them
-pub record WorldArenas : Type 0 where
-  pub worlds : List World
-  pub inside : List Interface
-
 -- What a world adds to the arenas, where these are the declared interfaces, and at first those at these addresses: over the places of what it
 -- names, and wherever the interfaces and the worlds are, it is this one.
-pub record AddsWorld (foreign others : List Address) (is : List Interface) (old new : List TypeDef) (a b : WorldArenas) (rs : List Required) (item : Item) : Type 0 where
+pub record AddsWorld (foreign others : List Address) (is : List Interface) (old new : List TypeDef) (arena arena' : List World) (inside inside' : List Interface) (rs : List Required) (item : Item) : Type 0 where
   pub added : World
-  pub last : b.worlds ≡ a.worlds ++ added ∷ []
+  pub last : arena' ≡ arena ++ added ∷ []
   pub types : Names
   pub middle : List TypeDef
-  pub adds : AddsScope old middle (resolved_scopes foreign is) (owner.World (length a.worlds)) (scope_names item) types
+  pub adds : AddsScope old middle (resolved_scopes foreign is) (owner.World (length arena)) (scope_names item) types
   pub own : List Required
   pub ended : AreEnded (env_of types) middle (all_handles (flat_map name_types (in_turn (scope_names item) adds.order))) own
   pub functions : List Function
   pub rest : List Required
   pub requires : rs ≡ own ++ rest
-  pub sides : AddsSides (resolved_scopes foreign is) (length is) (address item) types middle new a.inside b.inside functions rest (side_items item) (inline_items item)
-  pub made : (id : Key → ℕ) → types ≡ name_places id (address item) (in_turn (scope_names item) adds.order) → functions ≡ map (function_in id (address item)) (item_functions item) → (before : List Address) → length before ≡ length a.inside → (ss ws : List Address) → GivesPlaces (scope_place ss) (interfaces_at foreign is ++ (before ++ map address (inline_items item))) → GivesPlaces (scope_place ws) (worlds_at others a.worlds) → added ≡ own_world id (λ i. adds.order) ss ws item
+  pub sides : AddsSides (resolved_scopes foreign is) (length is) (address item) types middle new inside inside' functions rest (side_items item) (inline_items item)
+  pub made : (id : Key → ℕ) → types ≡ name_places id (address item) (in_turn (scope_names item) adds.order) → functions ≡ map (function_in id (address item)) (item_functions item) → (before : List Address) → length before ≡ length inside → (ss ws : List Address) → GivesPlaces (scope_place ss) (interfaces_at foreign is ++ (before ++ map address (inline_items item))) → GivesPlaces (scope_place ws) (worlds_at others arena) → added ≡ own_world id (λ i. adds.order) ss ws item
 
 -- the entry of a name of another package: nothing is known of it but whose it is
 abbrev pub foreign_type : List PackageFile → ForeignUse → TypeDef

@@ -1,6 +1,6 @@
 -- Where names in handles end in an arena, they end by files in so many steps: also once some names of the next interface or world, or of what is written in it, were added.
 use Rattle.std.proofs.Common.{◌≡◌, ℕ, zero, suc, ◌<◌, List, [], ◌∷◌, ◌++◌, take, Option, Some, None, inl, inr, refl, sym, ap, ◌∙◌, arith, true, false, length, map, subst, ◌+◌}
-use Rattle.wit_contents.proofs.Names.{Address, AddsForeign, AddsScope, AddsSides, AliasForm, AreDistinct, AreItems, AreNames, AreOfSort, AreOwned, AreUsableUses, AreWorldsDone, AtForeign, AtResource, Decls, Def, Defines, DoneScope, Elsewhere, EndIs, EndsAt, EndsInTurn, EntryEnd, Env, Extends, Form, Function, Id, Interface, InterfacesDone, IsDeclared, IsOrder, IsOther, IsOutcome, IsResource, IsUnknown, Names, Occurrence, Outcome, PackageFile, Required, ResolvedScope, ResourceForm, ScopeName, SideItem, Turned, TypeDef, TypeOwner, UnknownForm, Word, World, WorldArenas, address, all_items, all_name_occurrences, all_occurrences, all_turns, at_part, at_prefix, at_seam, at_take, cases_lt, collects_from, decls, differ_at, differ_by, end_fault as walk_fault, end_source-more, entry_end, env_of, flat_map, foreign_interfaces, found_end, handle_fault, in_turn, in_turn_among, in_turn_distinct, inline_items, inline_items_differ, item_of, keys, kind_end, kind_of, local_name, local_names, map-append, map_at, name_seen_in, names_in, option_cases, option_map, part_end, prefix_scopes, resolved_scope_of, resolved_scopes, rows_of, scope, scope_names, scopes_of, shape_end, slice_get, slice_get-map, turned, visited, done_declared, IsOccurrence}
+use Rattle.wit_contents.proofs.Names.{Address, AddsForeign, AddsScope, AddsSides, AliasForm, AreDistinct, AreItems, AreNames, AreOfSort, AreOwned, AreUsableUses, AreWorldsDone, AtForeign, AtResource, Decls, Def, Defines, DoneScope, Elsewhere, EndIs, EndsAt, EndsInTurn, EntryEnd, Env, Extends, Form, Function, Id, Interface, InterfacesDone, IsDeclared, IsOrder, IsOther, IsOutcome, IsResource, IsUnknown, Names, Occurrence, Outcome, PackageFile, Required, ResolvedScope, ResourceForm, ScopeName, SideItem, Turned, TypeDef, TypeOwner, UnknownForm, Word, World, address, all_items, all_name_occurrences, all_occurrences, all_turns, at_part, at_prefix, at_seam, at_take, cases_lt, collects_from, decls, differ_at, differ_by, end_fault as walk_fault, end_source-more, entry_end, env_of, flat_map, foreign_interfaces, found_end, handle_fault, in_turn, in_turn_among, in_turn_distinct, inline_items, inline_items_differ, item_of, keys, kind_end, kind_of, local_name, local_names, map-append, map_at, name_seen_in, names_in, option_cases, option_map, part_end, prefix_scopes, resolved_scope_of, resolved_scopes, rows_of, scope, scope_names, scopes_of, shape_end, slice_get, slice_get-map, turned, visited, done_declared, IsOccurrence}
 use Rattle.wit_walk.proofs.Common.{End}
 use Rattle.wit_arena.proofs.Common.{Item}
 use Rattle.wit_types.specs.declared.types.«Type».{«Type» as Ty}
@@ -132,7 +132,7 @@ module _ (files : List PackageFile) (is ws : List Item) (interfaces : AreOfSort 
     interface_ends = reached_ends files (decls files is ws) (all_occurrences files (map turned d.ordered)) (prefix_scopes files prefix ++ d.scopes) old d.done w (owner.Interface (length (prefix ++ xs))) (interface_fresh files is ws interfaces worlds is_items ws_items uses es prefix wprefix foreign us old xs rs w there d) (interface_owned files is ws interfaces worlds is_items ws_items uses es prefix wprefix foreign us old xs rs w there d) (interface_scoped files is ws interfaces worlds is_items ws_items uses es prefix wprefix foreign us old xs rs w there d) (resolved_scopes fore (prefix ++ xs)) (interface_among files is ws interfaces worlds is_items ws_items uses es prefix wprefix foreign us old xs rs w there d)
 
   -- a world that comes next, after all interfaces and some worlds
-  module _ (middle : List TypeDef) (xs : List Interface) (irs : List Required) (d : InterfacesDone files is ws prefix is middle xs irs) (us : List Item) (old : List TypeDef) (a : WorldArenas) (qs : List Required) (w : Item) (there : slice_get ws (length us) ≡ Some w) (e : AreWorldsDone files is ws wprefix d.ordered (prefix_scopes files prefix ++ d.scopes) us old a qs) where
+  module _ (middle : List TypeDef) (xs : List Interface) (irs : List Required) (d : InterfacesDone files is ws prefix is middle xs irs) (us : List Item) (old : List TypeDef) (arena : List World) (inline : List Interface) (qs : List Required) (w : Item) (there : slice_get ws (length us) ≡ Some w) (e : AreWorldsDone files is ws wprefix d.ordered (prefix_scopes files prefix ++ d.scopes) us old arena inline qs) where
     abbrev before : List DoneScope
     before = (prefix_scopes files prefix ++ d.scopes) ++ flat_map scopes_of e.scopes
 
@@ -143,30 +143,30 @@ module _ (files : List PackageFile) (is ws : List Item) (interfaces : AreOfSort 
     written = all_occurrences files (all_turns d.ordered e.ordered)
 
     known_before : AreAmong resolved before
-    known_before = done.known_before files is ws interfaces worlds is_items ws_items uses es prefix wprefix foreign middle xs irs d us old a qs e w there
+    known_before = done.known_before files is ws interfaces worlds is_items ws_items uses es prefix wprefix foreign middle xs irs d us old arena inline qs e w there
 
     -- of the world, once some of its names were added
-    pub world_ends : (outcome : Outcome) → IsOutcome (rows_of (scope_names w)) outcome → (steps : ℕ) → IsEnough files steps (address w) → EndsInTurn resolved (owner.World (length a.worlds)) old (scope_names w) outcome (handle_fault files steps (address w))
-    world_ends = reached_ends files (decls files is ws) written before old e.done w (owner.World (length a.worlds)) (world_fresh files is ws interfaces worlds is_items ws_items uses es prefix wprefix foreign middle xs irs d us old a qs e w there) (world_owned files is ws interfaces worlds is_items ws_items uses es prefix wprefix foreign middle xs irs d us old a qs e w there) (world_scoped files is ws interfaces worlds is_items ws_items uses es prefix wprefix foreign middle xs irs d us old a qs e w there) resolved known_before
+    pub world_ends : (outcome : Outcome) → IsOutcome (rows_of (scope_names w)) outcome → (steps : ℕ) → IsEnough files steps (address w) → EndsInTurn resolved (owner.World (length arena)) old (scope_names w) outcome (handle_fault files steps (address w))
+    world_ends = reached_ends files (decls files is ws) written before old e.done w (owner.World (length arena)) (world_fresh files is ws interfaces worlds is_items ws_items uses es prefix wprefix foreign middle xs irs d us old arena inline qs e w there) (world_owned files is ws interfaces worlds is_items ws_items uses es prefix wprefix foreign middle xs irs d us old arena inline qs e w there) (world_scoped files is ws interfaces worlds is_items ws_items uses es prefix wprefix foreign middle xs irs d us old arena inline qs e w there) resolved known_before
 
     -- once all of them were
-    module _ (types : Names) (named : List TypeDef) (adds : AddsScope old named resolved (owner.World (length a.worlds)) (scope_names w) types) where
+    module _ (types : Names) (named : List TypeDef) (adds : AddsScope old named resolved (owner.World (length arena)) (scope_names w) types) where
       abbrev own_scope : DoneScope
-      own_scope = done.c files is ws interfaces worlds is_items ws_items uses es prefix wprefix foreign middle xs irs d us old a qs e w there named types adds []
+      own_scope = done.c files is ws interfaces worlds is_items ws_items uses es prefix wprefix foreign middle xs irs d us old arena inline qs e w there named types adds []
 
       pub named_ends : (new : List TypeDef) → IsExtended named new → (steps : ℕ) → IsEnough files steps (address w) → EndsIn (env_of types) new (handle_fault files steps (address w))
-      named_ends new g steps enough = subst (λ (l : List TypeDef). EndsIn (env_of types) l (handle_fault files steps (address w))) (sym g.is) (part_ends files (decls files is ws) _ (before ++ own_scope ∷ []) named g.more (names_done files is ws interfaces worlds is_items ws_items uses es prefix wprefix foreign middle xs irs d us old a qs e w there named types adds []) (length before) own_scope (at_seam before own_scope) steps enough)
+      named_ends new g steps enough = subst (λ (l : List TypeDef). EndsIn (env_of types) l (handle_fault files steps (address w))) (sym g.is) (part_ends files (decls files is ws) _ (before ++ own_scope ∷ []) named g.more (names_done files is ws interfaces worlds is_items ws_items uses es prefix wprefix foreign middle xs irs d us old arena inline qs e w there named types adds []) (length before) own_scope (at_seam before own_scope) steps enough)
 
       -- and of an interface that is written in it, after what comes first on its sides
-      module _ (xs_done : List SideItem) (inside_done : List Item) (count : ℕ) (first : inside_done ≡ take count (inline_items w)) (inner : Item) (next : slice_get (inline_items w) count ≡ Some inner) (mid : List TypeDef) (now : List Interface) (made : List Function) (rs : List Required) (sides : AddsSides resolved (length (prefix ++ xs)) (address w) types named mid a.inside now made rs xs_done inside_done) (covered : length now ≡ length a.inside + count) where
+      module _ (xs_done : List SideItem) (inside_done : List Item) (count : ℕ) (first : inside_done ≡ take count (inline_items w)) (inner : Item) (next : slice_get (inline_items w) count ≡ Some inner) (mid : List TypeDef) (now : List Interface) (made : List Function) (rs : List Required) (sides : AddsSides resolved (length (prefix ++ xs)) (address w) types named mid inline now made rs xs_done inside_done) (covered : length now ≡ length inline + count) where
         among_first : (k : ℕ) (i : Item) → slice_get inside_done k ≡ Some i → slice_get (inline_items w) k ≡ Some i
         among_first k i at = (at_take (inline_items w) count k i (ap (λ (l : List Item). slice_get l k) (sym first) ∙ at)).0
 
-        sided : AreSided files (decls files is ws) (written ++ all_name_occurrences (address w) own_scope.names) (before ++ own_scope ∷ []) (keys (names_done files is ws interfaces worlds is_items ws_items uses es prefix wprefix foreign middle xs irs d us old a qs e w there named types adds []).seen) (address w) mid a.inside now made rs xs_done inside_done
-        sided = sides_done files is ws interfaces worlds is_items ws_items uses es prefix wprefix foreign middle xs irs d us old a qs e w there named types adds [] mid now made rs xs_done inside_done among_first sides
+        sided : AreSided files (decls files is ws) (written ++ all_name_occurrences (address w) own_scope.names) (before ++ own_scope ∷ []) (keys (names_done files is ws interfaces worlds is_items ws_items uses es prefix wprefix foreign middle xs irs d us old arena inline qs e w there named types adds []).seen) (address w) mid inline now made rs xs_done inside_done
+        sided = sides_done files is ws interfaces worlds is_items ws_items uses es prefix wprefix foreign middle xs irs d us old arena inline qs e w there named types adds [] mid now made rs xs_done inside_done among_first sides
 
-        can_be_next : IsFreshInside files (decls files is ws) (before ++ own_scope ∷ []) ((length (prefix ++ xs) + length a.inside) + count) inner
-        can_be_next = fresh_inside files is ws interfaces worlds is_items ws_items uses es prefix wprefix foreign middle xs irs d us old a qs e w there named types adds [] count inner next
+        can_be_next : IsFreshInside files (decls files is ws) (before ++ own_scope ∷ []) ((length (prefix ++ xs) + length inline) + count) inner
+        can_be_next = fresh_inside files is ws interfaces worlds is_items ws_items uses es prefix wprefix foreign middle xs irs d us old arena inline qs e w there named types adds [] count inner next
 
         -- what was written before it in this world is another one
         apart_inside : (t : ℕ) (b : DoneScope) → slice_get sided.scopes t ≡ Some b → b.address ≡ address inner → ⊥
@@ -182,7 +182,7 @@ module _ (files : List PackageFile) (is ws : List Item) (interfaces : AreOfSort 
         abbrev scopes : List DoneScope
         scopes = (before ++ own_scope ∷ []) ++ sided.scopes
 
-        spot : (length (prefix ++ xs) + length a.inside) + count ≡ length (prefix ++ xs) + length now
+        spot : (length (prefix ++ xs) + length inline) + count ≡ length (prefix ++ xs) + length now
         spot = omega (arith, covered)
 
         fresh : IsFreshInside files (decls files is ws) scopes (length (prefix ++ xs) + length now) inner

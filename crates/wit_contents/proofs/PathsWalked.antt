@@ -1,6 +1,6 @@
 -- Interfaces and worlds that are resolved say of used names and of includes what files do.
 use Rattle.std.proofs.Common.{◌≡◌, ℕ, ◌+◌, true, false, List, ◌++◌, length, map, Option, Some, None, ◌⊎◌, IsSome, inl, inr, refl, sym, ap, ◌∙◌, subst, arith, Contains, ◌<◌, zero, suc, Bool, [], ◌∷◌, take}
-use Rattle.wit_contents.proofs.Names.{Address, AddsForeign, AllDiffer, AreUsableUses, AreWorldsDone, Attribute, Def, DefinitionPart, DoneScope, ExternPart, Fault, Foreign, ForeignNamed, ForeignVisit, FunctionPart, Id, Include, IncludePart, Interface, InterfaceNamed, Interfaces, InterfacesDone, IsForeignUse, IsFound, IsNameIndex, IsNoWorld, IsOrder, IsPlaced, IsResolvedUse, Local, Names, Ordered, PackageFile, PackageName, Part, Required, ResolvedScope, ScopeName, Source as BorrowedSource, Target, Turned, TypeDef, UseName, UsePart, UsePath, Used, UsedName, World, WorldArenas, WorldNamed, Worlds, address, all_declared, all_items, any_found, any_some, are_interfaces, are_worlds, at_back, at_contains, at_part, at_prefix, at_split, at_within, bytes_eq, cases_Bool, contains_at, env_of, find_passes, find_some, first_in, first_named, firsts_has, flat_map_at, flat_map_has, foreign_at, foreign_entry, foreign_interfaces, foreign_use_key, foreign_uses, foreign_worlds, free_functions, functions, if◌then◌else◌, in_order, include_fault, include_path, include_paths, included_fault, includes, interface_address, interface_there, interfaces, interfaces_at, is_foreign, is_none, is_world, is_world_at, item_at, item_name, item_named, item_of, item_rows, item_scopes, item_word, kept_early, keys, leads, length-map, list_any, local_name, lookup-place, lost_use, map_at, meaning, missing_at, name_equal, name_itself, named_at, named_within, needed_before, option_and_then, option_cases, option_map, option_map_or, option_or, ordered_at, own_declared, own_item, own_order, part_includes, parts, path_id, paths_of_world, prefix_resolved_scope, prefix_scopes, resolved_scope, resolved_scope_at, resolved_scope_of, resolved_scopes, resolved_scopes-append, same_address, same_address-equal, same_foreign_use, scope, scope_at, scope_names, scope_of, slice_get, slice_get-map, slice_get_within, some_of, source_target, source_view, stability_fault, unresolved_fault, unstated, use_fault, use_of_foreign, use_of_foreign-equal, use_of_foreign-from, use_view, used_listed, visited, visited_foreign, world_address, world_at, world_entry, world_list, world_missing, worlds, worlds_at, worlds_at-append, worlds_of, worlds_sort, interfaces_sort, lost_listed, source_place}
+use Rattle.wit_contents.proofs.Names.{Address, AddsForeign, AllDiffer, AreUsableUses, AreWorldsDone, Attribute, Def, DefinitionPart, DoneScope, ExternPart, Fault, Foreign, ForeignNamed, ForeignVisit, FunctionPart, Id, Include, IncludePart, Interface, InterfaceNamed, Interfaces, InterfacesDone, IsForeignUse, IsFound, IsNameIndex, IsNoWorld, IsOrder, IsPlaced, IsResolvedUse, Local, Names, Ordered, PackageFile, PackageName, Part, Required, ResolvedScope, ScopeName, Source as BorrowedSource, Target, Turned, TypeDef, UseName, UsePart, UsePath, Used, UsedName, World, WorldNamed, Worlds, address, all_declared, all_items, any_found, any_some, are_interfaces, are_worlds, at_back, at_contains, at_part, at_prefix, at_split, at_within, bytes_eq, cases_Bool, contains_at, env_of, find_passes, find_some, first_in, first_named, firsts_has, flat_map_at, flat_map_has, foreign_at, foreign_entry, foreign_interfaces, foreign_use_key, foreign_uses, foreign_worlds, free_functions, functions, if◌then◌else◌, in_order, include_fault, include_path, include_paths, included_fault, includes, interface_address, interface_there, interfaces, interfaces_at, is_foreign, is_none, is_world, is_world_at, item_at, item_name, item_named, item_of, item_rows, item_scopes, item_word, kept_early, keys, leads, length-map, list_any, local_name, lookup-place, lost_use, map_at, meaning, missing_at, name_equal, name_itself, named_at, named_within, needed_before, option_and_then, option_cases, option_map, option_map_or, option_or, ordered_at, own_declared, own_item, own_order, part_includes, parts, path_id, paths_of_world, prefix_resolved_scope, prefix_scopes, resolved_scope, resolved_scope_at, resolved_scope_of, resolved_scopes, resolved_scopes-append, same_address, same_address-equal, same_foreign_use, scope, scope_at, scope_names, scope_of, slice_get, slice_get-map, slice_get_within, some_of, source_target, source_view, stability_fault, unresolved_fault, unstated, use_fault, use_of_foreign, use_of_foreign-equal, use_of_foreign-from, use_view, used_listed, visited, visited_foreign, world_address, world_at, world_entry, world_list, world_missing, worlds, worlds_at, worlds_at-append, worlds_of, worlds_sort, interfaces_sort, lost_listed, source_place}
 use Rattle.wit_arena.proofs.Common.{Imported, Item, by_name, functions_imported, interface_functions, map_map, placed, same_some, position_or_len, same_item, function_in, interfaces_count, worlds_count}
 use Rattle.wit_items.proofs.Common.{interface_fault}
 use Rattle.wit_arena.proofs.Placing.{gives_in, place_in}
@@ -216,7 +216,7 @@ include_part (UsePart u) j n at = absurd (cc)
 include_part (FunctionPart g) j n at = absurd (cc)
 include_part (ExternPart x) j n at = absurd (cc)
 
-module _ (files : List PackageFile) (places : List ℕ) (order : IsOrder (item_rows files) places) (differ : AllDiffer (map item_name (all_items files))) (es : List TypeDef) (prefix : List Interface) (wprefix : List World) (foreign : AddsForeign files es prefix wprefix) (k p : ℕ) (w : Item) (next : slice_get places k ≡ Some p) (at : slice_get (all_items files) p ≡ Some w) (sort : is_world w ≡ true) (base : List Ordered) (first : List DoneScope) (mid : List TypeDef) (a : WorldArenas) (rs : List Required) (e : AreWorldsDone files (interfaces files places order differ) (worlds files places order differ) wprefix base first (worlds_of (in_order (all_items files) (take k places))) mid a rs) (by_name : Names) (index : IsNameIndex WorldNamed (worlds_at (map visited (foreign_worlds files)) a.worlds) by_name) (listed : (t : ℕ) (x : Address) → slice_get (worlds_at (map visited (foreign_worlds files)) a.worlds) t ≡ Some x → slice_get (world_list files (worlds files places order differ)) t ≡ Some x) where
+module _ (files : List PackageFile) (places : List ℕ) (order : IsOrder (item_rows files) places) (differ : AllDiffer (map item_name (all_items files))) (es : List TypeDef) (prefix : List Interface) (wprefix : List World) (foreign : AddsForeign files es prefix wprefix) (k p : ℕ) (w : Item) (next : slice_get places k ≡ Some p) (at : slice_get (all_items files) p ≡ Some w) (sort : is_world w ≡ true) (base : List Ordered) (first : List DoneScope) (mid : List TypeDef) (arena : List World) (inline : List Interface) (rs : List Required) (e : AreWorldsDone files (interfaces files places order differ) (worlds files places order differ) wprefix base first (worlds_of (in_order (all_items files) (take k places))) mid arena inline rs) (by_name : Names) (index : IsNameIndex WorldNamed (worlds_at (map visited (foreign_worlds files)) arena) by_name) (listed : (t : ℕ) (x : Address) → slice_get (worlds_at (map visited (foreign_worlds files)) arena) t ≡ Some x → slice_get (world_list files (worlds files places order differ)) t ≡ Some x) where
   abbrev all : List Item
   all = all_items files
 
@@ -235,7 +235,7 @@ module _ (files : List PackageFile) (places : List ℕ) (order : IsOrder (item_r
       let there : slice_get (map (λ (y : World). WorldNamed y.name) e.own) j.0 ≡ Some (WorldNamed name) =
       ap (λ (l : List Address). slice_get l j.0) (laid_addresses e.laid) ∙ slice_get-map (λ (p : Ordered). address p.item) (map own_order e.ordered) j.0 ∙ ap (option_map (λ (p : Ordered). address p.item)) own_at ∙ ap Some (ap address o.2 ∙ world_address v world ∙ ap WorldNamed (sym same)) in
       let named = map (λ (y : World). WorldNamed y.name) e.own in
-      let whole : worlds_at others a.worlds ≡ others ++ named = ap (worlds_at others) e.arena ∙ worlds_at-append others wprefix e.own (worlds_count foreign ∙ sym (length-map (foreign_worlds files) visited)) in
+      let whole : worlds_at others arena ≡ others ++ named = ap (worlds_at others) e.arena ∙ worlds_at-append others wprefix e.own (worlds_count foreign ∙ sym (length-map (foreign_worlds files) visited)) in
       let place = length others + j.0 in
       index.has place name (ap (λ (l : List Address). slice_get l place) whole ∙ at_back others named j.0 (WorldNamed name) there)
 

@@ -1,6 +1,6 @@
 -- Interfaces and worlds of files that are resolved, one after another, in the order of their places.
 use Rattle.std.proofs.Common.{◌≡◌, ◌<◌, ℕ, ◌+◌, All, get_or, Bool, true, false, not, List, [], ◌∷◌, ◌++◌, length, map, take, Some, refl, sym, ap, ◌∙◌, subst, append_assoc}
-use Rattle.wit_contents.proofs.Names.{Address, AddsInterface, AddsWorld, AllDiffer, Appends, AreUsableUses, AreWorldsDone, Interface, Interfaces, InterfacesDone, IsIndexed, IsItemOf, IsReady, Item as BorrowedItem, PackageFile, Required, ResolvedScope, TypeDef, World, all_items, append-nil, are_interfaces, are_worlds, arenas, at_seam, distinct_items, filter, foreign_interfaces, in_order, interfaces_of, interfaces_sort, is_world, item_name, item_view, items_within, kept_next, kept_prefix, length-map, option_map, others_of, package_of, prefix_of, prefix_scopes, resolved_scopes, resolved_scopes_of, slice_get, slice_get-get_or, slice_get-map, uses_usable, visited, worlds_of, worlds_sort}
+use Rattle.wit_contents.proofs.Names.{Address, AddsInterface, AddsWorld, AllDiffer, Appends, AreUsableUses, AreWorldsDone, Interface, Interfaces, InterfacesDone, IsIndexed, IsItemOf, IsReady, Item as BorrowedItem, PackageFile, Required, ResolvedScope, TypeDef, World, all_items, append-nil, are_interfaces, are_worlds, at_seam, distinct_items, filter, foreign_interfaces, in_order, interfaces_of, interfaces_sort, is_world, item_name, item_view, items_within, kept_next, kept_prefix, length-map, option_map, others_of, package_of, prefix_of, prefix_scopes, resolved_scopes, resolved_scopes_of, slice_get, slice_get-get_or, slice_get-map, uses_usable, visited, worlds_of, worlds_sort}
 use Rattle.wit_arena.proofs.Common.{Item, first_docs, headers}
 use Rattle.wit_tree.specs.declared.tree.PackageName.{PackageName as Header}
 use Rattle.wit_arena.proofs.DoneWorlds.{interface_next, no_interface}
@@ -38,7 +38,7 @@ pub record HasWorlds (files : List PackageFile) (places : List ℕ) (prefix : Li
   pub interfaces : HasInterfaces files places prefix (interfaces_of (in_order (all_items files) places)) is middle before
   pub required : List Required
   pub list : rs ≡ before ++ required
-  pub done : AreWorldsDone files (interfaces_of (in_order (all_items files) places)) (worlds_of (in_order (all_items files) places)) wprefix interfaces.done.ordered (prefix_scopes files prefix ++ interfaces.done.scopes) us es (arenas arena inside) required
+  pub done : AreWorldsDone files (interfaces_of (in_order (all_items files) places)) (worlds_of (in_order (all_items files) places)) wprefix interfaces.done.ordered (prefix_scopes files prefix ++ interfaces.done.scopes) us es arena inside required
 
 module _ (files : List PackageFile) (items : List BorrowedItem) (places : List ℕ) (es : List TypeDef) (prefix : List Interface) (wprefix : List World) (r : IsReady files items places es prefix wprefix) where
   abbrev pub differ : AllDiffer (map item_name (all_items files))
@@ -125,25 +125,25 @@ module _ (files : List PackageFile) (items : List BorrowedItem) (places : List �
   })
 
   -- the world that comes next is resolved too, once it is added
-  pub world_resolved : (count place : ℕ) (w : Item) → slice_get places count ≡ Some place → slice_get all place ≡ Some w → is_world w ≡ true → (is : Interfaces) (arena arena' : List World) (inside inside' : List Interface) (mid new : List TypeDef) (rs rs' : List Required) → HasWorlds files places prefix wprefix (worlds_of (in_order all (take count places))) is arena inside mid rs → Appends rs rs' (λ own. AddsWorld (prefix_of is.files) (others_of is.files) is.arena mid new (arenas arena inside) (arenas arena' inside') own w) → HasWorlds files places prefix wprefix (worlds_of (in_order all (take (count + 1) places))) is arena' inside' new rs'
+  pub world_resolved : (count place : ℕ) (w : Item) → slice_get places count ≡ Some place → slice_get all place ≡ Some w → is_world w ≡ true → (is : Interfaces) (arena arena' : List World) (inside inside' : List Interface) (mid new : List TypeDef) (rs rs' : List Required) → HasWorlds files places prefix wprefix (worlds_of (in_order all (take count places))) is arena inside mid rs → Appends rs rs' (λ own. AddsWorld (prefix_of is.files) (others_of is.files) is.arena mid new arena arena' inside inside' own w) → HasWorlds files places prefix wprefix (worlds_of (in_order all (take (count + 1) places))) is arena' inside' new rs'
   world_resolved count place w next at sort is arena arena' inside inside' mid new rs rs' h q =
       let us = worlds_of (in_order all (take count places)) in
       let d = h.interfaces.done in
-      let adds = subst (λ (l : List Interface). AddsWorld fore (others_of files) l mid new (arenas arena inside) (arenas arena' inside') q.own w) h.interfaces.arena (subst (λ (fs : List PackageFile). AddsWorld (prefix_of fs) (others_of fs) is.arena mid new (arenas arena inside) (arenas arena' inside') q.own w) h.interfaces.same q.holds) in
-      let more = world_more files all_interfaces all_worlds (interfaces_sort (in_order all places)) (worlds_sort (in_order all places)) (are_interfaces files places r.order differ) (are_worlds files places r.order differ) usable es prefix wprefix r.foreign h.middle h.interfaces.own h.before d us mid (arenas arena inside) h.required h.done w (next_kept is_world all places count place w next at sort) new (arenas arena' inside') q.own adds in
+      let adds = subst (λ (l : List Interface). AddsWorld fore (others_of files) l mid new arena arena' inside inside' q.own w) h.interfaces.arena (subst (λ (fs : List PackageFile). AddsWorld (prefix_of fs) (others_of fs) is.arena mid new arena arena' inside inside' q.own w) h.interfaces.same q.holds) in
+      let more = world_more files all_interfaces all_worlds (interfaces_sort (in_order all places)) (worlds_sort (in_order all places)) (are_interfaces files places r.order differ) (are_worlds files places r.order differ) usable es prefix wprefix r.foreign h.middle h.interfaces.own h.before d us mid arena inside h.required h.done w (next_kept is_world all places count place w next at sort) new arena' inside' q.own adds in
       record {
         middle = h.middle;
         before = h.before;
         interfaces = h.interfaces;
         required = h.required ++ q.own;
         list = q.list ∙ ap (λ (l : List Required). l ++ q.own) h.list ∙ append_assoc h.before h.required q.own;
-        done = subst (λ (l : List Item). AreWorldsDone files all_interfaces all_worlds wprefix d.ordered (prefix_scopes files prefix ++ d.scopes) l new (arenas arena' inside') (h.required ++ q.own)) (sym (kept_next is_world all places count place w next at sort)) more;
+        done = subst (λ (l : List Item). AreWorldsDone files all_interfaces all_worlds wprefix d.ordered (prefix_scopes files prefix ++ d.scopes) l new arena' inside' (h.required ++ q.own)) (sym (kept_next is_world all places count place w next at sort)) more;
       }
 
   -- all of them are what files make
   pub arenas_made : (is : Interfaces) (arena : List World) (inside : List Interface) (new : List TypeDef) (rs : List Required) → HasWorlds files places prefix wprefix all_worlds is arena inside new rs → MakeArenas files new (is.arena ++ inside) arena rs
   arenas_made is arena inside new rs h named n = record {
     made = λ header last legal. made_of_package files (package_of_parts (package_of header) (record { types = new; interfaces = is.arena ++ inside; worlds = arena }) (first_docs (headers files)) header.span named) legal
-        (rw (h.interfaces.arena, n.required, h.list) (package_if_done files all_interfaces all_worlds es h.middle prefix h.interfaces.own wprefix r.foreign h.before h.required new (arenas arena inside) h.interfaces.done h.done places r.order refl refl))
+        (rw (h.interfaces.arena, n.required, h.list) (package_if_done files all_interfaces all_worlds es h.middle prefix h.interfaces.own wprefix r.foreign h.before h.required new arena inside h.interfaces.done h.done places r.order refl refl))
         (ap (option_map package_of) last) (ap (option_map (λ (h : Header). h.span)) last) refl (n.deps, n.spans, n.unknown);
   }

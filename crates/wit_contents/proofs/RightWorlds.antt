@@ -1,6 +1,6 @@
 -- The walk's fault of each world is what is found of it, once all interfaces and the worlds before it are resolved.
 use Rattle.std.proofs.Common.{◌≡◌, ◌⊎◌, ℕ, ◌+◌, true, false, List, [], ◌∷◌, ◌++◌, length, map, take, Option, Some, None, IsSome, inl, inr, refl, sym, ap, ◌∙◌, subst, Contains, arith}
-use Rattle.wit_contents.proofs.Names.{Address, AddsMembers, AddsScope, AddsSides, AllDiffer, AreIndexed, AreNamesPlaced, AreRightMembers, AreUsableUses, Attribute, Borrowed, EndsInTurn, Fault, Foreign, ForeignNamed, ForeignVisit, HasAmong, Id, InOrder, Include, IncludePart, Interface, InterfaceNamed, Interfaces, InterfacesDone, IsForeignUse, IsItemOf, IsLent, IsNameIndex, IsResolvedUse, IsRight, IsRightOf, IsRightOfWorld, IsStart, IsWalk, Item as BorrowedItem, ItemScope, ItemWalk, Known, Link, Names, Outcome, PackageFile, PackageName, Required, ResolvedScope, ScopeName, SideItem, SideLink, Stage, TopName, TypeDef, UseName, Used, World, WorldArenas, Worlds, about, address, all_items, all_scopes, are_interfaces, are_worlds, at_contains, bytes_eq, contains_at, contents_fault, declared_view, env_of, filed_item, find_at, find_passes, first_after, first_in, flat_map, foreign_at, foreign_interfaces, handle_fault, in_order, in_turn, include_fault, includes, includes_fault, inline_after, inline_after-append, inline_interface, inline_items, interface_at, interfaces, interfaces_at, interfaces_sort, is_world, item_inline, item_name, item_named, item_view, leads, length-inline_after, local_id, member_fault, name_equal, name_view, names_at_top, next_place, option_cases, option_map, option_or, order_of, outcome_one, own_use, part_visited, parts, prefix_scopes, resolved_scopes, resolved_scopes_of, rows_of, scope_names, scopes_declared, scopes_inline, setters_fault, side_items, slice_get, source_view, stage, take_seam, used_interface, used_visited, visited, worlds_of, worlds_sort, IsReady, arenas}
+use Rattle.wit_contents.proofs.Names.{Address, AddsMembers, AddsScope, AddsSides, AllDiffer, AreIndexed, AreNamesPlaced, AreRightMembers, AreUsableUses, Attribute, Borrowed, EndsInTurn, Fault, Foreign, ForeignNamed, ForeignVisit, HasAmong, Id, InOrder, Include, IncludePart, Interface, InterfaceNamed, Interfaces, InterfacesDone, IsForeignUse, IsItemOf, IsLent, IsNameIndex, IsResolvedUse, IsRight, IsRightOf, IsRightOfWorld, IsStart, IsWalk, Item as BorrowedItem, ItemScope, ItemWalk, Known, Link, Names, Outcome, PackageFile, PackageName, Required, ResolvedScope, ScopeName, SideItem, SideLink, Stage, TopName, TypeDef, UseName, Used, World, Worlds, about, address, all_items, all_scopes, are_interfaces, are_worlds, at_contains, bytes_eq, contains_at, contents_fault, declared_view, env_of, filed_item, find_at, find_passes, first_after, first_in, flat_map, foreign_at, foreign_interfaces, handle_fault, in_order, in_turn, include_fault, includes, includes_fault, inline_after, inline_after-append, inline_interface, inline_items, interface_at, interfaces, interfaces_at, interfaces_sort, is_world, item_inline, item_name, item_named, item_view, leads, length-inline_after, local_id, member_fault, name_equal, name_view, names_at_top, next_place, option_cases, option_map, option_or, order_of, outcome_one, own_use, part_visited, parts, prefix_scopes, resolved_scopes, resolved_scopes_of, rows_of, scope_names, scopes_declared, scopes_inline, setters_fault, side_items, slice_get, source_view, stage, take_seam, used_interface, used_visited, visited, worlds_of, worlds_sort, IsReady}
 use Rattle.wit_contents.specs.declared.walk.Growing.{Growing}
 use Rattle.wit_contents.specs.declared.walk.Walked.{Walked}
 use Rattle.wit_contents.specs.declared.walk.WorldScope.{WorldScope}
@@ -63,9 +63,6 @@ module _ (ws : Worlds) (items : List BorrowedItem) (places : List ℕ) (es : Lis
   abbrev d : InterfacesDone files declared_interfaces declared_worlds prefix declared_interfaces h.middle own h.before
   d = h.interfaces.done
 
-  abbrev a : WorldArenas
-  a = arenas ws.arena inside
-
   abbrev outcome : Outcome
   outcome = known.outcome (rows_of xs)
 
@@ -108,8 +105,8 @@ module _ (ws : Worlds) (items : List BorrowedItem) (places : List ℕ) (es : Lis
 
   included : includes_fault ws w ≡ first_in (include_fault files w.top) (includes w)
   included =
-      let listed = world_added files declared_interfaces declared_worlds (interfaces_sort (in_order all places)) (worlds_sort (in_order all places)) (are_interfaces files places r.order distinct) (are_worlds files places r.order distinct) uses es prefix wprefix r.foreign h.middle own h.before d us mid a h.required h.done w there in
-      includes_walked files places r.order distinct es prefix wprefix r.foreign count place w next at sort d.ordered (prefix_scopes files prefix ++ d.scopes) mid a h.required h.done ws.by_name windex listed ws refl refl visits
+      let listed = world_added files declared_interfaces declared_worlds (interfaces_sort (in_order all places)) (worlds_sort (in_order all places)) (are_interfaces files places r.order distinct) (are_worlds files places r.order distinct) uses es prefix wprefix r.foreign h.middle own h.before d us mid ws.arena inside h.required h.done w there in
+      includes_walked files places r.order distinct es prefix wprefix r.foreign count place w next at sort d.ordered (prefix_scopes files prefix ++ d.scopes) mid ws.arena inside h.required h.done ws.by_name windex listed ws refl refl visits
 
   -- its links
   leading : (link : Link) → Contains (side_items w) (SideLink link) → IsLeading files is.by_name (leads w.top link.path)
@@ -132,7 +129,7 @@ module _ (ws : Worlds) (items : List BorrowedItem) (places : List ℕ) (es : Lis
 
   ends : Ends (resolved_scopes_of is) ws.arena
   ends = subst (λ (cs : List ResolvedScope). Ends cs ws.arena) (sym scopes_are)
-      (world_ends files declared_interfaces declared_worlds (interfaces_sort (in_order all places)) (worlds_sort (in_order all places)) (are_interfaces files places r.order distinct) (are_worlds files places r.order distinct) uses es prefix wprefix r.foreign h.middle own h.before d us mid a h.required w there h.done outcome (right.outcomes (rows_of xs)) known.steps (right.enough (address w)))
+      (world_ends files declared_interfaces declared_worlds (interfaces_sort (in_order all places)) (worlds_sort (in_order all places)) (are_interfaces files places r.order distinct) (are_worlds files places r.order distinct) uses es prefix wprefix r.foreign h.middle own h.before d us mid ws.arena inside h.required w there h.done outcome (right.outcomes (rows_of xs)) known.steps (right.enough (address w)))
 
   -- its members
   abbrev member : List SideItem → SideItem → Option Fault
@@ -146,13 +143,13 @@ module _ (ws : Worlds) (items : List BorrowedItem) (places : List ℕ) (es : Lis
     walk = record { item = i; scope = s; interfaces = is }
 
     abbrev growing : Growing
-    growing = record { types = named; inside = a.inside }
+    growing = record { types = named; inside = inside }
 
     own_scoped : AddsScope mid named resolved (owner.World (length ws.arena)) xs types
     own_scoped = subst (λ (cs : List ResolvedScope). AddsScope mid named cs (owner.World (length ws.arena)) xs types) scopes_are scoped
 
     all_ends : (new : List TypeDef) → IsExtended named new → EndsIn (env_of types) new (handle_fault files known.steps (address w))
-    all_ends new extended = named_ends files declared_interfaces declared_worlds (interfaces_sort (in_order all places)) (worlds_sort (in_order all places)) (are_interfaces files places r.order distinct) (are_worlds files places r.order distinct) uses es prefix wprefix r.foreign h.middle own h.before d us mid a h.required w there h.done types named own_scoped new extended known.steps (right.enough (address w))
+    all_ends new extended = named_ends files declared_interfaces declared_worlds (interfaces_sort (in_order all places)) (worlds_sort (in_order all places)) (are_interfaces files places r.order distinct) (are_worlds files places r.order distinct) uses es prefix wprefix r.foreign h.middle own h.before d us mid ws.arena inside h.required w there h.done types named own_scoped new extended known.steps (right.enough (address w))
 
     -- an interface that is written in it comes next
     module _ (start : Walked) (first : List SideItem) (now : Stage) (members : AddsMembers walk [] first (stage growing start) now) (x : SideItem) (rest : List SideItem) (split : side_items w ≡ first ++ (x ∷ rest)) (u : Item) (inner : inline_after w first (x ∷ []) ≡ u ∷ []) where
@@ -175,14 +172,14 @@ module _ (ws : Worlds) (items : List BorrowedItem) (places : List ℕ) (es : Lis
       in_turn_next : slice_get (inline_items w) (length written) ≡ Some u
       in_turn_next = ap (λ (l : List Item). slice_get l (length written)) whole ∙ at_middle written u later
 
-      sides : AddsSides resolved (length (prefix ++ own)) (address w) types named now.growing.types a.inside now.growing.inside members.functions members.adds.own first written
+      sides : AddsSides resolved (length (prefix ++ own)) (address w) types named now.growing.types inside now.growing.inside members.functions members.adds.own first written
       sides =
-          subst (λ (l : List Interface). AddsSides resolved (length l) (address w) types named now.growing.types a.inside now.growing.inside members.functions members.adds.own first written) h.interfaces.arena (
-          subst (λ (cs : List ResolvedScope). AddsSides cs (length is.arena) (address w) types named now.growing.types a.inside now.growing.inside members.functions members.adds.own first written) scopes_are (members.adds.holds (address w)))
+          subst (λ (l : List Interface). AddsSides resolved (length l) (address w) types named now.growing.types inside now.growing.inside members.functions members.adds.own first written) h.interfaces.arena (
+          subst (λ (cs : List ResolvedScope). AddsSides cs (length is.arena) (address w) types named now.growing.types inside now.growing.inside members.functions members.adds.own first written) scopes_are (members.adds.holds (address w)))
 
-      covered : length now.growing.inside ≡ length a.inside + length written
+      covered : length now.growing.inside ≡ length inside + length written
       covered =
-          let more : length now.growing.inside ≡ length a.inside + length (flat_map item_inline first) = sides_count resolved (length (prefix ++ own)) (address w) types named now.growing.types a.inside now.growing.inside members.functions members.adds.own first written sides in
+          let more : length now.growing.inside ≡ length inside + length (flat_map item_inline first) = sides_count resolved (length (prefix ++ own)) (address w) types named now.growing.types inside now.growing.inside members.functions members.adds.own first written sides in
           let long : length written ≡ length (flat_map item_inline first) = length-inline_after w [] first in
           omega (arith, more, long)
 
@@ -194,7 +191,7 @@ module _ (ws : Worlds) (items : List BorrowedItem) (places : List ℕ) (es : Lis
 
       inner_ends : InnerEnds (resolved_scopes_of is) is.arena
       inner_ends = subst (InnerEnds (resolved_scopes_of is)) (sym h.interfaces.arena) (subst (λ (cs : List ResolvedScope). InnerEnds cs (prefix ++ own)) (sym scopes_are)
-          (inline_ends files declared_interfaces declared_worlds (interfaces_sort (in_order all places)) (worlds_sort (in_order all places)) (are_interfaces files places r.order distinct) (are_worlds files places r.order distinct) uses es prefix wprefix r.foreign h.middle own h.before d us mid a h.required w there h.done types named own_scoped first written (length written) in_front u in_turn_next now.growing.types now.growing.inside members.functions members.adds.own sides covered (known.outcome (rows_of (scope_names u))) (right.outcomes (rows_of (scope_names u))) known.steps (right.enough (address u))))
+          (inline_ends files declared_interfaces declared_worlds (interfaces_sort (in_order all places)) (worlds_sort (in_order all places)) (are_interfaces files places r.order distinct) (are_worlds files places r.order distinct) uses es prefix wprefix r.foreign h.middle own h.before d us mid ws.arena inside h.required w there h.done types named own_scoped first written (length written) in_front u in_turn_next now.growing.types now.growing.inside members.functions members.adds.own sides covered (known.outcome (rows_of (scope_names u))) (right.outcomes (rows_of (scope_names u))) known.steps (right.enough (address u))))
 
       inner_walked : (s : ItemScope) → IsLent s files u → AreAsWalked files is (flat_map own_use s.names.now)
       inner_walked s its = walked u (scopes_inline files w u declared (contains_at (inline_items w) (length written) u in_turn_next)) s.names.now its.named its.placed
@@ -209,7 +206,7 @@ module _ (ws : Worlds) (items : List BorrowedItem) (places : List ℕ) (es : Lis
         let ordered : outcome ≡ InOrder turn.order = outcome_one (rows_of xs) outcome (InOrder turn.order) (right.outcomes (rows_of xs)) turn.least in
         right_members walk known (order_of outcome) (turn.are ∙ ap (λ (o : Outcome). map local_id (in_turn xs (order_of o))) (sym ordered)) start begun growing all_ends leading (right_inside start)
 
-  pub right_world : IsRightOfWorld (contents_fault files known) ws (record { types = mid; inside = a.inside }) i
+  pub right_world : IsRightOfWorld (contents_fault files known) ws (record { types = mid; inside = inside }) i
   right_world = record {
     outcome = outcome;
     handle = handle_fault files known.steps (address w);

@@ -1,6 +1,6 @@
 -- The first fault of a world: of its attributes, of its names, of its includes, or of what is on its sides.
 use Rattle.std.proofs.Common.{◌≡◌, ℕ, ◌+◌, Bool, false, true, List, [], ◌∷◌, ◌++◌, drop, length, map, take, Option, Some, None, refl, sym, ap, ◌∙◌, subst, ◌==◌, arith}
-use Rattle.wit_contents.proofs.Names.{AddsTurn, AreKeyed, Declared, EndsInTurn, Exported, Fault, Finds, FindsNames, FindsSides, Id, Imported, Include, IsItemOf, IsNext, IsOutcome, IsRightOfWorld, IsSeen, IsWalk, Item as BorrowedItem, ItemWalk, Outcome, PackageFile, ParseError, Reports, ResolvedScope, Result, ScopeName, SourceFunction, TheInline, TheInterface, TheWorld, TopName, TypeDef, TypeOwner, Worlds, about, all_declared, all_items, append-nil, at_contains, declared_view, eqb-suc-zero, filter, filter-append, filter_map-append, finds_same, first_after, first_in, functions, if◌then◌else◌, in-append, in-more, in_order, in_turn, includes, includes_fault, is_inside, item_in, item_stability, item_view, kept_next, local_id, names_at_top, names_fault, name_view, option_or, order_of, reports_back, reports_prefix, reports_same, resolved_scopes_of, rows_of, scope_names, setters_fault, side_items, side_setters_fault, slice_get, take-append-drop, Address, AddsMembers, AddsSides, AddsWorld, AllDiffer, AreIncludes, Borrowed, Entry, HavePlaces, Interface, Interfaces, IsStart, IsTurn, Name, Names, Required, SideItem, World, WorldSide, address, and_parts, arenas, at_back, at_prefix, declared_metadata, eqb-true, flat_map, function_of, in_turn_distinct, inline_items, interfaces_at, is_ascii_uppercase, item_function, list_all, list_any, names_on, nil_from_length, no_clashes, none_both, part_functions, part_items, prefix_of, puts_nothing, settled, stage, type_imports, world_part, worlds_at, functions_parts}
+use Rattle.wit_contents.proofs.Names.{AddsTurn, AreKeyed, Declared, EndsInTurn, Exported, Fault, Finds, FindsNames, FindsSides, Id, Imported, Include, IsItemOf, IsNext, IsOutcome, IsRightOfWorld, IsSeen, IsWalk, Item as BorrowedItem, ItemWalk, Outcome, PackageFile, ParseError, Reports, ResolvedScope, Result, ScopeName, SourceFunction, TheInline, TheInterface, TheWorld, TopName, TypeDef, TypeOwner, Worlds, about, all_declared, all_items, append-nil, at_contains, declared_view, eqb-suc-zero, filter, filter-append, filter_map-append, finds_same, first_after, first_in, functions, if◌then◌else◌, in-append, in-more, in_order, in_turn, includes, includes_fault, is_inside, item_in, item_stability, item_view, kept_next, local_id, names_at_top, names_fault, name_view, option_or, order_of, reports_back, reports_prefix, reports_same, resolved_scopes_of, rows_of, scope_names, setters_fault, side_items, side_setters_fault, slice_get, take-append-drop, Address, AddsMembers, AddsSides, AddsWorld, AllDiffer, AreIncludes, Borrowed, Entry, HavePlaces, Interface, Interfaces, IsStart, IsTurn, Name, Names, Required, SideItem, World, WorldSide, address, and_parts, at_back, at_prefix, declared_metadata, eqb-true, flat_map, function_of, in_turn_distinct, inline_items, interfaces_at, is_ascii_uppercase, item_function, list_all, list_any, names_on, nil_from_length, no_clashes, none_both, part_functions, part_items, prefix_of, puts_nothing, settled, stage, type_imports, world_part, worlds_at, functions_parts}
 use Rattle.wit_arena.proofs.Common.{Item, world, entries_on, name_imports, WorldInclude}
 use Rattle.wit_contents.specs.declared.walk.Growing.{Growing}
 use Rattle.wit_contents.specs.declared.walk.Walked.{Walked}
@@ -172,7 +172,7 @@ module _ (w : ItemWalk) (others : List Address) (ws : List World) (old : List Ty
   abbrev interfaces : List Interface
   interfaces = w.interfaces.arena
 
-  pub content_adds : (added : World) (imports exports : List Entry) (included : List WorldInclude) → added ≡ world (about item.declared).id.name.now imports exports included (declared_metadata item.declared) (about item.declared).id.span → imports ≡ settled (includes item) m.members.sides.imports → exports ≡ settled (includes item) m.members.sides.exports → AreIncludes (worlds_at others ws) item included → AddsWorld foreign others interfaces old new.types (arenas ws middle.inside) (arenas (ws ++ added ∷ []) new.inside) (required ++ m.required.items) item
+  pub content_adds : (added : World) (imports exports : List Entry) (included : List WorldInclude) → added ≡ world (about item.declared).id.name.now imports exports included (declared_metadata item.declared) (about item.declared).id.span → imports ≡ settled (includes item) m.members.sides.imports → exports ≡ settled (includes item) m.members.sides.exports → AreIncludes (worlds_at others ws) item included → AddsWorld foreign others interfaces old new.types ws (ws ++ added ∷ []) middle.inside new.inside (required ++ m.required.items) item
   content_adds added imports exports included says on_imports on_exports are = record {
     added = added;
     last = refl;
@@ -250,7 +250,7 @@ module _ (item : Item) (empty : side_items item ≡ []) where
     abbrev names : List Entry
     names = type_imports (in_turn (scope_names item) n.adds.order) types
 
-    pub alone_adds : (added : World) (imports exports : List Entry) (included : List WorldInclude) → added ≡ world (about item.declared).id.name.now imports exports included (declared_metadata item.declared) (about item.declared).id.span → imports ≡ names → exports ≡ [] → AreIncludes (worlds_at others ws) item included → AddsWorld (prefix_of is.files) others is.arena old middle (arenas ws inside) (arenas (ws ++ added ∷ []) inside) required item
+    pub alone_adds : (added : World) (imports exports : List Entry) (included : List WorldInclude) → added ≡ world (about item.declared).id.name.now imports exports included (declared_metadata item.declared) (about item.declared).id.span → imports ≡ names → exports ≡ [] → AreIncludes (worlds_at others ws) item included → AddsWorld (prefix_of is.files) others is.arena old middle ws (ws ++ added ∷ []) inside inside required item
     alone_adds added imports exports included says imported exported are =
         let us = inline_items item in
         let turn = in_turn (scope_names item) n.adds.order in

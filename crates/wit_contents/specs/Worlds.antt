@@ -1,6 +1,6 @@
 -- What a world adds to the arenas, the walk of what it imports and exports, and its first fault.
 use Rattle.std.specs.Prelude.{◌≡◌, List, ◌∷◌, [], ◌++◌, length, map, Option, Result}
-use Rattle.wit_contents.specs.Names.{AddsScope, AddsWorld, Appends, BorrowedItem, EndsInTurn, Fault, Id, Interface, IsNameIndex, Item, Metadata, ParseError, ResolvedNames, TypeDef, World, WorldArenas, WorldNamed, about, declared_metadata, defined_fault, in_turn, includes, item_stability, item_view, local_id, name_of_id, names_fault, option_or, others_of, prefix_of, resolved_scopes_of, rows_of, scope_names, side_items, worlds_at, SideItem}
+use Rattle.wit_contents.specs.Names.{AddsScope, AddsWorld, Appends, BorrowedItem, EndsInTurn, Fault, Id, IsNameIndex, Item, Metadata, ParseError, ResolvedNames, TypeDef, World, WorldNamed, about, declared_metadata, defined_fault, in_turn, includes, item_stability, item_view, local_id, name_of_id, names_fault, option_or, others_of, prefix_of, resolved_scopes_of, rows_of, scope_names, side_items, worlds_at, SideItem}
 use Rattle.wit_arena.specs.Made.{world}
 use Rattle.wit_types.specs.declared.types.TypeOwner.TheVariants as owner
 use Rattle.wit_links.specs.declared.worlds.Worlds.{Worlds}
@@ -16,13 +16,9 @@ use Rattle.wit_contents.specs.declared.walk.Walked.{Walked}
 use Rattle.wit_contents.specs.declared.walk.WorldScope.{WorldScope}
 use Rattle.wit_contents.specs.Walk.{IsStart, IsWalk, ItemWalk, stage, AreRightMembers}
 
--- the worlds, and the interfaces that are written in them
-abbrev pub arenas : List World → List Interface → WorldArenas
-arenas ws inside = record { worlds = ws; inside = inside }
-
 -- the arena of worlds is now this one: an item was added to the arenas, as a world
 abbrev pub AddsTo : Worlds → List World → BorrowedItem → Resolving → Resolving → Type 0
-AddsTo ws arena i old new = Appends old.required.items new.required.items (λ rs. AddsWorld (prefix_of ws.interfaces.now.files) (others_of ws.interfaces.now.files) ws.interfaces.now.arena old.growing.types new.growing.types (arenas ws.arena old.growing.inside) (arenas arena new.growing.inside) rs (item_view i))
+AddsTo ws arena i old new = Appends old.required.items new.required.items (λ rs. AddsWorld (prefix_of ws.interfaces.now.files) (others_of ws.interfaces.now.files) ws.interfaces.now.arena old.growing.types new.growing.types ws.arena arena old.growing.inside new.growing.inside rs (item_view i))
 
 -- the names of a world that comes next were added
 abbrev pub AddsNamesOf : Worlds → BorrowedItem → List TypeDef → List TypeDef → ResolvedNames → Type 0
