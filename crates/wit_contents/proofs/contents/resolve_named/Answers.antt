@@ -1,5 +1,5 @@
 use Rattle.std.proofs.Common.{length, map, ap, ◌∙◌, inl}
-use Rattle.wit_contents.proofs.Names.{IfOk-at_ok, arenas, err_from_is_err_and, found_none, item_view, prefix_of, Interface}
+use Rattle.wit_contents.proofs.Names.{IfOk-at_ok, err_from_is_err_and, found_none, item_view, prefix_of, Interface}
 use Rattle.wit_foreign.specs.Growing.{AreDepsOf, AreDepSpansOf}
 use Rattle.wit_front.specs.ForeignPrefix.{IsPrefix}
 use Rattle.wit_contents.proofs.Files.{interfaces_enough, prefix_entries, prefix_started, prefix_used}
