@@ -106,9 +106,9 @@ pub fn resolve_items<'f, 'a>(
     let mut resolving = begun(alloc, types, required);
     let mut arena = prefix;
     make_room(items, &mut resolving.growing.inside, &mut arena)?;
-    let interfaces: &Interfaces<'_, '_, '_, '_> = interfaces;
+    let known: &Interfaces<'_, '_, '_, '_> = interfaces;
     let mut worlds = Worlds {
-        interfaces,
+        interfaces: known,
         arena,
         by_name: TextTable::new(alloc),
     };
