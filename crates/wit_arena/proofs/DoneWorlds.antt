@@ -3,7 +3,8 @@ use Rattle.std.proofs.Common.{◌≡◌, ℕ, ◌+◌, true, false, List, [], �
 use Rattle.wit_arena.proofs.Names.{Address, AddsForeign, Decls, Imported, Interface, InterfaceNamed, Item, Names, Occurrence, PackageFile, Required, ResolvedScope, ScopeName, TypeDef, TypeOwner, World, address, all_items, all_occurrences, append-nil, at_back, at_part, at_prefix, declarations, flat_map, foreign_interfaces, foreign_use_occurrence, foreign_uses, foreign_worlds, functions, in_turn, inline_items, interface_functions, is_foreign, length-map, map-append, option_map, owner_at, resolved_scope, resolved_scopes, scope, scope_names, slice_get, slice_get-map, unwrap_or, visited, AreRequired, Function, FunctionKey, Id, Turned, WorldItem, WorldKey, WorldNamed, after_one, all_handles, at_split, flat_map-append, flat_map_at, flat_map_has, import_types, keys, local_names, name_types, side_items, turn_handles, turn_occurrences, type_imports, world_functions, world_types, «Type» as Written, AddsInterface, GivesPlaces, IsOrder, Key, all_types, at_seam, own_interface, own_world, rows_of, scope_place}
 use Rattle.wit_arena.proofs.FreeNames.{free_of, free_keyed}
 use Rattle.wit_arena.proofs.Settled.{world_types-all}
-use Rattle.wit_arena.proofs.Ordered.{Ordered, OrderedWorld, turned, side_turns, world_turns, all_turns, all_inside}
+use Rattle.wit_arena.proofs.Ordered.{Ordered, all_turns, in_its_order, item_order, item_order_is, item_turn, turned, world_turns}
+use Rattle.wit_arena.proofs.Members.{turns_on_sides}
 use Rattle.wit_arena.proofs.Indexing.{resolved_scopes-append}
 use Rattle.wit_arena.proofs.Resolving.{DoneScope, resolved_scope_of, IsDone, IsTurn, done_as, turn_of}
 use Rattle.wit_arena.proofs.Interfaces.{AreItems, AreOfSort, AreAddresses, item_scopes, interface_address, declared_called, own_address, interface_owner_at, world_owner_at, scope_addresses, scope_of}
@@ -11,7 +12,7 @@ use Rattle.wit_arena.proofs.Visits.{AreUsableUses, visited_addresses, addresses_
 use Rattle.wit_arena.proofs.Prefix.{interface_scopes, world_scopes, prefix_scopes, resolved_scopes-interface_scopes, prefix_at, prefix_done, interfaces_count, worlds_count, PrefixInterface, PrefixWorld}
 use Rattle.wit_arena.proofs.ScopesInTurn.{AreLaid, in_turn_is, laid_more, laid_none, laid_scope, more_occurrences, none_is_next, turned_handles}
 use Rattle.wit_arena.proofs.Required.{in_scope, required_append, required_extended, required_none}
-use Rattle.wit_arena.proofs.Turns.{item_of, own_item, names_turn, occurrences, all_name_occurrences}
+use Rattle.wit_arena.proofs.Turns.{names_turn, occurrences, all_name_occurrences}
 use Rattle.wit_arena.proofs.OneKind.{Extended}
 use Rattle.wit_arena.proofs.DoneNames.{are_known, are_new, are_owned, none_named, required_there, scope_done, seen_in_turn}
 use Rattle.wit_arena.proofs.Occurrence.{collects_extended}
@@ -20,38 +21,28 @@ use Rattle.wit_arena.proofs.PlacingFunctions.{types_present}
 use Rattle.wit_types.specs.declared.types.TypeOwner.TheVariants as owner
 use Rattle.wit_syntax.specs.Source as source
 
--- an interface over places, with its names in its order
-abbrev pub ordered_interface : (Key → ℕ) → Ordered → Interface
-ordered_interface id o = own_interface id (λ i. o.order) o.item
-
--- a world over places, where the interfaces and the worlds have these addresses
-abbrev pub ordered_world : (Key → ℕ) → List Address → List Address → OrderedWorld → World
-ordered_world id ss ws o = own_world id (λ i. o.own.order) ss ws o.own.item
-
--- The first of some interfaces are done after others, in some orders of their names: over the places of what occurred these are they, and this
--- is what their handles require.
+-- The first of some interfaces are done after others: over the places of what occurred these are they, and this is what their handles require.
 pub record AreInterfacesDone (files : List PackageFile) (decls : Decls) (first : List DoneScope) (is us : List Item) (es : List TypeDef) (xs : List Interface) (rs : List Required) : Type 0 where
-  pub ordered : List Ordered
   pub scopes : List DoneScope
-  pub all : map item_of ordered ≡ us
-  pub laid : AreLaid resolved_scope is ordered xs scopes
-  pub done : IsDone files decls (all_occurrences files (map turned ordered)) (first ++ scopes) es
-  pub made : (id : Key → ℕ) → GivesPlaces id (keys done.seen) → xs ≡ map (ordered_interface id) ordered
-  pub required : AreRequired files (keys done.seen) (flat_map turn_handles (map turned ordered)) rs
+  pub laid : AreLaid files resolved_scope is us xs scopes
+  pub done : IsDone files decls (all_occurrences files (map (item_turn files) us)) (first ++ scopes) es
+  pub made : (id : Key → ℕ) → GivesPlaces id (keys done.seen) → xs ≡ map (own_interface id (item_order files)) us
+  pub required : AreRequired files (keys done.seen) (flat_map turn_handles (map (item_turn files) us)) rs
 
 -- an interface that comes next is done, at a scope
 pub record IsNextDone (files : List PackageFile) (decls : Decls) (written : List Occurrence) (cs : List DoneScope) (before : List Key) (new : List TypeDef) (added : Interface) (rs : List Required) (o : Ordered) : Type 0 where
   pub scope : DoneScope
+  pub least : IsOrder (rows_of (scope_names o.item)) o.order
   pub turn : turn_of scope ≡ turned o
   pub is : resolved_scope_of scope ≡ record { address = address o.item; types = added.types; functions = free_of (interface_functions added) }
   pub done : IsDone files decls (written ++ turn_occurrences (turned o)) (cs ++ scope ∷ []) new
   pub extended : Extended before (keys done.seen)
-  pub made : (id : Key → ℕ) → GivesPlaces id (keys done.seen) → added ≡ ordered_interface id o
+  pub made : (id : Key → ℕ) → GivesPlaces id (keys done.seen) → added ≡ own_interface id (λ i. o.order) o.item
   pub required : AreRequired files (keys done.seen) (turn_handles (turned o)) rs
 
 -- so is one that is at no address of those that are done, once it was added
-pub next_scope : (files : List PackageFile) (decls : Decls) (written : List Occurrence) (cs : List DoneScope) (old : List TypeDef) (d : IsDone files decls written cs old) (known : List ResolvedScope) → ((t : ℕ) (c : ResolvedScope) → slice_get known t ≡ Some c → (j : ℕ) × (slice_get (map resolved_scope_of cs) j ≡ Some c)) → (place : ℕ) (new : List TypeDef) (added : Interface) (rs : List Required) (w : Item) → ((t : ℕ) (b : DoneScope) → slice_get cs t ≡ Some b → b.address ≡ address w → ⊥) → decls (address w) ≡ (scope files (address w), owner.Interface place) → scope files (address w) ≡ scope_names w → (a : AddsInterface known place old new added rs w) → IsNextDone files decls written cs (keys d.seen) new added rs (record { item = w; order = a.order })
-next_scope files decls written cs old d known among place new added rs w fresh own has a =
+next_at : (files : List PackageFile) (decls : Decls) (written : List Occurrence) (cs : List DoneScope) (old : List TypeDef) (d : IsDone files decls written cs old) (known : List ResolvedScope) → ((t : ℕ) (c : ResolvedScope) → slice_get known t ≡ Some c → (j : ℕ) × (slice_get (map resolved_scope_of cs) j ≡ Some c)) → (place : ℕ) (new : List TypeDef) (added : Interface) (rs : List Required) (w : Item) → ((t : ℕ) (b : DoneScope) → slice_get cs t ≡ Some b → b.address ≡ address w → ⊥) → decls (address w) ≡ (scope files (address w), owner.Interface place) → scope files (address w) ≡ scope_names w → (a : AddsInterface known place old new added rs w) → IsNextDone files decls written cs (keys d.seen) new added rs (record { item = w; order = a.order })
+next_at files decls written cs old d known among place new added rs w fresh own has a =
     let s = address w in
     let o : Ordered = record { item = w; order = a.order } in
     let names = in_turn (scope_names w) a.order in
@@ -63,6 +54,7 @@ next_scope files decls written cs old d known among place new added rs w fresh o
     let done = scope_done files decls written cs old d s whose names fresh own turn new c refl refl refl (turn_occurrences (turned o)) (seen_in_turn s names (functions w)) x x.holds.0 listed in
     record {
       scope = c;
+      least = a.least;
       turn = refl;
       is = refl;
       done = done;
@@ -70,6 +62,10 @@ next_scope files decls written cs old d known among place new added rs w fresh o
       made = x.holds.1;
       required = required_there files decls (written ++ turn_occurrences (turned o)) (cs ++ c ∷ []) new done (length cs) c (at_seam cs c) (all_handles (all_types names (functions w))) rs a.ended;
     }
+
+-- so it is in its order
+pub next_scope : (files : List PackageFile) (decls : Decls) (written : List Occurrence) (cs : List DoneScope) (old : List TypeDef) (d : IsDone files decls written cs old) (known : List ResolvedScope) → ((t : ℕ) (c : ResolvedScope) → slice_get known t ≡ Some c → (j : ℕ) × (slice_get (map resolved_scope_of cs) j ≡ Some c)) → (place : ℕ) (new : List TypeDef) (added : Interface) (rs : List Required) (w : Item) → ((t : ℕ) (b : DoneScope) → slice_get cs t ≡ Some b → b.address ≡ address w → ⊥) → decls (address w) ≡ (scope files (address w), owner.Interface place) → scope files (address w) ≡ scope_names w → (a : AddsInterface known place old new added rs w) → IsNextDone files decls written cs (keys d.seen) new added rs (in_its_order files w)
+next_scope files decls written cs old d known among place new added rs w fresh own has a = subst (λ (l : List ℕ). IsNextDone files decls written cs (keys d.seen) new added rs (record { item = w; order = l })) (sym (item_order_is files w a.order has a.least)) (next_at files decls written cs old d known among place new added rs w fresh own has a)
 
 abbrev called_resolved_scope : Names → List (List ℕ) → Option (List ℕ) → ResolvedScope
 called_resolved_scope types names name = record { address = InterfaceNamed (unwrap_or name []); types = types; functions = names }
@@ -170,18 +166,15 @@ module _ (files : List PackageFile) (is ws : List Item) where
         abbrev names_before : List DoneScope
         names_before = prefix_scopes files prefix ++ d.scopes
 
-        next_item : slice_get is (length d.ordered) ≡ Some w
-        next_item = subst (λ (n : ℕ). slice_get is n ≡ Some w) (sym (ap length d.all) ∙ length-map d.ordered item_of) there
-
         -- an interface that comes next is at no address of those that are done
         pub interface_fresh : (t : ℕ) (c : DoneScope) → slice_get names_before t ≡ Some c → c.address ≡ address w → ⊥
         interface_fresh t c at same = elim (at_part (prefix_scopes files prefix) d.scopes t c at) [
           | inl h ↦ prefix_apart w h.0 c h.1 same
-          | inr h ↦ none_is_next d.laid (item_scopes files is is_items).unique w next_item h.0 c h.1 same
+          | inr h ↦ none_is_next d.laid (item_scopes files is is_items).unique w there h.0 c h.1 same
         ]
 
         at_place : slice_get is (length xs) ≡ Some w
-        at_place = subst (λ (n : ℕ). slice_get is n ≡ Some w) (sym d.laid.count) next_item
+        at_place = subst (λ (n : ℕ). slice_get is n ≡ Some w) (sym d.laid.count) there
 
         pub interface_owned : decls files is ws (address w) ≡ (scope files (address w), owner.Interface (length (prefix ++ xs)))
         interface_owned = item_declared (length xs) w at_place ∙ ap (λ (o : TypeOwner). (scope files (address w), o)) (sym (next_interface xs))
@@ -195,32 +188,27 @@ module _ (files : List PackageFile) (is ws : List Item) where
         -- once it was added, it is done
         pub interface_next : (new : List TypeDef) (added : Interface) (rs : List Required) → AddsInterface (resolved_scopes (map visited (foreign_interfaces files)) (prefix ++ xs)) (length (prefix ++ xs)) old new added rs w → InterfacesDone prefix (us ++ w ∷ []) new (xs ++ added ∷ []) (qs ++ rs)
         interface_next new added rs a =
-            let o : Ordered = record { item = w; order = a.order } in
             let known = resolved_scopes (map visited (foreign_interfaces files)) (prefix ++ xs) in
             let sort = interfaces.each (length xs) w at_place in
-            let next = next_scope files (decls files is ws) (all_occurrences files (map turned d.ordered)) names_before old d.done known interface_among (length (prefix ++ xs)) new added rs w interface_fresh interface_owned interface_scoped a in
-            let handles = turned_handles d.ordered o in
+            let turns = map (item_turn files) us in
+            let next = next_scope files (decls files is ws) (all_occurrences files turns) names_before old d.done known interface_among (length (prefix ++ xs)) new added rs w interface_fresh interface_owned interface_scoped a in
             record {
-              ordered = d.ordered ++ o ∷ [];
               scopes = d.scopes ++ next.scope ∷ [];
-              all = map-append item_of d.ordered (o ∷ []) ∙ ap (λ (l : List Item). l ++ w ∷ []) d.all;
-              laid = laid_more resolved_scope is d.ordered xs d.scopes o next.scope added d.laid next_item a.least next.turn (next.is ∙
+              laid = laid_more files resolved_scope is us xs d.scopes w next.scope added d.laid there next.least next.turn (next.is ∙
                   let names = free_of (interface_functions added) in
                   ap (λ (s : Address). record { address = s; types = added.types; functions = names }) (interface_address files is is_items (length xs) w at_place sort)
                   ∙ ap (called_resolved_scope added.types names) (sym (a.called ∙ declared_called files is is_items (length xs) w at_place))
                   ∙ ap (λ (l : List (List ℕ)). called_resolved_scope added.types l added.name) (free_keyed Imported added.functions));
-              done = done_as (sym (more_occurrences files d.ordered o)) (append_assoc (prefix_scopes files prefix) d.scopes (next.scope ∷ [])) next.done;
-              made = λ id gives. ap (λ (l : List Interface). l ++ added ∷ []) (d.made id (gives_fewer next.extended id gives)) ∙ ap (λ (i : Interface). map (ordered_interface id) d.ordered ++ i ∷ []) (next.made id gives) ∙ sym (map-append (ordered_interface id) d.ordered (o ∷ []));
-              required = subst (λ (hs : List (Address × Id)). AreRequired files (keys next.done.seen) hs (qs ++ rs)) (sym handles) (required_append files (keys next.done.seen) (flat_map turn_handles (map turned d.ordered)) (turn_handles (turned o)) qs rs (required_extended files next.extended (flat_map turn_handles (map turned d.ordered)) qs d.required) next.required);
+              done = done_as (sym (more_occurrences files us w)) (append_assoc (prefix_scopes files prefix) d.scopes (next.scope ∷ [])) next.done;
+              made = λ id gives. ap (λ (l : List Interface). l ++ added ∷ []) (d.made id (gives_fewer next.extended id gives)) ∙ ap (λ (i : Interface). map (own_interface id (item_order files)) us ++ i ∷ []) (next.made id gives) ∙ sym (map-append (own_interface id (item_order files)) us (w ∷ []));
+              required = subst (λ (hs : List (Address × Id)). AreRequired files (keys next.done.seen) hs (qs ++ rs)) (sym (turned_handles files us w)) (required_append files (keys next.done.seen) (flat_map turn_handles turns) (turn_handles (item_turn files w)) qs rs (required_extended files next.extended (flat_map turn_handles turns) qs d.required) next.required);
             }
 
       -- none is done yet
       pub no_interface : InterfacesDone prefix [] es [] []
       no_interface = record {
-        ordered = [];
         scopes = [];
-        all = refl;
-        laid = laid_none resolved_scope is;
+        laid = laid_none files resolved_scope is;
         done = done_as refl (sym (append-nil (prefix_scopes files prefix))) foreign_done;
         made = λ id gives. refl;
         required = required_none files (keys foreign_done.seen);
@@ -247,26 +235,19 @@ scopes_of w = w.own ∷ w.inside
 abbrev pub all_within : List DoneWorld → List DoneScope
 all_within ws = flat_map (λ w. w.inside) ws
 
-abbrev pub own_order : OrderedWorld → Ordered
-own_order w = w.own
-
--- The first of some worlds are done after interfaces, in some orders of their names: over the places of what occurred, and wherever the
--- interfaces and the worlds are, these are they and the interfaces that are written in them.
-pub record AreWorldsDone (files : List PackageFile) (is ws : List Item) (wprefix : List World) (base : List Ordered) (first : List DoneScope) (us : List Item) (es : List TypeDef) (worlds : List World) (inline : List Interface) (rs : List Required) : Type 0 where
-  pub ordered : List OrderedWorld
+-- The first of some worlds are done after interfaces: over the places of what occurred, and wherever the interfaces and the worlds are, these are
+-- they and the interfaces that are written in them.
+pub record AreWorldsDone (files : List PackageFile) (is ws : List Item) (wprefix : List World) (first : List DoneScope) (us : List Item) (es : List TypeDef) (worlds : List World) (inline : List Interface) (rs : List Required) : Type 0 where
   pub scopes : List DoneWorld
   pub own : List World
   pub arena : worlds ≡ wprefix ++ own
-  pub all : map own_item ordered ≡ us
-  pub each_inside : (t : ℕ) (o : OrderedWorld) → slice_get ordered t ≡ Some o → map item_of o.inside ≡ inline_items o.own.item
-  pub inside : map item_of (all_inside ordered) ≡ inside_of us
-  pub laid : AreLaid world_resolved_scope ws (map own_order ordered) own (map own_scope scopes)
-  pub inside_turns : map turn_of (all_within scopes) ≡ map turned (all_inside ordered)
-  pub inside_least : (t : ℕ) (o : Ordered) → slice_get (all_inside ordered) t ≡ Some o → IsOrder (rows_of (scope_names o.item)) o.order
-  pub done : IsDone files (decls files is ws) (all_occurrences files (all_turns base ordered)) (first ++ flat_map scopes_of scopes) es
-  pub made : (id : Key → ℕ) → GivesPlaces id (keys done.seen) → (ss vs : List Address) → GivesPlaces (scope_place ss) (interface_list files is (inside_of ws)) → GivesPlaces (scope_place vs) (world_list files ws) → own ≡ map (ordered_world id ss vs) ordered
-  pub inside_made : (id : Key → ℕ) → GivesPlaces id (keys done.seen) → inline ≡ map (ordered_interface id) (all_inside ordered)
-  pub required : AreRequired files (keys done.seen) (flat_map turn_handles (flat_map world_turns ordered)) rs
+  pub laid : AreLaid files world_resolved_scope ws us own (map own_scope scopes)
+  pub inside_turns : map turn_of (all_within scopes) ≡ map (item_turn files) (inside_of us)
+  pub inside_least : (t : ℕ) (u : Item) → slice_get (inside_of us) t ≡ Some u → IsOrder (rows_of (scope_names u)) (item_order files u)
+  pub done : IsDone files (decls files is ws) (all_occurrences files (all_turns files is us)) (first ++ flat_map scopes_of scopes) es
+  pub made : (id : Key → ℕ) → GivesPlaces id (keys done.seen) → (ss vs : List Address) → GivesPlaces (scope_place ss) (interface_list files is (inside_of ws)) → GivesPlaces (scope_place vs) (world_list files ws) → own ≡ map (own_world id (item_order files) ss vs) us
+  pub inside_made : (id : Key → ℕ) → GivesPlaces id (keys done.seen) → inline ≡ map (own_interface id (item_order files)) (inside_of us)
+  pub required : AreRequired files (keys done.seen) (flat_map turn_handles (flat_map (world_turns files) us)) rs
 
 abbrev pub named_world : Names → List (FunctionKey × Function) → List ℕ → ResolvedScope
 named_world types stated name = record { address = WorldNamed name; types = types; functions = free_of stated }
@@ -297,19 +278,31 @@ turns_occurrences files ts us =
     ap (λ (l : List Occurrence). prefix ++ l) (flat_map-append turn_occurrences ts us) ∙ sym (append_assoc prefix (occurrences ts) (occurrences us))
 
 -- the turns of one world more
-pub turns_more : (ws : List OrderedWorld) (w : OrderedWorld) → flat_map world_turns (ws ++ w ∷ []) ≡ flat_map world_turns ws ++ world_turns w
-turns_more ws w = flat_map-append world_turns ws (w ∷ []) ∙ ap (λ (l : List Turned). flat_map world_turns ws ++ l) (append-nil (world_turns w))
+pub turns_more : (files : List PackageFile) (us : List Item) (w : Item) → flat_map (world_turns files) (us ++ w ∷ []) ≡ flat_map (world_turns files) us ++ world_turns files w
+turns_more files us w = flat_map-append (world_turns files) us (w ∷ []) ∙ ap (λ (l : List Turned). flat_map (world_turns files) us ++ l) (append-nil (world_turns files w))
 
--- what occurs in a world: in its names, and then on its sides
-pub world_occurrences : (w : OrderedWorld) (s : Address) (names : List ScopeName) → world_turns w ≡ names_turn s names ∷ side_turns s (side_items w.own.item) w.inside → occurrences (world_turns w) ≡ all_name_occurrences s names ++ occurrences (side_turns s (side_items w.own.item) w.inside)
-world_occurrences w s names is = ap occurrences is ∙ ap (λ (l : List Occurrence). l ++ occurrences (side_turns s (side_items w.own.item) w.inside)) (append-nil (all_name_occurrences s names))
+-- what is on its sides
+abbrev pub world_sides : List PackageFile → Item → List Turned
+world_sides files w = turns_on_sides (item_order files) (address w) (side_items w) (inline_items w)
 
-pub written_more : (files : List PackageFile) (base : List Ordered) (ws : List OrderedWorld) (w : OrderedWorld) (s : Address) (names : List ScopeName) → world_turns w ≡ names_turn s names ∷ side_turns s (side_items w.own.item) w.inside → all_occurrences files (all_turns base (ws ++ w ∷ [])) ≡ (all_occurrences files (all_turns base ws) ++ all_name_occurrences s names) ++ occurrences (side_turns s (side_items w.own.item) w.inside)
-written_more files base ws w s names is =
-    let before : List Turned = map turned base in
-    let written : List Occurrence = all_occurrences files (all_turns base ws) in
-    let turns : all_turns base (ws ++ w ∷ []) ≡ all_turns base ws ++ world_turns w = ap (λ (l : List Turned). before ++ l) (turns_more ws w) ∙ sym (append_assoc before (flat_map world_turns ws) (world_turns w)) in
-    ap (all_occurrences files) turns ∙ turns_occurrences files (all_turns base ws) (world_turns w) ∙ ap (λ (l : List Occurrence). written ++ l) (world_occurrences w s names is) ∙ sym (append_assoc written (all_name_occurrences s names) (occurrences (side_turns s (side_items w.own.item) w.inside)))
+-- where these are its names in turn
+module _ (files : List PackageFile) (w : Item) (names : List ScopeName) (are : world_turns files w ≡ names_turn (address w) names ∷ world_sides files w) where
+  -- what occurs in a world: in its names, and then on its sides
+  pub world_occurrences : occurrences (world_turns files w) ≡ all_name_occurrences (address w) names ++ occurrences (world_sides files w)
+  world_occurrences = ap occurrences are ∙ ap (λ (l : List Occurrence). l ++ occurrences (world_sides files w)) (append-nil (all_name_occurrences (address w) names))
+
+  pub written_more : (is us : List Item) → all_occurrences files (all_turns files is (us ++ w ∷ [])) ≡ (all_occurrences files (all_turns files is us) ++ all_name_occurrences (address w) names) ++ occurrences (world_sides files w)
+  written_more is us =
+      let before : List Turned = map (item_turn files) is in
+      let written : List Occurrence = all_occurrences files (all_turns files is us) in
+      let turns : all_turns files is (us ++ w ∷ []) ≡ all_turns files is us ++ world_turns files w = ap (λ (l : List Turned). before ++ l) (turns_more files us w) ∙ sym (append_assoc before (flat_map (world_turns files) us) (world_turns files w)) in
+      ap (all_occurrences files) turns ∙ turns_occurrences files (all_turns files is us) (world_turns files w) ∙ ap (λ (l : List Occurrence). written ++ l) world_occurrences ∙ sym (append_assoc written (all_name_occurrences (address w) names) (occurrences (world_sides files w)))
+
+  pub handles_more : (us : List Item) → flat_map turn_handles (flat_map (world_turns files) (us ++ w ∷ [])) ≡ flat_map turn_handles (flat_map (world_turns files) us) ++ (map (in_scope (address w)) (all_handles (flat_map name_types names)) ++ flat_map turn_handles (world_sides files w))
+  handles_more us =
+      let sides : List Turned = world_sides files w in
+      let before : List (Address × Id) = flat_map turn_handles (flat_map (world_turns files) us) in
+      ap (flat_map turn_handles) (turns_more files us w) ∙ flat_map-append turn_handles (flat_map (world_turns files) us) (world_turns files w) ∙ ap (λ (l : List Turned). before ++ flat_map turn_handles l) are ∙ ap (λ (l : List (Address × Id)). before ++ (l ++ flat_map turn_handles sides)) (ap (λ (l : List Written). map (in_scope (address w)) (all_handles l)) (append-nil (flat_map name_types names)))
 
 -- the scopes of one world more
 pub scopes_more : (first : List DoneScope) (ws : List DoneWorld) (w : DoneWorld) → first ++ flat_map scopes_of (ws ++ w ∷ []) ≡ ((first ++ flat_map scopes_of ws) ++ w.own ∷ []) ++ w.inside
@@ -317,16 +310,6 @@ scopes_more first ws w =
     let all : List DoneScope = flat_map scopes_of ws in
     let one : flat_map scopes_of (ws ++ w ∷ []) ≡ all ++ scopes_of w = flat_map-append scopes_of ws (w ∷ []) ∙ ap (λ (l : List DoneScope). all ++ l) (append-nil (scopes_of w)) in
     ap (λ (l : List DoneScope). first ++ l) one ∙ sym (append_assoc first all (scopes_of w)) ∙ sym (append_assoc (first ++ all) (w.own ∷ []) w.inside)
-
--- the names in its handles: first those of its names
-pub names_handles : (s : Address) (names : List ScopeName) → turn_handles (names_turn s names) ≡ map (in_scope s) (all_handles (flat_map name_types names))
-names_handles s names = ap (λ (l : List Written). map (in_scope s) (all_handles l)) (append-nil (flat_map name_types names))
-
-pub handles_more : (ws : List OrderedWorld) (w : OrderedWorld) (s : Address) (names : List ScopeName) → world_turns w ≡ names_turn s names ∷ side_turns s (side_items w.own.item) w.inside → flat_map turn_handles (flat_map world_turns (ws ++ w ∷ [])) ≡ flat_map turn_handles (flat_map world_turns ws) ++ (map (in_scope s) (all_handles (flat_map name_types names)) ++ flat_map turn_handles (side_turns s (side_items w.own.item) w.inside))
-handles_more ws w s names is =
-    let sides : List Turned = side_turns s (side_items w.own.item) w.inside in
-    let before : List (Address × Id) = flat_map turn_handles (flat_map world_turns ws) in
-    ap (flat_map turn_handles) (turns_more ws w) ∙ flat_map-append turn_handles (flat_map world_turns ws) (world_turns w) ∙ ap (λ (l : List Turned). before ++ flat_map turn_handles l) is ∙ ap (λ (l : List (Address × Id)). before ++ (l ++ flat_map turn_handles sides)) (names_handles s names)
 
 -- a scope of a world is its own, or that of an interface that is written in it
 pub scope_either : (ws : List DoneWorld) (k : ℕ) (c : DoneScope) → slice_get (flat_map scopes_of ws) k ≡ Some c → ((t : ℕ) × (slice_get (map own_scope ws) t ≡ Some c)) ⊎ ((j : ℕ) × (slice_get (all_within ws) j ≡ Some c))

@@ -49,8 +49,6 @@ pub mod MadeInterfaces
 pub mod Members
 pub mod MadeSides
 pub mod MadeWorlds
-pub mod MadeOrders
-pub mod MadeTurns
 pub mod MadePackage
 pub mod OneKind
 pub mod OneList

@@ -1,92 +1,131 @@
--- Of legal files, a package whose arenas are given by their relations is what they make.
-use Rattle.std.proofs.Common.{◌≡◌, ℕ, List, ◌++◌, Some, refl, sym, ap, ◌∙◌, subst, suc, ◌∷◌}
-use Rattle.wit_arena.proofs.Names.{[], Address, Interface, World, AreRequired, IsEntryOf, IsLegal, Item, Key, Makes, Occurrence, PackageFile, TypeDef, UnresolvedPackage, address, all_items, all_occurrences, first_docs, firsts, flat_map, foreign_interface, foreign_interfaces, foreign_world, foreign_worlds, headers, in_order, interface_scopes, item_turns, keys, last_header, map, option_map, own_interface, own_interfaces, own_world, owner_at, package_of, position_or_len, scope, slice_get, take, turn_handles, world_scopes, worlds_of, GivesPlaces, map_map, scope_place}
+-- Files whose interfaces and worlds are all done make a package of these arenas.
+use Rattle.std.proofs.Common.{◌≡◌, ℕ, ◌+◌, List, [], ◌++◌, length, Some, inl, inr, refl, sym, ap, ◌∙◌, subst, Contains, append_assoc}
+use Rattle.std.proofs.Math.Path.{fun_ext}
+use Rattle.wit_arena.proofs.Names.{AddsForeign, Address, AreRequired, Collects, Fault, Id, Interface, IsBrokenNames, IsEntryOf, IsOrder, Item, Key, Makes, Occurrence, PackageFile, Required, TypeDef, UnresolvedPackage, World, all_items, all_occurrences, all_scopes, at_back, at_contains, at_prefix, at_split, cases_Bool, first_docs, first_foreign_uses, firsts, flat_map, flat_map-append, flat_map_has, foreign_interface, foreign_interfaces, foreign_use_occurrence, foreign_uses, foreign_world, foreign_worlds, headers, in_order, inline_items, inline_items_none, interface_scopes, interfaces_of, is_world, item_rows, item_turns, kept_has, keys, last_header, map, map-append, option_map, own_interface, own_interfaces, own_world, owner_at, package_of, position_or_len, rows_of, scope, scope_names, scopes_either, slice_get, take, turn_handles, turns_walked, world_scopes, worlds_of, GivesPlaces, not}
 use Rattle.wit_tree.specs.declared.tree.PackageName.{PackageName as Header}
-use Rattle.wit_arena.proofs.Ordered.{Ordered, OrderedWorld, all_inside, all_turns, interface_addresses, world_addresses}
-use Rattle.wit_arena.proofs.PackageIfDone.{IsPackage, NamesOthers}
+use Rattle.wit_arena.proofs.Ordered.{all_turns, item_order, item_turn, order_of_rows, world_turns}
+use Rattle.wit_arena.proofs.PackageIfDone.{NamesOthers}
 use Rattle.wit_arena.proofs.SameKeys.{same_key, same_key_determines}
-use Rattle.wit_arena.proofs.Occurrence.{collects-firsts}
-use Rattle.wit_arena.proofs.Placing.{gives_places, gives_used}
-use Rattle.wit_arena.proofs.MadeScopes.{interface_scopes-differ, world_scopes-differ}
-use Rattle.wit_arena.proofs.MadeOrders.{items_in_order, listed, order_among, names_in_order, own_interfaces_are, interface_scopes_are, world_scopes_are}
-use Rattle.wit_arena.proofs.MadeTurns.{all_turns_stated, interfaces_stated, stated_world}
-use Rattle.wit_arena.proofs.Turns.{item_of, own_item}
-use Rattle.wit_arena.proofs.DoneWorlds.{ordered_interface, ordered_world}
-use Rattle.wit_arena.proofs.Interfaces.{scopes_placed}
+use Rattle.wit_arena.proofs.OneKind.{Extended}
+use Rattle.wit_arena.proofs.Occurrence.{collects-firsts, collects_longer}
+use Rattle.wit_arena.proofs.Placing.{gives_fewer, gives_places, gives_used}
+use Rattle.wit_arena.proofs.Prefix.{prefix_scopes}
+use Rattle.wit_arena.proofs.DoneWorlds.{AreWorldsDone, InterfacesDone, all_addresses, turns_occurrences}
+use Rattle.wit_arena.proofs.ForeignUses.{foreign_uses_seen}
+use Rattle.wit_arena.proofs.Interfaces.{interfaces_sort, scopes_placed, worlds_sort}
+use Rattle.wit_arena.proofs.Itemizing.{item_index}
+use Rattle.wit_arena.proofs.LegalScopes.{distinct_items}
+use Rattle.wit_arena.proofs.OrderedItems.{are_interfaces, are_worlds}
+use Rattle.wit_arena.proofs.Required.{required_append, required_extended}
+use Rattle.wit_arena.proofs.Turns.{occurrences}
 
-maps_alike : {X Y : Type 0} (f g : X → Y) (xs : List X) → ((k : ℕ) (x : X) → slice_get xs k ≡ Some x → f x ≡ g x) → map f xs ≡ map g xs
-maps_alike f g [] same = refl
-maps_alike f g (x ∷ xs) same = cc (same 0 x refl, maps_alike f g xs (λ k. same (suc k)))
-
-module _ (files : List PackageFile) (p : UnresolvedPackage) (legal : IsLegal files) (h : IsPackage files p.types p.interfaces p.worlds p.required_resource_types) where
-  abbrev interfaces : List Ordered
-  interfaces = h.own
-
-  abbrev worlds : List OrderedWorld
-  worlds = h.own_worlds
-
+module _ (files : List PackageFile) (places : List ℕ) (order : IsOrder (item_rows files) places) (unbroken : (f : Fault) → IsBrokenNames files f → ⊥) (start middle : List TypeDef) (prefix xs : List Interface) (wprefix : List World) (foreign : AddsForeign files start prefix wprefix) (irs wrs : List Required) (new : List TypeDef) (arena : List World) (inline : List Interface) (d : InterfacesDone files (interfaces_of (in_order (all_items files) places)) (worlds_of (in_order (all_items files) places)) prefix (interfaces_of (in_order (all_items files) places)) middle xs irs) (e : AreWorldsDone files (interfaces_of (in_order (all_items files) places)) (worlds_of (in_order (all_items files) places)) wprefix (prefix_scopes files prefix ++ d.scopes) (worlds_of (in_order (all_items files) places)) new arena inline wrs) where
   abbrev items : List Item
-  items = in_order (all_items files) h.ordered.places
+  items = in_order (all_items files) places
 
-  abbrev order : Item → List ℕ
-  order i = order_among (listed interfaces worlds) (address i)
+  abbrev is : List Item
+  is = interfaces_of items
+
+  abbrev ws : List Item
+  ws = worlds_of items
+
+  abbrev of : Item → List ℕ
+  of = item_order files
+
+  abbrev ks : List Key
+  ks = keys e.done.seen
 
   abbrev place : Key → ℕ
-  place k = position_or_len (λ (m : Occurrence). same_key k m.key) h.seen
+  place k = position_or_len (λ (m : Occurrence). same_key k m.key) e.done.seen
 
-  gives : GivesPlaces place (keys h.seen)
-  gives = gives_places same_key same_key_determines h.seen place (λ k. refl) h.occurrence.once
+  gives : GivesPlaces place ks
+  gives = gives_places same_key same_key_determines e.done.seen place (λ k. refl) e.done.occurrence.once
 
-  -- the scopes of interfaces and worlds, as they are stated here and there
-  abbrev ss : List Address
-  ss = interface_addresses files (interfaces ++ all_inside worlds)
+  -- what occurred in the interfaces, and of other packages, occurred
+  interfaces_extended : Extended (keys d.done.seen) ks
+  interfaces_extended = collects_longer (all_occurrences files (map (item_turn files) is)) (occurrences (flat_map (world_turns files) ws)) [] d.done.seen e.done.seen d.done.collects (subst (λ (l : List Occurrence). Collects [] l e.done.seen) (turns_occurrences files (map (item_turn files) is) (flat_map (world_turns files) ws)) e.done.collects)
 
-  abbrev ws : List Address
-  ws = world_addresses files worlds
+  foreign_extended : Extended (keys (map foreign_use_occurrence (first_foreign_uses files))) ks
+  foreign_extended = collects_longer (map foreign_use_occurrence (foreign_uses files)) (occurrences (all_turns files is ws)) [] (map foreign_use_occurrence (first_foreign_uses files)) e.done.seen (foreign_uses_seen files) e.done.collects
 
-  ss_are : ss ≡ interface_scopes files items
-  ss_are = interface_scopes_are files legal interfaces worlds h.ordered
-
-  ws_are : ws ≡ world_scopes files items
-  ws_are = world_scopes_are files legal interfaces worlds h.ordered
-
-  ss_placed : GivesPlaces (scope_place (interface_scopes files items)) (interface_scopes files items)
-  ss_placed = scopes_placed (interface_scopes files items) (interface_scopes-differ files legal items (items_in_order files legal interfaces worlds h.ordered))
-
-  ws_placed : GivesPlaces (scope_place (world_scopes files items)) (world_scopes files items)
-  ws_placed = scopes_placed (world_scopes files items) (world_scopes-differ files legal items (items_in_order files legal interfaces worlds h.ordered))
-
-  turns_are : all_turns interfaces worlds ≡ item_turns order items
-  turns_are = all_turns_stated files legal interfaces worlds h.ordered
-
-  types_made : (n : ℕ) (m : Occurrence) (e : TypeDef) → slice_get h.seen n ≡ Some m → slice_get p.types n ≡ Some e
-      → IsEntryOf (scope files) (owner_at (interface_scopes files items) (world_scopes files items)) place (take n p.types) m.key m.span m.given e
-  types_made n m e at_m at_e =
-      let as_stated = h.occurrence.each n m e at_m at_e place (gives_used place (keys h.seen) gives n) in
-      subst (λ (l : List Address). IsEntryOf (scope files) (owner_at (interface_scopes files items) l) place (take n p.types) m.key m.span m.given e) ws_are
-      (subst (λ (l : List Address). IsEntryOf (scope files) (owner_at l ws) place (take n p.types) m.key m.span m.given e) ss_are as_stated)
-
-  interfaces_made : p.interfaces ≡ map (foreign_interface files place) (foreign_interfaces files) ++ map (own_interface place order) (own_interfaces items)
+  interfaces_made : (prefix ++ xs) ++ inline ≡ map (foreign_interface files place) (foreign_interfaces files) ++ map (own_interface place of) (own_interfaces items)
   interfaces_made =
-      let os = interfaces ++ all_inside worlds in
-      h.interfaces place gives
-      ∙ ap (λ (l : List Interface). map (foreign_interface files place) (foreign_interfaces files) ++ l) (
-      maps_alike (ordered_interface place) (λ (o : Ordered). own_interface place order o.item) os (λ k o at. ap (λ (l : List ℕ). own_interface place (λ i. l) o.item) (interfaces_stated files legal interfaces worlds h.ordered k o at))
-      ∙ sym (map_map (own_interface place order) item_of os)
-      ∙ ap (map (own_interface place order)) (own_interfaces_are files legal interfaces worlds h.ordered))
+      let others = map (foreign_interface files place) (foreign_interfaces files) in
+      append_assoc prefix xs inline
+      ∙ ap (λ (l : List Interface). l ++ (xs ++ inline)) (foreign.interfaces place (gives_fewer foreign_extended place gives))
+      ∙ ap (λ (l : List Interface). others ++ (l ++ inline)) (d.made place (gives_fewer interfaces_extended place gives))
+      ∙ ap (λ (l : List Interface). others ++ (map (own_interface place of) is ++ l)) (e.inside_made place gives)
+      ∙ ap (λ (l : List Interface). others ++ l) (sym (map-append (own_interface place of) is (flat_map inline_items ws)))
 
-  worlds_made : p.worlds ≡ map foreign_world (foreign_worlds files) ++ map (own_world place order (interface_scopes files items) (world_scopes files items)) (worlds_of items)
+  worlds_made : arena ≡ map foreign_world (foreign_worlds files) ++ map (own_world place of (interface_scopes files items) (world_scopes files items)) ws
   worlds_made =
-      let is = interface_scopes files items in
-      let vs = world_scopes files items in
-      h.worlds place gives is vs (subst (GivesPlaces (scope_place is)) (sym ss_are) ss_placed) (subst (GivesPlaces (scope_place vs)) (sym ws_are) ws_placed)
-      ∙ ap (λ (l : List World). map foreign_world (foreign_worlds files) ++ l) (
-      maps_alike (ordered_world place is vs) (λ (o : OrderedWorld). own_world place order is vs o.own.item) worlds (λ k o at. ap (λ (l : List ℕ). own_world place (λ i. l) is vs o.own.item) (stated_world files legal interfaces worlds h.ordered k o at).own)
-      ∙ sym (map_map (own_world place order is vs) own_item worlds)
-      ∙ ap (map (own_world place order is vs)) h.ordered.all_worlds)
+      let differ = all_addresses files is ws (interfaces_sort items) (worlds_sort items) (are_interfaces files places order (distinct_items files unbroken)) (are_worlds files places order (distinct_items files unbroken)) in
+      e.arena
+      ∙ ap (λ (l : List World). l ++ e.own) foreign.worlds
+      ∙ ap (λ (l : List World). map foreign_world (foreign_worlds files) ++ l) (e.made place gives (interface_scopes files items) (world_scopes files items) (scopes_placed (interface_scopes files items) differ.interfaces) (scopes_placed (world_scopes files items) differ.worlds))
 
-  pub made_of_package : option_map package_of (last_header files) ≡ Some p.name → option_map (λ (h : Header). h.span) (last_header files) ≡ Some p.name_span → p.docs ≡ first_docs (headers files) → NamesOthers files p → Makes files p
-  made_of_package name span docs others = record {
+  types_made : (n : ℕ) (m : Occurrence) (t : TypeDef) → slice_get e.done.seen n ≡ Some m → slice_get new n ≡ Some t → IsEntryOf (scope files) (owner_at (interface_scopes files items) (world_scopes files items)) place (take n new) m.key m.span m.given t
+  types_made n m t at_m at_t = e.done.occurrence.each n m t at_m at_t place (gives_used place ks gives n)
+
+  -- as it is resolved
+  turns_are : all_turns files is ws ≡ item_turns of items
+  turns_are = ap (λ f. map (item_turn files) is ++ flat_map f ws) (sym (fun_ext (λ (i : Item). turns_walked i of)))
+
+  -- what their handles require of other packages
+  required_made : AreRequired files ks (flat_map turn_handles (item_turns of items)) (irs ++ wrs)
+  required_made =
+      let own = map (item_turn files) is in
+      let turns = flat_map (world_turns files) ws in
+      subst (λ ts. AreRequired files ks (flat_map turn_handles ts) (irs ++ wrs)) turns_are (subst (λ (hs : List (Address × Id)). AreRequired files ks hs (irs ++ wrs)) (sym (flat_map-append turn_handles own turns)) (required_append files ks (flat_map turn_handles own) (flat_map turn_handles turns) irs wrs (required_extended files interfaces_extended (flat_map turn_handles own) irs d.required) e.required))
+
+  abbrev all : List Item
+  all = own_interfaces items ++ worlds_of items
+
+  -- each scope of files is that of one: of a declared item, or of an interface that is written in a world
+  declared_listed : (i : Item) → Contains (all_items files) i → (k : ℕ) × (slice_get all k ≡ Some i)
+  declared_listed i among =
+      let p = at_contains (all_items files) i among in
+      let t = item_index files places order p.0 i p.1 in
+      elim (cases_Bool (is_world i)) [
+        | inl world ↦ (let k = kept_has is_world items t.0 i world t.2 in (length (own_interfaces items) + k.0, at_back (own_interfaces items) (worlds_of items) k.0 i k.1))
+        | inr other ↦ (
+            let k = kept_has (λ (v : Item). not (is_world v)) items t.0 i (ap not other) t.2 in
+            (k.0, at_prefix (own_interfaces items) (worlds_of items) k.0 i (at_prefix (interfaces_of items) (flat_map inline_items (worlds_of items)) k.0 i k.1)))
+      ]
+
+  inside_listed : (w i : Item) → Contains (all_items files) w → Contains (inline_items w) i → (k : ℕ) × (slice_get all k ≡ Some i)
+  inside_listed w i among inside =
+      let p = at_contains (all_items files) w among in
+      let t = item_index files places order p.0 w p.1 in
+      let j = at_contains (inline_items w) i inside in
+      elim (cases_Bool (is_world w)) [
+        | inl world ↦ (
+            let k = kept_has is_world items t.0 w world t.2 in
+            let n = flat_map_has inline_items (worlds_of items) k.0 j.0 w i k.1 j.1 in
+            (length (interfaces_of items) + n.0, at_prefix (own_interfaces items) (worlds_of items) (length (interfaces_of items) + n.0) i (at_back (interfaces_of items) (flat_map inline_items (worlds_of items)) n.0 i n.1)))
+        | inr other ↦ absurd (let none : slice_get [] j.0 ≡ Some i = ap (λ (l : List Item). slice_get l j.0) (sym (inline_items_none w other)) ∙ j.1 in let f : ⊥ = cc in f)
+      ]
+
+  scope_listed : (i : Item) → Contains (all_scopes files) i → (k : ℕ) × (slice_get all k ≡ Some i)
+  scope_listed i among = elim (scopes_either files i among) [
+    | inl own ↦ declared_listed i own
+    | inr it ↦ inside_listed it.0 i it.1 it.2
+  ]
+
+  -- so its names are in the order
+  names_in_order : (i : Item) → Contains (all_scopes files) i → IsOrder (rows_of (scope_names i)) (of i)
+  names_in_order i among =
+      let k = scope_listed i among in
+      elim (at_split (own_interfaces items) ws k.0 i k.1) [
+        | inl own ↦ elim (at_split is (flat_map inline_items ws) k.0 i own) [
+          | inl declared ↦ d.laid.least k.0 i declared
+          | inr inside ↦ e.inside_least inside.0 i inside.2
+        ]
+        | inr world ↦ e.laid.least world.0 i world.2
+      ]
+
+  pub makes : (p : UnresolvedPackage) → p.types ≡ new → p.interfaces ≡ (prefix ++ xs) ++ inline → p.worlds ≡ arena → p.required_resource_types ≡ irs ++ wrs → option_map package_of (last_header files) ≡ Some p.name → option_map (λ (h : Header). h.span) (last_header files) ≡ Some p.name_span → p.docs ≡ first_docs (headers files) → NamesOthers files p → Makes files p
+  makes p types interfaces worlds required name span docs others = record {
     name = name;
     name_span = span;
     docs = docs;
@@ -94,19 +133,19 @@ module _ (files : List PackageFile) (p : UnresolvedPackage) (legal : IsLegal fil
     dep_spans = others.1;
     unknown = others.2;
     items = items;
-    in_order = items_in_order files legal interfaces worlds h.ordered;
-    order = order;
-    by_address = λ i j e. ap (order_among (listed interfaces worlds)) e;
-    names_in_order = names_in_order files legal interfaces worlds h.ordered;
+    in_order = (places, order, refl);
+    order = of;
+    by_address = λ i j same. ap (λ (s : Address). (order_of_rows (rows_of (scope files s))).0) same;
+    names_in_order = names_in_order;
     same = same_key;
     gives = same_key_determines;
-    seen = h.seen;
-    first = collects-firsts same_key same_key_determines (all_occurrences files (all_turns interfaces worlds)) h.seen h.first ∙ ap (λ ts. firsts (λ (a b : Occurrence). same_key a.key b.key) (all_occurrences files ts)) turns_are;
+    seen = e.done.seen;
+    first = collects-firsts same_key same_key_determines (all_occurrences files (all_turns files is ws)) e.done.seen e.done.collects ∙ ap (λ ts. firsts (λ (a b : Occurrence). same_key a.key b.key) (all_occurrences files ts)) turns_are;
     id = place;
     places = λ k. refl;
-    count = h.occurrence.count;
-    types = types_made;
-    interfaces = interfaces_made;
-    worlds = worlds_made;
-    required = subst (λ ts. AreRequired files (keys h.seen) (flat_map turn_handles ts) p.required_resource_types) turns_are h.required;
+    count = rw types e.done.occurrence.count;
+    types = rw types types_made;
+    interfaces = interfaces ∙ interfaces_made;
+    worlds = worlds ∙ worlds_made;
+    required = rw required required_made;
   }

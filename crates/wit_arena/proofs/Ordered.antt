@@ -1,6 +1,8 @@
--- Items with an order of their names, and what is resolved where all have one.
-use Rattle.std.proofs.Common.{◌≡◌, ℕ, List, [], ◌∷◌, ◌++◌, Some}
-use Rattle.wit_arena.proofs.Names.{Address, IsOrder, Item, PackageFile, ScopeName, SideFunction, SideInline, SideItem, SideLink, Turned, address, all_items, flat_map, foreign_interfaces, foreign_worlds, functions as item_functions, in_order, in_turn, inline_items, interfaces_of, item_rows, map, rows_of, scope_names, side_items, slice_get, visited, worlds_of}
+-- Items with an order of their names, the one that they have, and what is resolved in it.
+use Rattle.std.proofs.Common.{◌≡◌, ◌⊎◌, ℕ, List, [], ◌++◌, inl, inr, sym, subst}
+use Rattle.wit_arena.proofs.Names.{IsOrder, Item, PackageFile, Row, ScopeName, Turned, address, flat_map, functions as item_functions, in_turn, interface_turn, map, one_answer, rows_of, scope, scope_names}
+use Rattle.wit_graph.specs.Laws.{AreAccepted, AreRefused}
+use Rattle.wit_arena.proofs.Members.{walked_turns}
 
 -- an item, with an order of its names
 pub record Ordered : Type 0 where
@@ -14,49 +16,31 @@ ordered_names o = in_turn (scope_names o.item) o.order
 abbrev pub turned : Ordered → Turned
 turned o = record { address = address o.item; names = ordered_names o; functions = item_functions o.item }
 
--- a world, and the interfaces that are written in it, each with an order of its names
-pub record OrderedWorld : Type 0 where
-  pub own : Ordered
-  pub inside : List Ordered
+-- the least order of a table, where it has one
+chosen : (rs : List Row) → AreAccepted rs ⊎ AreRefused rs → (o : List ℕ) × ((p : List ℕ) → IsOrder rs p → o ≡ p)
+chosen rs (inl a) = (a.0, λ p h. (one_answer rs).one a.0 p a.1 h)
+chosen rs (inr r) = ([], λ p h. absurd ((one_answer rs).never_both (p, h) r))
 
--- what is on the sides of a world, one after another: its functions, each by itself, and the interfaces that are written there, whole
-abbrev pub side_turns : Address → List SideItem → List Ordered → List Turned
-side_turns s [] os = []
-side_turns s (SideFunction fn ∷ xs) os = record { address = s; names = []; functions = fn ∷ [] } ∷ side_turns s xs os
-side_turns s (SideLink link ∷ xs) os = side_turns s xs os
-side_turns s (SideInline x name items ∷ xs) [] = side_turns s xs []
-side_turns s (SideInline x name items ∷ xs) (o ∷ os) = turned o ∷ side_turns s xs os
+pub order_of_rows : (rs : List Row) → (o : List ℕ) × ((p : List ℕ) → IsOrder rs p → o ≡ p)
+order_of_rows rs = chosen rs (one_answer rs).either
 
--- a world, as it is resolved: its names, and then what is on its sides
-abbrev pub world_turns : OrderedWorld → List Turned
-world_turns w = record { address = address w.own.item; names = ordered_names w.own; functions = [] } ∷ side_turns (address w.own.item) (side_items w.own.item) w.inside
+-- that of the names of an item, by its address
+abbrev pub item_order : List PackageFile → Item → List ℕ
+item_order files i = (order_of_rows (rows_of (scope files (address i)))).0
 
--- interfaces and then worlds, as they are resolved
-abbrev pub all_turns : List Ordered → List OrderedWorld → List Turned
-all_turns is ws = map turned is ++ flat_map world_turns ws
+pub item_order_is : (files : List PackageFile) (i : Item) (o : List ℕ) → scope files (address i) ≡ scope_names i → IsOrder (rows_of (scope_names i)) o → item_order files i ≡ o
+item_order_is files i o same least = (order_of_rows (rows_of (scope files (address i)))).1 o (subst (λ (xs : List ScopeName). IsOrder (rows_of xs) o) (sym same) least)
 
--- the interfaces that are written in worlds
-abbrev pub all_inside : List OrderedWorld → List Ordered
-all_inside ws = flat_map (λ w. w.inside) ws
+-- an item, as it is resolved
+abbrev pub in_its_order : List PackageFile → Item → Ordered
+in_its_order files i = record { item = i; order = item_order files i }
 
--- These are the interfaces and the worlds of files in the order of their table, each world with the interfaces that are written in it, and
--- each with the order of the table of its names.
-pub record AreOrdered (files : List PackageFile) (interfaces : List Ordered) (worlds : List OrderedWorld) : Type 0 where
-  pub places : List ℕ
-  pub item_order : IsOrder (item_rows files) places
-  pub all_interfaces : map (λ o. o.item) interfaces ≡ interfaces_of (in_order (all_items files) places)
-  pub all_worlds : map (λ w. w.own.item) worlds ≡ worlds_of (in_order (all_items files) places)
-  pub inside : (t : ℕ) (w : OrderedWorld) → slice_get worlds t ≡ Some w → map (λ o. o.item) w.inside ≡ inline_items w.own.item
-  pub least : (t : ℕ) (o : Ordered) → slice_get (interfaces ++ (map (λ w. w.own) worlds ++ all_inside worlds)) t ≡ Some o → IsOrder (rows_of (scope_names o.item)) o.order
+abbrev pub item_turn : List PackageFile → Item → Turned
+item_turn files i = interface_turn (item_order files) i
 
--- the addresses of items
-abbrev pub addresses : List Ordered → List Address
-addresses os = map (λ o. address o.item) os
+-- a world, and interfaces and then worlds
+abbrev pub world_turns : List PackageFile → Item → List Turned
+world_turns files w = walked_turns (item_order files) w
 
--- the addresses of other packages' interfaces, and of these
-abbrev pub interface_addresses : List PackageFile → List Ordered → List Address
-interface_addresses files os = map visited (foreign_interfaces files) ++ addresses os
-
--- the addresses of other packages' worlds, and of these
-abbrev pub world_addresses : List PackageFile → List OrderedWorld → List Address
-world_addresses files ws = map visited (foreign_worlds files) ++ map (λ w. address w.own.item) ws
+abbrev pub all_turns : List PackageFile → List Item → List Item → List Turned
+all_turns files is ws = map (item_turn files) is ++ flat_map (world_turns files) ws

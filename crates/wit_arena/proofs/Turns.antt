@@ -1,12 +1,9 @@
 -- Words for what the definitions of occurrences, of turns and of kinds say in place.
 use Rattle.wit_arena.proofs.Names.{Address, ForeignVisit, FuncForm, FunctionKind, Item, List, Occurrence, PackageFile, ScopeName, SourceFunction, Turned, [], about_name, flat_map, kinds_of, name_occurrences, scope, shapes_occurrences, turn_occurrences, unwrap_or, visited, ℕ, ◌∷◌}
-use Rattle.wit_arena.proofs.Ordered.{Ordered, OrderedWorld}
+use Rattle.wit_arena.proofs.Ordered.{Ordered}
 
 abbrev pub item_of : Ordered → Item
 item_of o = o.item
-
-abbrev pub own_item : OrderedWorld → Item
-own_item w = w.own.item
 
 -- the names of a scope, and a function of it, each by itself
 abbrev pub names_turn : Address → List ScopeName → Turned

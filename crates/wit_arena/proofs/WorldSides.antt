@@ -1,17 +1,17 @@
 -- The names of a world that comes next, and what is on its sides, after interfaces and worlds that are done.
 use Rattle.std.proofs.Common.{◌≡◌, ℕ, ◌+◌, true, false, List, [], ◌∷◌, ◌++◌, length, map, Some, inl, inr, sym, ap, ◌∙◌, subst, append_assoc, arith, length-append, refl}
-use Rattle.wit_arena.proofs.Names.{Address, AddsForeign, AddsScope, AddsSides, Function, FunctionKey, Interface, Item, Names, Occurrence, PackageFile, Required, ResolvedScope, ScopeName, SideItem, Turned, TypeDef, TypeOwner, World, WorldNamed, address, all_items, all_occurrences, append-nil, at_back, at_either, at_part, at_prefix, at_seam, differ_at, differ_by, flat_map, flat_map-append, foreign_interfaces, foreign_worlds, in_turn, inline_inside, inline_items, inline_items_differ, inside_one, interfaces_at, is_inside, length-map, map-append, map_at, option_map, resolved_scopes, scope, scope_names, slice_get, slice_get-map, slice_get_within, visited, worlds_at, AreNames, Extends, env_of, keys, local_names, names_in}
+use Rattle.wit_arena.proofs.Names.{Address, AddsForeign, AddsScope, AddsSides, Function, FunctionKey, Interface, Item, Names, Occurrence, PackageFile, Required, ResolvedScope, ScopeName, SideItem, Turned, TypeDef, TypeOwner, World, WorldNamed, address, all_items, all_occurrences, append-nil, at_back, at_either, at_part, at_prefix, at_seam, differ_at, differ_by, flat_map, flat_map-append, foreign_interfaces, foreign_worlds, in_turn, inline_inside, inline_items, inline_items_differ, inside_one, interfaces_at, is_inside, length-map, map-append, map_at, option_map, resolved_scopes, scope, scope_names, slice_get, slice_get-map, slice_get_within, visited, worlds_at, AreNames, Extends, env_of, keys, local_names, names_in, own_interface}
 use Rattle.wit_arena.proofs.Visits.{AreUsableUses}
-use Rattle.wit_arena.proofs.Ordered.{all_turns, all_inside, turned}
-use Rattle.wit_arena.proofs.DoneWorlds.{InterfacesDone, WorldOwner, inside_of, interface_list, world_list, decls, prefix_apart, resolved_scopes_among, next_world, inline_declared, world_item_declared, scopes_of, all_within, own_order, AreWorldsDone, prefix_longer, flat_map_longer, scope_either, ordered_interface}
+use Rattle.wit_arena.proofs.Ordered.{all_turns, item_order, item_turn}
+use Rattle.wit_arena.proofs.DoneWorlds.{InterfacesDone, WorldOwner, inside_of, interface_list, world_list, decls, prefix_apart, resolved_scopes_among, next_world, inline_declared, world_item_declared, scopes_of, all_within, AreWorldsDone, prefix_longer, flat_map_longer, scope_either}
 use Rattle.wit_arena.proofs.Sided.{AreSided, IsFreshInside, are_sided}
 use Rattle.wit_arena.proofs.DoneNames.{are_known, are_new, are_owned, none_named, scope_done}
 use Rattle.wit_arena.proofs.Prefix.{prefix_scopes, interfaces_count, worlds_count}
 use Rattle.wit_arena.proofs.Indexing.{interfaces_at-append, worlds_at-append}
 use Rattle.wit_arena.proofs.Interfaces.{AreItems, AreOfSort, item_scopes, inline_scopes, scope_of, items_declared, interface_address, world_address}
-use Rattle.wit_arena.proofs.ScopesInTurn.{laid_scope, laid_addresses, laid_place, ordered_at, ordered_addresses, none_is_next, in_turn_is}
+use Rattle.wit_arena.proofs.ScopesInTurn.{laid_scope, laid_addresses, laid_place, ordered_at, none_is_next, in_turn_is}
 use Rattle.wit_arena.proofs.Resolving.{DoneScope, resolved_scope_of, IsTurn, IsDone, turn_of}
-use Rattle.wit_arena.proofs.Turns.{item_of, own_item, all_name_occurrences}
+use Rattle.wit_arena.proofs.Turns.{all_name_occurrences}
 use Rattle.wit_arena.proofs.Placing.{gives_in, place_in}
 use Rattle.wit_arena.proofs.DefinitionPart.{name_seen_in}
 use Rattle.wit_types.specs.declared.types.TypeOwner.TheVariants as owner
@@ -32,26 +32,25 @@ module _ (files : List PackageFile) (is ws : List Item) (interfaces : AreOfSort 
 
   -- the first worlds are done, after all interfaces
   abbrev pub WorldsDone : List Item → List TypeDef → List World → List Interface → List Required → Type 0
-  WorldsDone us new arena inline rs = AreWorldsDone files is ws wprefix d.ordered before us new arena inline rs
+  WorldsDone us new arena inline rs = AreWorldsDone files is ws wprefix before us new arena inline rs
 
   -- as many interfaces come first as other packages have, and as many after as are declared
   long_prefix : length (prefix ++ xs) ≡ length ss + length is
   long_prefix =
       let ahead : length prefix ≡ length ss = interfaces_count foreign ∙ sym (length-map (foreign_interfaces files) visited) in
-      let own : length xs ≡ length is = d.laid.count ∙ sym (length-map d.ordered item_of) ∙ ap length d.all in
-      length-append prefix xs ∙ ap (λ n. n + length xs) ahead ∙ ap (λ n. length ss + n) own
+      length-append prefix xs ∙ ap (λ n. n + length xs) ahead ∙ ap (λ n. length ss + n) d.laid.count
 
   -- the addresses of all interfaces
   interface_names : interfaces_at ss (prefix ++ xs) ≡ ss ++ map address is
-  interface_names = interfaces_at-append ss prefix xs (interfaces_count foreign ∙ sym (length-map (foreign_interfaces files) visited)) ∙ ap (λ (l : List Address). ss ++ l) (laid_addresses d.laid ∙ sym (ordered_addresses d.ordered is d.all))
+  interface_names = interfaces_at-append ss prefix xs (interfaces_count foreign ∙ sym (length-map (foreign_interfaces files) visited)) ∙ ap (λ (l : List Address). ss ++ l) (laid_addresses d.laid)
 
   -- no scope of an interface is written in a world, and none is a world's
   interface_outside : (k : ℕ) (c : DoneScope) → slice_get d.scopes k ≡ Some c → (is_inside c.address ≡ false) × ((name : List ℕ) → c.address ≡ WorldNamed name → ⊥)
   interface_outside k c at =
       let o = ordered_at d.laid k c at in
       let there = d.laid.prefix k o.0 o.1 in
-      let here : address o.0.item ≡ c.address = ap (λ (x : Turned). x.address) o.2 in
-      let called = interface_address files is is_items k o.0.item there (interfaces.each k o.0.item there) in (
+      let here : address o.0 ≡ c.address = ap (λ (x : Turned). x.address) o.2 in
+      let called = interface_address files is is_items k o.0 there (interfaces.each k o.0 there) in (
         ap is_inside (sym here) ∙ ap is_inside called,
         λ name same. (
             let wrong = sym called ∙ here ∙ same in
@@ -74,23 +73,15 @@ module _ (files : List PackageFile) (is ws : List Item) (interfaces : AreOfSort 
     first = before ++ flat_map scopes_of e.scopes
 
     abbrev written : List Occurrence
-    written = all_occurrences files (all_turns d.ordered e.ordered)
-
-    pub place : length (map own_order e.ordered) ≡ length us
-    place = length-map e.ordered own_order ∙ sym (length-map e.ordered own_item) ∙ ap length e.all
-
-    own_place : length e.own ≡ length us
-    own_place = e.laid.count ∙ place
+    written = all_occurrences files (all_turns files is us)
 
     at_own : slice_get ws (length e.own) ≡ Some w
-    at_own = ap (slice_get ws) own_place ∙ next
+    at_own = ap (slice_get ws) e.laid.count ∙ next
 
     -- the worlds so far are the first
     us_prefix : (k : ℕ) (v : Item) → slice_get (us ++ w ∷ []) k ≡ Some v → slice_get ws k ≡ Some v
     us_prefix k v at = elim (at_either us w k v at) [
-      | inl h ↦ (
-          let o = map_at own_item e.ordered k v (ap (λ (l : List Item). slice_get l k) e.all ∙ h) in
-          e.laid.prefix k (own_order o.0) (slice_get-map own_order e.ordered k ∙ ap (option_map own_order) o.1) ∙ ap Some o.2)
+      | inl h ↦ e.laid.prefix k v h
       | inr h ↦ ap (slice_get ws) h.0 ∙ next ∙ ap Some (sym h.1)
     ]
 
@@ -111,7 +102,7 @@ module _ (files : List PackageFile) (is ws : List Item) (interfaces : AreOfSort 
     pub count_inside : length inline ≡ length (inside_of us)
     count_inside =
         let id = place_in (keys e.done.seen) 0 in
-        ap length (e.inside_made id (gives_in (keys e.done.seen) 0 e.done.occurrence.once)) ∙ length-map (all_inside e.ordered) (ordered_interface id) ∙ sym (length-map (all_inside e.ordered) item_of) ∙ ap length e.inside
+        ap length (e.inside_made id (gives_in (keys e.done.seen) 0 e.done.occurrence.once)) ∙ length-map (inside_of us) (own_interface id (item_order files))
 
     -- where the next interface that is written in a world is
     pub next_place : length (prefix ++ xs) + length inline ≡ length ss + (length is + length (inside_of us))
@@ -120,15 +111,15 @@ module _ (files : List PackageFile) (is ws : List Item) (interfaces : AreOfSort 
     -- the item of a scope that is written in a world
     within_item : (k : ℕ) (c : DoneScope) → slice_get (all_within e.scopes) k ≡ Some c → (i : Item) × (slice_get (inside_of us) k ≡ Some i) × (c.address ≡ address i)
     within_item k c at =
-        let o = map_at turned (all_inside e.ordered) k (turn_of c) (ap (λ (l : List Turned). slice_get l k) (sym e.inside_turns) ∙ slice_get-map turn_of (all_within e.scopes) k ∙ ap (option_map turn_of) at) in
-        (o.0.item, ap (λ (l : List Item). slice_get l k) (sym e.inside) ∙ slice_get-map item_of (all_inside e.ordered) k ∙ ap (option_map item_of) o.1, sym (ap (λ (x : Turned). x.address) o.2))
+        let o = map_at (item_turn files) (inside_of us) k (turn_of c) (ap (λ (l : List Turned). slice_get l k) (sym e.inside_turns) ∙ slice_get-map turn_of (all_within e.scopes) k ∙ ap (option_map turn_of) at) in
+        (o.0, o.1, sym (ap (λ (x : Turned). x.address) o.2))
 
     -- the scope of this world is none of those before
     pub world_fresh : (k : ℕ) (c : DoneScope) → slice_get first k ≡ Some c → c.address ≡ s → ⊥
     world_fresh k c at same = elim (at_part before (flat_map scopes_of e.scopes) k c at) [
       | inl h ↦ world_apart (length us) w next h.0 c h.1 same
       | inr h ↦ elim (scope_either e.scopes h.0 c h.1) [
-        | inl own ↦ none_is_next e.laid (item_scopes files ws ws_items).unique w (ap (slice_get ws) place ∙ next) own.0 c own.1 same
+        | inl own ↦ none_is_next e.laid (item_scopes files ws ws_items).unique w next own.0 c own.1 same
         | inr far ↦ (
             let i = within_item far.0 c far.1 in
             let inner = inside_one ws far.0 i.0 (earlier_inside far.0 i.0 i.1) in
@@ -151,7 +142,7 @@ module _ (files : List PackageFile) (is ws : List Item) (interfaces : AreOfSort 
           | inr h ↦ elim (scope_either e.scopes h.0 c h.1) [
             | inl own ↦ (
                 let o = ordered_at e.laid own.0 c own.1 in
-                outer (ap is_inside (sym (ap (λ (x : Turned). x.address) o.2)) ∙ items_declared files ws ws_items own.0 o.0.item (e.laid.prefix own.0 o.0 o.1)))
+                outer (ap is_inside (sym (ap (λ (x : Turned). x.address) o.2)) ∙ items_declared files ws ws_items own.0 o.0 (e.laid.prefix own.0 o.0 o.1)))
             | inr far ↦ (
                 let j = within_item far.0 c far.1 in
                 let lt = slice_get_within (inside_of us) far.0 j.0 j.1 in

@@ -1,6 +1,6 @@
 -- Where names in handles end in an arena, they end by files in so many steps: also once some names of the next interface or world, or of what is written in it, were added.
 use Rattle.std.proofs.Common.{◌≡◌, ℕ, zero, suc, ◌<◌, List, [], ◌∷◌, ◌++◌, take, Option, Some, None, inl, inr, refl, sym, ap, ◌∙◌, arith, true, false, length, map, subst, ◌+◌}
-use Rattle.wit_contents.proofs.Names.{Address, AddsForeign, AddsScope, AddsSides, AliasForm, AreDistinct, AreItems, AreNames, AreOfSort, AreOwned, AreUsableUses, AreWorldsDone, AtForeign, AtResource, Decls, Def, Defines, DoneScope, Elsewhere, EndIs, EndsAt, EndsInTurn, EntryEnd, Env, Extends, Form, Function, Id, Interface, InterfacesDone, IsDeclared, IsOrder, IsOther, IsOutcome, IsResource, IsUnknown, Names, Occurrence, Outcome, PackageFile, Required, ResolvedScope, ResourceForm, ScopeName, SideItem, Turned, TypeDef, TypeOwner, UnknownForm, Word, World, address, all_items, all_name_occurrences, all_occurrences, all_turns, at_part, at_prefix, at_seam, at_take, cases_lt, collects_from, decls, differ_at, differ_by, end_fault as walk_fault, end_source-more, entry_end, env_of, flat_map, foreign_interfaces, found_end, handle_fault, in_turn, in_turn_among, in_turn_distinct, inline_items, inline_items_differ, item_of, keys, kind_end, kind_of, local_name, local_names, map-append, map_at, name_seen_in, names_in, option_cases, option_map, part_end, prefix_scopes, resolved_scope_of, resolved_scopes, rows_of, scope, scope_names, scopes_of, shape_end, slice_get, slice_get-map, turned, visited, done_declared, IsOccurrence}
+use Rattle.wit_contents.proofs.Names.{Address, AddsForeign, AddsScope, AddsSides, AliasForm, AreDistinct, AreItems, AreNames, AreOfSort, AreOwned, AreUsableUses, AreWorldsDone, AtForeign, AtResource, Decls, Def, Defines, DoneScope, Elsewhere, EndIs, EndsAt, EndsInTurn, EntryEnd, Env, Extends, Form, Function, Id, Interface, InterfacesDone, IsDeclared, IsOrder, IsOther, IsOutcome, IsResource, IsUnknown, Names, Occurrence, Outcome, PackageFile, Required, ResolvedScope, ResourceForm, ScopeName, SideItem, Turned, TypeDef, TypeOwner, UnknownForm, Word, World, address, all_items, all_name_occurrences, all_occurrences, at_part, at_prefix, at_seam, at_take, cases_lt, collects_from, decls, differ_at, differ_by, end_fault as walk_fault, end_source-more, entry_end, env_of, flat_map, foreign_interfaces, found_end, handle_fault, in_turn, in_turn_among, in_turn_distinct, inline_items, inline_items_differ, keys, kind_end, kind_of, local_name, local_names, map-append, map_at, name_seen_in, names_in, option_cases, option_map, part_end, prefix_scopes, resolved_scope_of, resolved_scopes, rows_of, scope, scope_names, scopes_of, shape_end, slice_get, slice_get-map, visited, done_declared, IsOccurrence}
 use Rattle.wit_walk.proofs.Common.{End}
 use Rattle.wit_arena.proofs.Common.{Item}
 use Rattle.wit_types.specs.declared.types.«Type».{«Type» as Ty}
@@ -15,6 +15,7 @@ use Rattle.wit_arena.proofs.WorldSides.{fresh_inside, names_done, sides_done, wo
 use Rattle.wit_types.specs.declared.types.«Type».TheVariants as type
 use Rattle.wit_types.specs.declared.types.TypeOwner.TheVariants as owner
 use Rattle.wit_arena.proofs.WorldSides as done
+use Rattle.wit_arena.proofs.Ordered.{all_turns, item_turn}
 
 -- each part has an end, and so has what is made of them
 module _ (ends : ℕ → Option EntryEnd) (all : (j : ℕ) → (e : EntryEnd) × (ends j ≡ Some e)) where
@@ -129,10 +130,10 @@ module _ (files : List PackageFile) (is ws : List Item) (interfaces : AreOfSort 
   -- an interface that comes next, after those of other packages and some of this one
   module _ (us : List Item) (old : List TypeDef) (xs : List Interface) (rs : List Required) (w : Item) (there : slice_get is (length us) ≡ Some w) (d : InterfacesDone files is ws prefix us old xs rs) where
     pub interface_ends : (outcome : Outcome) → IsOutcome (rows_of (scope_names w)) outcome → (steps : ℕ) → IsEnough files steps (address w) → EndsInTurn (resolved_scopes fore (prefix ++ xs)) (owner.Interface (length (prefix ++ xs))) old (scope_names w) outcome (handle_fault files steps (address w))
-    interface_ends = reached_ends files (decls files is ws) (all_occurrences files (map turned d.ordered)) (prefix_scopes files prefix ++ d.scopes) old d.done w (owner.Interface (length (prefix ++ xs))) (interface_fresh files is ws interfaces worlds is_items ws_items uses es prefix wprefix foreign us old xs rs w there d) (interface_owned files is ws interfaces worlds is_items ws_items uses es prefix wprefix foreign us old xs rs w there d) (interface_scoped files is ws interfaces worlds is_items ws_items uses es prefix wprefix foreign us old xs rs w there d) (resolved_scopes fore (prefix ++ xs)) (interface_among files is ws interfaces worlds is_items ws_items uses es prefix wprefix foreign us old xs rs w there d)
+    interface_ends = reached_ends files (decls files is ws) (all_occurrences files (map (item_turn files) us)) (prefix_scopes files prefix ++ d.scopes) old d.done w (owner.Interface (length (prefix ++ xs))) (interface_fresh files is ws interfaces worlds is_items ws_items uses es prefix wprefix foreign us old xs rs w there d) (interface_owned files is ws interfaces worlds is_items ws_items uses es prefix wprefix foreign us old xs rs w there d) (interface_scoped files is ws interfaces worlds is_items ws_items uses es prefix wprefix foreign us old xs rs w there d) (resolved_scopes fore (prefix ++ xs)) (interface_among files is ws interfaces worlds is_items ws_items uses es prefix wprefix foreign us old xs rs w there d)
 
   -- a world that comes next, after all interfaces and some worlds
-  module _ (middle : List TypeDef) (xs : List Interface) (irs : List Required) (d : InterfacesDone files is ws prefix is middle xs irs) (us : List Item) (old : List TypeDef) (arena : List World) (inline : List Interface) (qs : List Required) (w : Item) (there : slice_get ws (length us) ≡ Some w) (e : AreWorldsDone files is ws wprefix d.ordered (prefix_scopes files prefix ++ d.scopes) us old arena inline qs) where
+  module _ (middle : List TypeDef) (xs : List Interface) (irs : List Required) (d : InterfacesDone files is ws prefix is middle xs irs) (us : List Item) (old : List TypeDef) (arena : List World) (inline : List Interface) (qs : List Required) (w : Item) (there : slice_get ws (length us) ≡ Some w) (e : AreWorldsDone files is ws wprefix (prefix_scopes files prefix ++ d.scopes) us old arena inline qs) where
     abbrev before : List DoneScope
     before = (prefix_scopes files prefix ++ d.scopes) ++ flat_map scopes_of e.scopes
 
@@ -140,7 +141,7 @@ module _ (files : List PackageFile) (is ws : List Item) (interfaces : AreOfSort 
     resolved = resolved_scopes fore (prefix ++ xs)
 
     abbrev written : List Occurrence
-    written = all_occurrences files (all_turns d.ordered e.ordered)
+    written = all_occurrences files (all_turns files is us)
 
     known_before : AreAmong resolved before
     known_before = done.known_before files is ws interfaces worlds is_items ws_items uses es prefix wprefix foreign middle xs irs d us old arena inline qs e w there
@@ -171,11 +172,11 @@ module _ (files : List PackageFile) (is ws : List Item) (interfaces : AreOfSort 
         -- what was written before it in this world is another one
         apart_inside : (t : ℕ) (b : DoneScope) → slice_get sided.scopes t ≡ Some b → b.address ≡ address inner → ⊥
         apart_inside t b at same =
-            let o = map_at turned sided.ordered t (turn_of b) (ap (λ (l : List Turned). slice_get l t) (sym sided.turns) ∙ slice_get-map turn_of sided.scopes t ∙ ap (option_map turn_of) at) in
-            let listed : slice_get inside_done t ≡ Some o.0.item = ap (λ (l : List Item). slice_get l t) (sym sided.items) ∙ at_prefix (map item_of sided.ordered) sided.left t o.0.item (slice_get-map item_of sided.ordered t ∙ ap (option_map item_of) o.1) in
-            let early = at_take (inline_items w) count t o.0.item (ap (λ (l : List Item). slice_get l t) (sym first) ∙ listed) in
-            let here : address o.0.item ≡ address inner = ap (λ (x : Turned). x.address) o.2 ∙ same in
-            let place = differ_at address (inline_items w) (inline_items_differ w) t count o.0.item inner early.0 next here in
+            let o = map_at (item_turn files) sided.items t (turn_of b) (ap (λ (l : List Turned). slice_get l t) (sym sided.turns) ∙ slice_get-map turn_of sided.scopes t ∙ ap (option_map turn_of) at) in
+            let listed : slice_get inside_done t ≡ Some o.0 = ap (λ (l : List Item). slice_get l t) (sym sided.first) ∙ at_prefix sided.items sided.left t o.0 o.1 in
+            let early = at_take (inline_items w) count t o.0 (ap (λ (l : List Item). slice_get l t) (sym first) ∙ listed) in
+            let here : address o.0 ≡ address inner = ap (λ (x : Turned). x.address) o.2 ∙ same in
+            let place = differ_at address (inline_items w) (inline_items_differ w) t count o.0 inner early.0 next here in
             let less = early.1 in
             omega (arith, place, less)
 

@@ -1,10 +1,11 @@
 -- Interfaces and worlds that are resolved say of used names and of includes what files do.
 use Rattle.std.proofs.Common.{◌≡◌, ℕ, ◌+◌, true, false, List, ◌++◌, length, map, Option, Some, None, ◌⊎◌, IsSome, inl, inr, refl, sym, ap, ◌∙◌, subst, arith, Contains, ◌<◌, zero, suc, Bool, [], ◌∷◌, take}
-use Rattle.wit_contents.proofs.Names.{Address, AddsForeign, AllDiffer, AreUsableUses, AreWorldsDone, Attribute, Def, DefinitionPart, DoneScope, ExternPart, Fault, Foreign, ForeignNamed, ForeignVisit, FunctionPart, Id, Include, IncludePart, Interface, InterfaceNamed, Interfaces, InterfacesDone, IsForeignUse, IsFound, IsNameIndex, IsNoWorld, IsOrder, IsPlaced, IsResolvedUse, Local, Names, Ordered, PackageFile, PackageName, Part, Required, ResolvedScope, ScopeName, Source as BorrowedSource, Target, Turned, TypeDef, UseName, UsePart, UsePath, Used, UsedName, World, WorldNamed, Worlds, address, all_declared, all_items, any_found, any_some, are_interfaces, are_worlds, at_back, at_contains, at_part, at_prefix, at_split, at_within, bytes_eq, cases_Bool, contains_at, env_of, find_passes, find_some, first_in, first_named, firsts_has, flat_map_at, flat_map_has, foreign_at, foreign_entry, foreign_interfaces, foreign_use_key, foreign_uses, foreign_worlds, free_functions, functions, if◌then◌else◌, in_order, include_fault, include_path, include_paths, included_fault, includes, interface_address, interface_there, interfaces, interfaces_at, is_foreign, is_none, is_world, is_world_at, item_at, item_name, item_named, item_of, item_rows, item_scopes, item_word, kept_early, keys, leads, length-map, list_any, local_name, lookup-place, lost_use, map_at, meaning, missing_at, name_equal, name_itself, named_at, named_within, needed_before, option_and_then, option_cases, option_map, option_map_or, option_or, ordered_at, own_declared, own_item, own_order, part_includes, parts, path_id, paths_of_world, prefix_resolved_scope, prefix_scopes, resolved_scope, resolved_scope_at, resolved_scope_of, resolved_scopes, resolved_scopes-append, same_address, same_address-equal, same_foreign_use, scope, scope_at, scope_names, scope_of, slice_get, slice_get-map, slice_get_within, some_of, source_target, source_view, stability_fault, unresolved_fault, unstated, use_fault, use_of_foreign, use_of_foreign-equal, use_of_foreign-from, use_view, used_listed, visited, visited_foreign, world_address, world_at, world_entry, world_list, world_missing, worlds, worlds_at, worlds_at-append, worlds_of, worlds_sort, interfaces_sort, lost_listed, source_place}
+use Rattle.wit_contents.proofs.Names.{Address, AddsForeign, AllDiffer, AreUsableUses, AreWorldsDone, Attribute, Def, DefinitionPart, DoneScope, ExternPart, Fault, Foreign, ForeignNamed, ForeignVisit, FunctionPart, Id, Include, IncludePart, Interface, InterfaceNamed, Interfaces, InterfacesDone, IsForeignUse, IsFound, IsNameIndex, IsNoWorld, IsOrder, IsPlaced, IsResolvedUse, Local, Names, PackageFile, PackageName, Part, Required, ResolvedScope, ScopeName, Source as BorrowedSource, Target, Turned, TypeDef, UseName, UsePart, UsePath, Used, UsedName, World, WorldNamed, Worlds, address, all_declared, all_items, any_found, any_some, are_interfaces, are_worlds, at_back, at_contains, at_part, at_prefix, at_split, at_within, bytes_eq, cases_Bool, contains_at, env_of, find_passes, find_some, first_in, first_named, firsts_has, flat_map_at, flat_map_has, foreign_at, foreign_entry, foreign_interfaces, foreign_use_key, foreign_uses, foreign_worlds, free_functions, functions, if◌then◌else◌, in_order, include_fault, include_path, include_paths, included_fault, includes, interface_address, interface_there, interfaces, interfaces_at, is_foreign, is_none, is_world, is_world_at, item_at, item_name, item_named, item_rows, item_scopes, item_word, kept_early, keys, leads, length-map, list_any, local_name, lookup-place, lost_use, map_at, meaning, missing_at, name_equal, name_itself, named_at, named_within, needed_before, option_and_then, option_cases, option_map, option_map_or, option_or, ordered_at, own_declared, part_includes, parts, path_id, paths_of_world, prefix_resolved_scope, prefix_scopes, resolved_scope, resolved_scope_at, resolved_scope_of, resolved_scopes, resolved_scopes-append, same_address, same_address-equal, same_foreign_use, scope, scope_at, scope_names, scope_of, slice_get, slice_get-map, slice_get_within, some_of, source_target, source_view, stability_fault, unresolved_fault, unstated, use_fault, use_of_foreign, use_of_foreign-equal, use_of_foreign-from, use_view, used_listed, visited, visited_foreign, world_address, world_at, world_entry, world_list, world_missing, worlds, worlds_at, worlds_at-append, worlds_of, worlds_sort, interfaces_sort, lost_listed, source_place}
 use Rattle.wit_arena.proofs.Common.{Imported, Item, by_name, functions_imported, interface_functions, map_map, placed, same_some, position_or_len, same_item, function_in, interfaces_count, worlds_count}
 use Rattle.wit_items.proofs.Common.{interface_fault}
 use Rattle.wit_arena.proofs.Placing.{gives_in, place_in}
-use Rattle.wit_arena.proofs.DoneWorlds.{ordered_interface}
+use Rattle.wit_arena.proofs.Ordered.{item_order}
+use Rattle.wit_arena.specs.Made.{own_interface}
 use Rattle.wit_arena.proofs.ScopesInTurn.{laid_addresses}
 use Rattle.wit_arena.proofs.Settled.{stated_placed}
 use Rattle.wit_arena.proofs.FreeNames.{free_keyed, free_of, AreStated, free_stated, stated_free, free_names}
@@ -87,8 +88,8 @@ module _ (files : List PackageFile) (places : List ℕ) (order : IsOrder (item_r
         let are = are_interfaces files places order differ in
         let e = map_at resolved_scope_of d.scopes j c (ap (λ (x : List ResolvedScope). slice_get x j) d.laid.types ∙ at) in
         let o = ordered_at d.laid j e.0 e.1 in
-        let v = o.0.item in
-        let there = d.laid.prefix j o.0 o.1 in
+        let v = o.0 in
+        let there = d.laid.prefix j v o.1 in
         let same : address v ≡ e.0.address = ap (λ (x : Turned). x.address) o.2 in
         let here : address v ≡ c.address = same ∙ ap (λ (x : ResolvedScope). x.address) e.2 in
         let names : scope_names v ≡ scope files e.0.address = sym (scope_of files is_items (item_scopes files is_items are) j v there) ∙ ap (scope files) same in
@@ -97,8 +98,8 @@ module _ (files : List PackageFile) (places : List ℕ) (order : IsOrder (item_r
         let done = d.done.each place e.0 e_at in
         let id = place_in (keys d.done.seen) 0 in
         let x = map_at resolved_scope own j c at in
-        let both = ap (λ (l : List Interface). slice_get l j) (d.made id (gives_in (keys d.done.seen) 0 d.done.occurrence.once)) ∙ slice_get-map (ordered_interface id) d.ordered j ∙ ap (option_map (ordered_interface id)) o.1 in
-        let is : x.0 ≡ ordered_interface id o.0 = same_some (sym x.1 ∙ both) in
+        let both = ap (λ (l : List Interface). slice_get l j) (d.made id (gives_in (keys d.done.seen) 0 d.done.occurrence.once)) ∙ slice_get-map (own_interface id (item_order files)) vs j ∙ ap (option_map (own_interface id (item_order files))) o.1 in
+        let is : x.0 ≡ own_interface id (item_order files) v = same_some (sym x.1 ∙ both) in
         let made = map (function_in id (address v)) (functions v) in
         let says : AreStated (functions v) made (interface_functions x.0) = stated_placed (functions v) made x.0 (functions_imported v ((interfaces_sort (in_order (all_items files) places)).each j v there)) (ap (λ (i : Interface). i.functions) is ∙ ap (placed Some) (sym (map_map by_name (function_in id (address v)) (functions v)))) in
         let present : free_of (interface_functions x.0) ≡ c.functions = free_keyed Imported x.0.functions ∙ ap (λ (y : ResolvedScope). y.functions) x.2 in
@@ -152,12 +153,11 @@ module _ (files : List PackageFile) (places : List ℕ) (order : IsOrder (item_r
       pub near_has : (from : Address) (name : List ℕ) → IsResolvedUse files places order differ vs from → from ≡ InterfaceNamed name → IsSome (env_of is.by_name name)
       near_has from name u same =
           let v = u.item in
-          let o = map_at item_of d.ordered u.place v (ap (λ (x : List Item). slice_get x u.place) d.all ∙ u.at) in
-          let c = scope_at d.laid u.place o.0 o.1 in
+          let c = scope_at d.laid u.place v u.at in
           let there : slice_get (map resolved_scope own) u.place ≡ Some (resolved_scope_of c.0) = ap (λ (x : List ResolvedScope). slice_get x u.place) (sym d.laid.types) ∙ slice_get-map resolved_scope_of d.scopes u.place ∙ ap (option_map resolved_scope_of) c.1 in
           let place = length (resolved_scopes ss prefix) + u.place in
-          let declared : address o.0.item ≡ InterfaceNamed (item_name o.0.item) = interface_address files is_items (are_interfaces files places order differ) u.place o.0.item (d.laid.prefix u.place o.0 o.1) (ap is_world o.2 ∙ u.sort) in
-          let called : c.0.address ≡ InterfaceNamed name = ap (λ (x : Turned). x.address) c.2 ∙ declared ∙ ap (λ (i : Item). InterfaceNamed (item_name i)) o.2 ∙ sym u.is ∙ same in
+          let declared : address v ≡ InterfaceNamed (item_name v) = interface_address files is_items (are_interfaces files places order differ) u.place v (d.laid.prefix u.place v u.at) u.sort in
+          let called : c.0.address ≡ InterfaceNamed name = ap (λ (x : Turned). x.address) c.2 ∙ declared ∙ sym u.is ∙ same in
           index.has place name (slice_get-map (λ (x : ResolvedScope). x.address) (resolved_scopes ss (prefix ++ own)) place ∙ ap (option_map (λ (x : ResolvedScope). x.address)) (ap (λ (x : List ResolvedScope). slice_get x place) (all_scopes_of own) ∙ at_back (resolved_scopes ss prefix) (map resolved_scope own) u.place (resolved_scope_of c.0) there) ∙ ap Some called)
 
       -- so the interface that a name comes from is resolved
@@ -216,7 +216,7 @@ include_part (UsePart u) j n at = absurd (cc)
 include_part (FunctionPart g) j n at = absurd (cc)
 include_part (ExternPart x) j n at = absurd (cc)
 
-module _ (files : List PackageFile) (places : List ℕ) (order : IsOrder (item_rows files) places) (differ : AllDiffer (map item_name (all_items files))) (es : List TypeDef) (prefix : List Interface) (wprefix : List World) (foreign : AddsForeign files es prefix wprefix) (k p : ℕ) (w : Item) (next : slice_get places k ≡ Some p) (at : slice_get (all_items files) p ≡ Some w) (sort : is_world w ≡ true) (base : List Ordered) (first : List DoneScope) (mid : List TypeDef) (arena : List World) (inline : List Interface) (rs : List Required) (e : AreWorldsDone files (interfaces files places order differ) (worlds files places order differ) wprefix base first (worlds_of (in_order (all_items files) (take k places))) mid arena inline rs) (by_name : Names) (index : IsNameIndex WorldNamed (worlds_at (map visited (foreign_worlds files)) arena) by_name) (listed : (t : ℕ) (x : Address) → slice_get (worlds_at (map visited (foreign_worlds files)) arena) t ≡ Some x → slice_get (world_list files (worlds files places order differ)) t ≡ Some x) where
+module _ (files : List PackageFile) (places : List ℕ) (order : IsOrder (item_rows files) places) (differ : AllDiffer (map item_name (all_items files))) (es : List TypeDef) (prefix : List Interface) (wprefix : List World) (foreign : AddsForeign files es prefix wprefix) (k p : ℕ) (w : Item) (next : slice_get places k ≡ Some p) (at : slice_get (all_items files) p ≡ Some w) (sort : is_world w ≡ true) (first : List DoneScope) (mid : List TypeDef) (arena : List World) (inline : List Interface) (rs : List Required) (e : AreWorldsDone files (interfaces files places order differ) (worlds files places order differ) wprefix first (worlds_of (in_order (all_items files) (take k places))) mid arena inline rs) (by_name : Names) (index : IsNameIndex WorldNamed (worlds_at (map visited (foreign_worlds files)) arena) by_name) (listed : (t : ℕ) (x : Address) → slice_get (worlds_at (map visited (foreign_worlds files)) arena) t ≡ Some x → slice_get (world_list files (worlds files places order differ)) t ≡ Some x) where
   abbrev all : List Item
   all = all_items files
 
@@ -230,10 +230,8 @@ module _ (files : List PackageFile) (places : List ℕ) (order : IsOrder (item_r
   has_place : (t q : ℕ) (v : Item) (name : List ℕ) → t < k → slice_get places t ≡ Some q → slice_get all q ≡ Some v → is_world v ≡ true → name ≡ item_name v → IsSome (env_of by_name name)
   has_place t q v name before at_t at_q world same =
       let j = kept_early is_world all places k t q v before at_t at_q world in
-      let o = map_at own_item e.ordered j.0 v (ap (λ (l : List Item). slice_get l j.0) e.all ∙ j.1) in
-      let own_at : slice_get (map own_order e.ordered) j.0 ≡ Some o.0.own = slice_get-map own_order e.ordered j.0 ∙ ap (option_map own_order) o.1 in
       let there : slice_get (map (λ (y : World). WorldNamed y.name) e.own) j.0 ≡ Some (WorldNamed name) =
-      ap (λ (l : List Address). slice_get l j.0) (laid_addresses e.laid) ∙ slice_get-map (λ (p : Ordered). address p.item) (map own_order e.ordered) j.0 ∙ ap (option_map (λ (p : Ordered). address p.item)) own_at ∙ ap Some (ap address o.2 ∙ world_address v world ∙ ap WorldNamed (sym same)) in
+      ap (λ (l : List Address). slice_get l j.0) (laid_addresses e.laid) ∙ slice_get-map address (worlds_of (in_order all (take k places))) j.0 ∙ ap (option_map address) j.1 ∙ ap Some (world_address v world ∙ ap WorldNamed (sym same)) in
       let named = map (λ (y : World). WorldNamed y.name) e.own in
       let whole : worlds_at others arena ≡ others ++ named = ap (worlds_at others) e.arena ∙ worlds_at-append others wprefix e.own (worlds_count foreign ∙ sym (length-map (foreign_worlds files) visited)) in
       let place = length others + j.0 in

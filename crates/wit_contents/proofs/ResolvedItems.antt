@@ -5,8 +5,7 @@ use Rattle.wit_arena.proofs.Common.{Item, first_docs, headers}
 use Rattle.wit_tree.specs.declared.tree.PackageName.{PackageName as Header}
 use Rattle.wit_arena.proofs.DoneWorlds.{interface_next, no_interface}
 use Rattle.wit_arena.proofs.Worlds.{no_world, world_more}
-use Rattle.wit_arena.proofs.PackageIfDone.{package_of as package_if_done}
-use Rattle.wit_arena.proofs.MadePackage.{made_of_package}
+use Rattle.wit_arena.proofs.MadePackage.{makes}
 use Rattle.wit_contents.specs.Files.{MakeArenas}
 use Rattle.wit_model.specs.Packages.{package_of_parts}
 
@@ -38,7 +37,7 @@ pub record HasWorlds (files : List PackageFile) (places : List ℕ) (prefix : Li
   pub interfaces : HasInterfaces files places prefix (interfaces_of (in_order (all_items files) places)) is middle before
   pub required : List Required
   pub list : rs ≡ before ++ required
-  pub done : AreWorldsDone files (interfaces_of (in_order (all_items files) places)) (worlds_of (in_order (all_items files) places)) wprefix interfaces.done.ordered (prefix_scopes files prefix ++ interfaces.done.scopes) us es arena inside required
+  pub done : AreWorldsDone files (interfaces_of (in_order (all_items files) places)) (worlds_of (in_order (all_items files) places)) wprefix (prefix_scopes files prefix ++ interfaces.done.scopes) us es arena inside required
 
 module _ (files : List PackageFile) (items : List BorrowedItem) (places : List ℕ) (es : List TypeDef) (prefix : List Interface) (wprefix : List World) (r : IsReady files items places es prefix wprefix) where
   abbrev pub differ : AllDiffer (map item_name (all_items files))
@@ -137,13 +136,14 @@ module _ (files : List PackageFile) (items : List BorrowedItem) (places : List �
         interfaces = h.interfaces;
         required = h.required ++ q.own;
         list = q.list ∙ ap (λ (l : List Required). l ++ q.own) h.list ∙ append_assoc h.before h.required q.own;
-        done = subst (λ (l : List Item). AreWorldsDone files all_interfaces all_worlds wprefix d.ordered (prefix_scopes files prefix ++ d.scopes) l new arena' inside' (h.required ++ q.own)) (sym (kept_next is_world all places count place w next at sort)) more;
+        done = subst (λ (l : List Item). AreWorldsDone files all_interfaces all_worlds wprefix (prefix_scopes files prefix ++ d.scopes) l new arena' inside' (h.required ++ q.own)) (sym (kept_next is_world all places count place w next at sort)) more;
       }
 
   -- all of them are what files make
   pub arenas_made : (is : Interfaces) (arena : List World) (inside : List Interface) (new : List TypeDef) (rs : List Required) → HasWorlds files places prefix wprefix all_worlds is arena inside new rs → MakeArenas files new (is.arena ++ inside) arena rs
   arenas_made is arena inside new rs h named n = record {
-    made = λ header last legal. made_of_package files (package_of_parts (package_of header) (record { types = new; interfaces = is.arena ++ inside; worlds = arena }) (first_docs (headers files)) header.span named) legal
-        (rw (h.interfaces.arena, n.required, h.list) (package_if_done files all_interfaces all_worlds es h.middle prefix h.interfaces.own wprefix r.foreign h.before h.required new arena inside h.interfaces.done h.done places r.order refl refl))
+    made = λ header last legal. makes files places r.order r.unbroken es h.middle prefix h.interfaces.own wprefix r.foreign h.before h.required new arena inside h.interfaces.done h.done
+        (package_of_parts (package_of header) (record { types = new; interfaces = is.arena ++ inside; worlds = arena }) (first_docs (headers files)) header.span named)
+        refl (ap (λ (l : List Interface). l ++ inside) h.interfaces.arena) refl (n.required ∙ h.list)
         (ap (option_map package_of) last) (ap (option_map (λ (h : Header). h.span)) last) refl (n.deps, n.spans, n.unknown);
   }

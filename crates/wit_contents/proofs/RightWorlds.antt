@@ -106,7 +106,7 @@ module _ (ws : Worlds) (items : List BorrowedItem) (places : List ℕ) (es : Lis
   included : includes_fault ws w ≡ first_in (include_fault files w.top) (includes w)
   included =
       let listed = world_added files declared_interfaces declared_worlds (interfaces_sort (in_order all places)) (worlds_sort (in_order all places)) (are_interfaces files places r.order distinct) (are_worlds files places r.order distinct) uses es prefix wprefix r.foreign h.middle own h.before d us mid ws.arena inside h.required h.done w there in
-      includes_walked files places r.order distinct es prefix wprefix r.foreign count place w next at sort d.ordered (prefix_scopes files prefix ++ d.scopes) mid ws.arena inside h.required h.done ws.by_name windex listed ws refl refl visits
+      includes_walked files places r.order distinct es prefix wprefix r.foreign count place w next at sort (prefix_scopes files prefix ++ d.scopes) mid ws.arena inside h.required h.done ws.by_name windex listed ws refl refl visits
 
   -- its links
   leading : (link : Link) → Contains (side_items w) (SideLink link) → IsLeading files is.by_name (leads w.top link.path)

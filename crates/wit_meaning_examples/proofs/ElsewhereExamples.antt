@@ -1,6 +1,6 @@
 -- Paths that lead to an item of another package: an include of an interface, a `use` of a world, and a path that has the package's own name.
 use Rattle.std.proofs.Common.{◌≡◌, ℕ, true, false, List, [], ◌∷◌, map, Some, None, refl, lit<}
-use Rattle.wit_arena.proofs.Common.{Address, AliasForm, Collects, Def, Foreign, ForeignName, ForeignNamed, ForeignVisit, Global, Head, Id, InterfaceIncluded, InterfaceNamed, IsBroken, IsOccurrence, IsOrder, Item, Named, NamesOthers, Occurrence, Ordered, PackageFile, PackageName, Span, TheInterface, TheWorld, ToplevelUse, Tree, TypeDef, TypeDefKind, Unknown, UnknownForm, UnresolvedPackage, UseName, UsePath, Used, Word, WorldUsed, all_occurrences, codes, declarations, fault_in, foreign_items, foreign_uses, foreign_visits, interface_addresses, is_world_at, item_rows, leads, no_docs, owner_of, package_tree, path_scope, rows_of, scope_names, source_tree, top_names, turned}
+use Rattle.wit_arena.proofs.Common.{Address, AliasForm, Collects, Def, Foreign, ForeignName, ForeignNamed, ForeignVisit, Global, Head, Id, InterfaceIncluded, InterfaceNamed, IsBroken, IsOccurrence, IsOrder, Item, Named, NamesOthers, Occurrence, Ordered, PackageFile, PackageName, Span, TheInterface, TheWorld, ToplevelUse, Tree, TypeDef, TypeDefKind, Unknown, UnknownForm, UnresolvedPackage, UseName, UsePath, Used, Word, WorldUsed, all_occurrences, codes, declarations, fault_in, foreign_items, foreign_uses, foreign_visits, is_world_at, item_rows, leads, no_docs, owner_of, package_tree, path_scope, rows_of, scope_names, source_tree, top_names, turned}
 use Rattle.wit_syntax.proofs.Common.{Interface as WrittenInterface, Use as WrittenUse, World as WrittenWorld, WorldItem}
 use Rattle.wit_syntax.specs.Broken.{Use}
 use denote.RawPtr.{Ptr}
@@ -16,6 +16,7 @@ use Rattle.wit_model.specs.declared.ast_item.AstItem.TheVariants as entry
 use Rattle.wit_meaning_examples.proofs.Examples.{at, id, vec, no_comments, unstated, header}
 use Rattle.wit_meaning_examples.proofs.SignatureExamples.{one_order}
 use Rattle.wit_meaning_examples.proofs.FirstSeen.{collects_each, none_seen, seen_named}
+use Rattle.wit_meaning_examples.proofs.OrderedWorlds.{interface_addresses}
 
 module _ (ptr : Ptr) (alloc : Global) where
   -- a package in a path, and the c after it

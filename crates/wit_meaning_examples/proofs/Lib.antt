@@ -1,3 +1,4 @@
+pub mod OrderedWorlds
 pub mod SmallOrders
 pub mod FirstSeen
 pub mod Examples

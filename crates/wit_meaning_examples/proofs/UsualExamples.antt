@@ -1,6 +1,6 @@
 -- A package as it is usually written, computed by the definitions: a version, docs, a stability, a name of another package, a method, and a world.
 use Rattle.std.proofs.Common.{◌≡◌, ℕ, false, true, List, [], ◌∷◌, map, Some, None, refl, ap, lit<}
-use Rattle.wit_arena.proofs.Common.{Address, AreSideItems, Borrow, BorrowForm, Both', Box, Collects, Def, Defined, End, Exported, Extern, ExternKind, ForeignName, ForeignNamed, Function, Global, Id, Imported, Interface, InterfaceNamed, IsOccurrence, IsOrder, Item, Key, ListForm, Metadata, More, NamedFunc, NamesOthers, Neither, Occurrence, Of, PackageFile, PackageName, Prim, Release, Resource, ResultForm, Shape, Span, Stable, TheInterface, TheWorld, Turned, TypeDef, Unknown, UnresolvedPackage, Use, UseName, Used, Version, Whole, Word, WorldItem, WorldKey, WorldNamed, WorldSide, all_items, all_occurrences, all_turns, codes, declarations, declared_metadata, flat_map, foreign_items, foreign_uses, function_item, function_types, functions, in_order, interface_addresses, item_rows, metadata, named, no_docs, one, owner_of, package_of, package_tree, rows_of, scope_names, side_items, signature, source_tree, take, top_names, turn_handles, unnamed, «Type» as Written}
+use Rattle.wit_arena.proofs.Common.{Address, AreSideItems, Borrow, BorrowForm, Both', Box, Collects, Def, Defined, End, Exported, Extern, ExternKind, ForeignName, ForeignNamed, Function, Global, Id, Imported, Interface, InterfaceNamed, IsOccurrence, IsOrder, Item, Key, ListForm, Metadata, More, NamedFunc, NamesOthers, Neither, Occurrence, Of, PackageFile, PackageName, Prim, Release, Resource, ResultForm, Shape, Span, Stable, TheInterface, TheWorld, Turned, TypeDef, Unknown, UnresolvedPackage, Use, UseName, Used, Version, Whole, Word, WorldItem, WorldKey, WorldNamed, WorldSide, all_items, all_occurrences, codes, declarations, declared_metadata, flat_map, foreign_items, foreign_uses, function_item, function_types, functions, in_order, item_rows, metadata, named, no_docs, one, owner_of, package_of, package_tree, rows_of, scope_names, side_items, signature, source_tree, take, top_names, turn_handles, unnamed, «Type» as Written}
 use Rattle.wit_syntax.proofs.Common.{Interface as WrittenInterface, Use as WrittenUse, World as WrittenWorld, joined}
 use denote.RawPtr.{Ptr}
 use Rattle.wit_type_tree.specs.declared.leaves.Attribute.TheVariants as attribute
@@ -27,6 +27,7 @@ use Rattle.wit_meaning_examples.proofs.Examples.{at, id, vec, no_comments, unsta
 use Rattle.wit_meaning_examples.proofs.MetadataExamples.{trimmed}
 use Rattle.wit_meaning_examples.proofs.SmallOrders.{straight, apart_order}
 use Rattle.wit_meaning_examples.proofs.FirstSeen.{collects_each, none_seen, seen_named, seen_unnamed}
+use Rattle.wit_meaning_examples.proofs.OrderedWorlds.{all_turns, interface_addresses}
 
 abbrev version : Version
 version = record { major = 0; minor = 2; patch = 0; pre = record { identifier = None }; build = record { identifier = None } }

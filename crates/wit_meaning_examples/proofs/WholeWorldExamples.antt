@@ -1,6 +1,6 @@
 -- A world with all that can be in one, computed by the definitions: a `use`, an interface that is written there, paths on both sides, a function, and an include.
 use Rattle.std.proofs.Common.{◌≡◌, ℕ, List, [], ◌∷◌, map, Some, None, refl, lit<}
-use Rattle.wit_arena.proofs.Common.{Address, AreSideItems, Collects, Def, Defined, Exported, Extern, ExternKind, Func, Function, Global, Id, Imported, Include, InlineAt, InterfaceItem, InterfaceNamed, IsOccurrence, IsOrder, Item, Occurrence, Ordered, OrderedWorld, PackageFile, Param, Plain, Shape, Span, TheInline, TheInterface, TheWorld, TypeDef, TypeOwner, Unknown, UnresolvedPackage, UseName, Used, Word, World, WorldInclude, WorldItem, WorldKey, WorldNamed, WorldSide, all_items, all_occurrences, all_turns, codes, declarations, flat_map, function_item, function_types, functions, in_order, include_in, inline_entry, inline_items, interface_addresses, interfaces_of, item_rows, names_of, no_docs, owner_of, package_tree, rows_of, scope_names, side_items, signature, source_tree, take, top_names, world_addresses, worlds_of}
+use Rattle.wit_arena.proofs.Common.{Address, AreSideItems, Collects, Def, Defined, Exported, Extern, ExternKind, Func, Function, Global, Id, Imported, Include, InlineAt, InterfaceItem, InterfaceNamed, IsOccurrence, IsOrder, Item, Occurrence, Ordered, PackageFile, Param, Plain, Shape, Span, TheInline, TheInterface, TheWorld, TypeDef, TypeOwner, Unknown, UnresolvedPackage, UseName, Used, Word, World, WorldInclude, WorldItem, WorldKey, WorldNamed, WorldSide, all_items, all_occurrences, codes, declarations, flat_map, function_item, function_types, functions, in_order, include_in, inline_entry, inline_items, interfaces_of, item_rows, names_of, no_docs, owner_of, package_tree, rows_of, scope_names, side_items, signature, source_tree, take, top_names, worlds_of}
 use Rattle.wit_syntax.proofs.Common.{Interface as WrittenInterface, Use, World as WrittenWorld, WorldItem as WorldPart}
 use denote.RawPtr.{Ptr}
 use Rattle.wit_tree.specs.declared.tree.ExternKind.TheVariants as extern
@@ -24,6 +24,7 @@ use Rattle.wit_meaning_examples.proofs.SideExamples.{no_rows}
 use Rattle.wit_meaning_examples.proofs.SignatureExamples.{one_order}
 use Rattle.wit_meaning_examples.proofs.SmallOrders.{middle_order, turned_end}
 use Rattle.wit_meaning_examples.proofs.FirstSeen.{collects_each, none_seen, seen_named}
+use Rattle.wit_meaning_examples.proofs.OrderedWorlds.{OrderedWorld, all_turns, interface_addresses, world_addresses}
 
 -- the scopes
 abbrev in_a : Address

@@ -1,6 +1,6 @@
 -- A world with a use, a definition and an include, computed by the definitions.
 use Rattle.std.proofs.Common.{◌≡◌, ℕ, List, [], ◌∷◌, map, Some, None, refl, lit<}
-use Rattle.wit_arena.proofs.Common.{Address, AliasForm, Def, Defined, Global, Head, Include, Interface, InterfaceNamed, Item, Leaf, Named, Occurrence, Ordered, PackageFile, Plain, Span, TheInterface, TheWorld, TypeDef, TypeOwner, Unknown, UnresolvedPackage, UseName, Used, Word, World, WorldInclude, WorldItem, WorldKey, WorldNamed, addresses, all_items, codes, in_order, include_in, interfaces_of, item_rows, names_of, no_docs, occurrences, ordered_names, package_tree, scope_names, source_tree, top_names, turned, type_imports, worlds_of}
+use Rattle.wit_arena.proofs.Common.{Address, AliasForm, Def, Defined, Global, Head, Include, Interface, InterfaceNamed, Item, Leaf, Named, Occurrence, Ordered, PackageFile, Plain, Span, TheInterface, TheWorld, TypeDef, TypeOwner, Unknown, UnresolvedPackage, UseName, Used, Word, World, WorldInclude, WorldItem, WorldKey, WorldNamed, all_items, codes, in_order, include_in, interfaces_of, item_rows, names_of, no_docs, occurrences, ordered_names, package_tree, scope_names, source_tree, top_names, turned, type_imports, worlds_of}
 use Rattle.wit_syntax.proofs.Common.{Interface as WrittenInterface, World as WrittenWorld}
 use denote.RawPtr.{Ptr}
 use Rattle.wit_type_tree.specs.declared.types.Primitive.TheVariants as primitive
@@ -15,6 +15,7 @@ use Rattle.wit_types.specs.declared.types.«Type».TheVariants as type
 use Rattle.wit_types.specs.declared.types.TypeDefKind.TheVariants as kind
 use Rattle.wit_types.specs.declared.types.TypeOwner.TheVariants as owner
 use Rattle.wit_meaning_examples.proofs.Examples.{at, id, vec, no_comments, unstated, header}
+use Rattle.wit_meaning_examples.proofs.OrderedWorlds.{addresses}
 
 -- package foo:foo; interface x { type t = u8; } world v { include w; } world w { use x.{t}; type s = t; }
 module _ (ptr : Ptr) (alloc : Global) where
