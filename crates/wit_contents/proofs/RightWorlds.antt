@@ -1,6 +1,6 @@
 -- The walk's fault of each world is what is found of it, once all interfaces and the worlds before it are resolved.
 use Rattle.std.proofs.Common.{◌≡◌, ◌⊎◌, ℕ, ◌+◌, true, false, List, [], ◌∷◌, ◌++◌, length, map, take, Option, Some, None, IsSome, inl, inr, refl, sym, ap, ◌∙◌, subst, Contains, arith}
-use Rattle.wit_contents.proofs.Names.{Address, AddsMembers, AddsScope, AddsSides, AllDiffer, AreIndexed, AreNamesPlaced, AreRightMembers, AreUsableUses, Attribute, Borrowed, EndsInTurn, Fault, Foreign, ForeignNamed, ForeignVisit, HasAmong, Id, InOrder, Include, IncludePart, Interface, InterfaceNamed, Interfaces, InterfacesDone, IsForeignUse, IsItemOf, IsLent, IsNameIndex, IsResolvedUse, IsRight, IsRightOf, IsRightOfWorld, IsStart, IsWalk, Item as BorrowedItem, ItemScope, ItemWalk, Known, Link, Names, Outcome, PackageFile, PackageName, Required, ResolvedScope, ScopeName, SideItem, SideLink, Stage, TopName, TypeDef, UseName, Used, World, Worlds, about, address, all_items, all_scopes, are_interfaces, are_worlds, at_contains, bytes_eq, contains_at, contents_fault, declared_view, env_of, filed_item, find_at, find_passes, first_after, first_in, flat_map, foreign_at, foreign_interfaces, handle_fault, in_order, in_turn, include_fault, includes, includes_fault, inline_after, inline_after-append, inline_interface, inline_items, interface_at, interfaces, interfaces_at, interfaces_sort, is_world, item_inline, item_name, item_named, item_view, leads, length-inline_after, local_id, member_fault, name_equal, name_view, names_at_top, next_place, option_cases, option_map, option_or, order_of, outcome_one, own_use, part_visited, parts, prefix_scopes, resolved_scopes, resolved_scopes_of, rows_of, scope_names, scopes_declared, scopes_inline, setters_fault, side_items, slice_get, source_view, stage, take_seam, used_interface, used_visited, visited, worlds_of, worlds_sort, IsReady}
+use Rattle.wit_contents.proofs.Names.{Address, AddsMembers, AddsScope, AddsSides, AllDiffer, AreNamesPlaced, AreRightMembers, AreUsableUses, Attribute, Borrowed, EndsInTurn, Fault, Foreign, ForeignNamed, ForeignVisit, HasAmong, Id, InOrder, Include, IncludePart, Interface, InterfaceNamed, Interfaces, InterfacesDone, IsForeignUse, IsItemOf, IsLent, IsNameIndex, IsResolvedUse, IsRight, IsRightOf, IsRightOfWorld, IsStart, IsWalk, Item as BorrowedItem, ItemScope, ItemWalk, Known, Link, Names, Outcome, PackageFile, PackageName, Required, ResolvedScope, ScopeName, SideItem, SideLink, Stage, TopName, TypeDef, UseName, Used, World, Worlds, about, address, all_items, all_scopes, are_interfaces, are_worlds, at_contains, bytes_eq, contains_at, contents_fault, declared_view, env_of, filed_item, find_at, find_passes, first_after, first_in, flat_map, foreign_at, foreign_interfaces, handle_fault, in_order, in_turn, include_fault, includes, includes_fault, inline_after, inline_after-append, inline_interface, inline_items, interface_at, interfaces, interfaces_at, interfaces_sort, is_world, item_inline, item_name, item_named, item_view, leads, length-inline_after, local_id, member_fault, name_equal, name_view, names_at_top, next_place, option_cases, option_map, option_or, order_of, outcome_one, own_use, part_visited, parts, prefix_scopes, resolved_scopes, resolved_scopes_of, rows_of, scope_names, scopes_declared, scopes_inline, setters_fault, side_items, slice_get, source_view, stage, take_seam, used_interface, used_visited, visited, worlds_of, worlds_sort, IsReady}
 use Rattle.wit_contents.specs.declared.walk.Growing.{Growing}
 use Rattle.wit_contents.specs.declared.walk.Walked.{Walked}
 use Rattle.wit_contents.specs.declared.walk.WorldScope.{WorldScope}
@@ -22,7 +22,7 @@ use Rattle.wit_scopes.proofs.Placed.{uses_placed}
 use Rattle.wit_contents.proofs.ResolvedItems.{HasWorlds, all_interfaces, all_worlds, differ, next_kept, usable}
 
 -- the next world
-module _ (ws : Worlds) (items : List BorrowedItem) (places : List ℕ) (es : List TypeDef) (prefix : List Interface) (wprefix : List World) (r : IsReady ws.interfaces.now.files items places es prefix wprefix) (count place : ℕ) (i : BorrowedItem) (next : slice_get places count ≡ Some place) (at : slice_get (all_items ws.interfaces.now.files) place ≡ Some (item_view i)) (sort : is_world (item_view i) ≡ true) (lent : IsItemOf ws.interfaces.now.files i) (inside : List Interface) (mid : List TypeDef) (rs : List Required) (h : HasWorlds ws.interfaces.now.files places prefix wprefix (worlds_of (in_order (all_items ws.interfaces.now.files) (take count places))) ws.interfaces.now ws.arena inside mid rs) (windex : AreIndexed ws) (known : Known) (right : IsRight ws.interfaces.now.files known) where
+module _ (ws : Worlds) (items : List BorrowedItem) (places : List ℕ) (es : List TypeDef) (prefix : List Interface) (wprefix : List World) (r : IsReady ws.interfaces.now.files items places es prefix wprefix) (count place : ℕ) (i : BorrowedItem) (next : slice_get places count ≡ Some place) (at : slice_get (all_items ws.interfaces.now.files) place ≡ Some (item_view i)) (sort : is_world (item_view i) ≡ true) (lent : IsItemOf ws.interfaces.now.files i) (inside : List Interface) (mid : List TypeDef) (rs : List Required) (h : HasWorlds ws.interfaces.now.files places prefix wprefix (worlds_of (in_order (all_items ws.interfaces.now.files) (take count places))) ws.interfaces.now ws.arena ws.by_name inside mid rs) (known : Known) (right : IsRight ws.interfaces.now.files known) where
   abbrev is : Interfaces
   is = ws.interfaces.now
 
@@ -106,7 +106,7 @@ module _ (ws : Worlds) (items : List BorrowedItem) (places : List ℕ) (es : Lis
   included : includes_fault ws w ≡ first_in (include_fault files w.top) (includes w)
   included =
       let listed = world_added files declared_interfaces declared_worlds (interfaces_sort (in_order all places)) (worlds_sort (in_order all places)) (are_interfaces files places r.order distinct) (are_worlds files places r.order distinct) uses es prefix wprefix r.foreign h.middle own h.before d us mid ws.arena inside h.required h.done w there in
-      includes_walked files places r.order distinct es prefix wprefix r.foreign count place w next at sort (prefix_scopes files prefix ++ d.scopes) mid ws.arena inside h.required h.done ws.by_name windex listed ws refl refl visits
+      includes_walked files places r.order distinct es prefix wprefix r.foreign count place w next at sort (prefix_scopes files prefix ++ d.scopes) mid ws.arena inside h.required h.done ws.by_name h.index listed ws refl refl visits
 
   -- its links
   leading : (link : Link) → Contains (side_items w) (SideLink link) → IsLeading files is.by_name (leads w.top link.path)
@@ -218,7 +218,7 @@ module _ (ws : Worlds) (items : List BorrowedItem) (places : List ℕ) (es : Lis
   }
 
 -- so it is of the world that comes next, where the files are given
-pub right_next_world : (files : List PackageFile) (items : List BorrowedItem) (places : List ℕ) (es : List TypeDef) (prefix : List Interface) (wprefix : List World) → IsReady files items places es prefix wprefix → (ws : Worlds) (count place : ℕ) (i : BorrowedItem) → slice_get places count ≡ Some place → slice_get (all_items files) place ≡ Some (item_view i) → is_world (item_view i) ≡ true → IsItemOf files i → (inside : List Interface) (mid : List TypeDef) (rs : List Required) → HasWorlds files places prefix wprefix (worlds_of (in_order (all_items files) (take count places))) ws.interfaces.now ws.arena inside mid rs → AreIndexed ws → (known : Known) → IsRight files known → IsRightOfWorld (contents_fault files known) ws (record { types = mid; inside = inside }) i
-right_next_world files items places es prefix wprefix r ws count place i next at sort lent inside mid rs h windex known right =
-    subst (λ (fs : List PackageFile). IsReady fs items places es prefix wprefix → slice_get (all_items fs) place ≡ Some (item_view i) → IsItemOf fs i → HasWorlds fs places prefix wprefix (worlds_of (in_order (all_items fs) (take count places))) ws.interfaces.now ws.arena inside mid rs → IsRight fs known → IsRightOfWorld (contents_fault fs known) ws (record { types = mid; inside = inside }) i) h.interfaces.same
-    (λ r at lent h right. right_world ws items places es prefix wprefix r count place i next at sort lent inside mid rs h windex known right) r at lent h right
+pub right_next_world : (files : List PackageFile) (items : List BorrowedItem) (places : List ℕ) (es : List TypeDef) (prefix : List Interface) (wprefix : List World) → IsReady files items places es prefix wprefix → (ws : Worlds) (count place : ℕ) (i : BorrowedItem) → slice_get places count ≡ Some place → slice_get (all_items files) place ≡ Some (item_view i) → is_world (item_view i) ≡ true → IsItemOf files i → (inside : List Interface) (mid : List TypeDef) (rs : List Required) → HasWorlds files places prefix wprefix (worlds_of (in_order (all_items files) (take count places))) ws.interfaces.now ws.arena ws.by_name inside mid rs → (known : Known) → IsRight files known → IsRightOfWorld (contents_fault files known) ws (record { types = mid; inside = inside }) i
+right_next_world files items places es prefix wprefix r ws count place i next at sort lent inside mid rs h known right =
+    subst (λ (fs : List PackageFile). IsReady fs items places es prefix wprefix → slice_get (all_items fs) place ≡ Some (item_view i) → IsItemOf fs i → HasWorlds fs places prefix wprefix (worlds_of (in_order (all_items fs) (take count places))) ws.interfaces.now ws.arena ws.by_name inside mid rs → IsRight fs known → IsRightOfWorld (contents_fault fs known) ws (record { types = mid; inside = inside }) i) h.interfaces.same
+    (λ r at lent h right. right_world ws items places es prefix wprefix r count place i next at sort lent inside mid rs h known right) r at lent h right

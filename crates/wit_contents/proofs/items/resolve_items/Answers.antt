@@ -1,8 +1,8 @@
-use Rattle.std.proofs.Common.{◌≡◌, ◌+◌, ◌++◌, ◌∷◌, List, ℕ, [], take, true, false, not, None, Some, refl, ap, sym, ◌∙◌, subst}
-use Rattle.wit_contents.proofs.Names.{World, about, all_items, contents_fault, declared_view, err_from_is_err_and, first_in, found_none, in-more, in_order, interfaces_of, is_world, item_called, item_view, kept_next, kept_past, length, others_of, take_all, worlds_of}
+use Rattle.std.proofs.Common.{◌≡◌, List, ℕ, true, false, not, None, Some, refl, ap, sym, ◌∙◌, subst}
+use Rattle.wit_contents.proofs.Names.{World, about, all_items, contents_fault, declared_view, err_from_is_err_and, first_in, found_none, in_order, interfaces_of, is_world, item_called, item_view, kept_past, length, others_of, take_all, worlds_of}
 use Rattle.wit_items.specs.declared.items.Declared.{Declared as BorrowedDeclared}
 use Rattle.wit_contents.proofs.FileFaults.{interfaces_reported, memory_found, none_after, worlds_reported}
-use Rattle.wit_contents.proofs.Files.{prefix_index, prefix_worlds_index, worlds_enough}
+use Rattle.wit_contents.proofs.Files.{prefix_index, worlds_enough}
 use Rattle.wit_contents.proofs.ResolvedItems.{HasInterfaces, HasWorlds, arenas_made, interface_resolved, item_at, no_world_resolved, none_resolved, world_resolved}
 use Rattle.wit_contents.proofs.RightInterfaces.{right_next}
 use Rattle.wit_contents.proofs.RightWorlds.{right_next_world}
@@ -15,10 +15,7 @@ pub loop-place-init : goal.loop-place-init
 loop-place-init c =
     let r = c.requires.ready in
     let is = c.args.interfaces.now in
-    record {
-      resolved = rw c.new-required.ensures.items (none_resolved is.files c.args.items.now c.args.places.now c.args.types.now is.arena c.args.prefix r is refl refl (prefix_index is.files c.args.types.now is.arena c.args.prefix r.foreign is.by_name c.requires.unnamed));
-      first = λ known right. refl;
-    }
+    record { resolved = rw c.new-required.ensures.items (none_resolved is.files c.args.items.now c.args.places.now c.args.types.now is.arena c.args.prefix r is refl refl (prefix_index is.files c.args.types.now is.arena c.args.prefix r.foreign is.by_name c.requires.unnamed)) }
 
 pub resolve_interface-requires : goal.resolve_interface-requires
 resolve_interface-requires c =
@@ -42,20 +39,18 @@ loop-place-preserved c =
     let w = item_view c.index-items-place.result in
     let was = c.loop-place.invariant in
     let x = item_at is.files items places c.args.types.now is.arena c.args.prefix r i c.index-items-place.result c.loop-place-test.true c.index-items-place.is in
-    let before = interfaces_of (in_order all (take i places)) in
     elim c.match-item.branch [
       | in-Interface+in_ok-resolve_interface-in-Interface b ↦ (
           let sort : is_world w ≡ false = ap (λ (d : BorrowedDeclared). (about (declared_view d)).is_world) b.in-Interface.is in
-          let more : interfaces_of (in_order all (take (i + 1) places)) ≡ before ++ w ∷ [] = kept_next (λ v. not (is_world v)) all places i x.place w x.next x.at (ap not sort) in
           let e = b.in_ok-resolve_interface-in-Interface.ensures in
           let adds = e.adds in
           rw (b.interfaces-is, b.types-is, b.required-is) (record {
-            resolved = rw adds.2.appends.list (interface_resolved is.files items places c.args.types.now is.arena c.args.prefix r i x.place w x.next x.at sort c.loop-place.interfaces c.loop-place.types c.loop-place.required.items was.resolved b.resolve_interface.new.interfaces b.resolve_interface.new.types adds.0 adds.2.appends.own e.files adds.1 adds.2.appends.holds e.index);
-            first = λ known right. rw more (in-more (contents_fault is.files known) before w (was.first known right) ∙ e.first (contents_fault is.files known) (right_next is.files items places c.args.types.now is.arena c.args.prefix r i x.place w x.next x.at sort c.loop-place.interfaces c.loop-place.types c.loop-place.required.items was.resolved known right));
+            resolved = rw adds.2.appends.list (interface_resolved is.files items places c.args.types.now is.arena c.args.prefix r i x.place w x.next x.at sort c.loop-place.interfaces c.loop-place.types c.loop-place.required.items was.resolved b.resolve_interface.new.interfaces b.resolve_interface.new.types adds.0 adds.2.appends.own e.files adds.1 adds.2.appends.holds e.index
+                (λ known right. e.first (contents_fault is.files known) (right_next is.files items places c.args.types.now is.arena c.args.prefix r i x.place w x.next x.at sort c.loop-place.interfaces c.loop-place.types c.loop-place.required.items was.resolved known right)));
           }))
       | in-World b ↦ (
           let past = kept_past (λ v. not (is_world v)) all places i x.place w x.next x.at (ap (λ (d : BorrowedDeclared). not (about (declared_view d)).is_world) b.in-World.is) in
-          rw (b.interfaces-is, b.types-is, b.required-is) (record { resolved = rw past was.resolved; first = λ known right. rw past (was.first known right) }))
+          rw (b.interfaces-is, b.types-is, b.required-is) (record { resolved = rw past was.resolved }))
       | in-Inline b ↦ absurd (let wrong : None ≡ Some (about w.declared).id.name.now = ap (λ (d : BorrowedDeclared). (about (declared_view d)).called) (sym b.in-Inline.is) ∙ item_called is.files c.index-items-place.result x.own in let f : ⊥ = cc in f)
     ]
 
@@ -72,7 +67,7 @@ returns-in_err-resolve_interface-in-Interface-clause-first c =
     let was = c.loop-place.invariant in
     let x = item_at is.files items places c.args.types.now is.arena c.args.prefix r i c.index-items-place.result c.loop-place-test.true c.index-items-place.is in
     let sort : is_world w ≡ false = ap (λ (d : BorrowedDeclared). (about (declared_view d)).is_world) c.in-Interface.is in
-    rw (q.1, q.2) (λ known right. interfaces_reported is.files known right places r.order _ r.uses (among_kept (λ v. not (is_world v)) (contents_fault is.files known) all places i x.place w _ x.next x.at (ap not sort) (was.first known right)
+    rw (q.1, q.2) (λ known right. interfaces_reported is.files known right places r.order _ r.uses (among_kept (λ v. not (is_world v)) (contents_fault is.files known) all places i x.place w _ x.next x.at (ap not sort) (was.resolved.first known right)
     (c.in_err-resolve_interface-in-Interface.ensures.first (contents_fault is.files known) (right_next is.files items places c.args.types.now is.arena c.args.prefix r i x.place w x.next x.at sort c.loop-place.interfaces c.loop-place.types c.loop-place.required.items was.resolved known right))))
 
 -- the worlds
@@ -97,10 +92,8 @@ loop-next-init c =
     let was = c.loop-place.invariant in
     let all_done = subst (λ (l : List ℕ). HasInterfaces is.files places is.arena (interfaces_of (in_order (all_items is.files) l)) c.loop-place.interfaces c.loop-place.types c.loop-place.required.items) (take_all c.loop-place.place-index places c.loop-place-test.false) was.resolved in
     record {
-      resolved = rw (c.begun-resolving.ensures.types, c.begun-resolving.ensures.required) (no_world_resolved is.files c.args.items.now places c.args.types.now is.arena c.args.prefix r c.loop-place.interfaces c.loop-place.types c.loop-place.required.items c.make_room.new.worlds c.make_room.new.inside all_done c.make_room.ensures.worlds (c.make_room.ensures.inside ∙ c.begun-resolving.ensures.inside));
+      resolved = rw (c.begun-resolving.ensures.types, c.begun-resolving.ensures.required) (no_world_resolved is.files c.args.items.now places c.args.types.now is.arena c.args.prefix r c.loop-place.interfaces c.loop-place.types c.loop-place.required.items c.make_room.new.worlds c.new.result c.make_room.new.inside all_done c.make_room.ensures.worlds c.new.ensures (c.make_room.ensures.inside ∙ c.begun-resolving.ensures.inside));
       interfaces = refl;
-      index = rw (c.new.ensures, c.make_room.ensures.worlds) (prefix_worlds_index is.files c.args.types.now is.arena c.args.prefix r.foreign);
-      first = λ known right. refl;
     }
 
 pub resolve_world-requires : goal.resolve_world-requires
@@ -113,7 +106,7 @@ resolve_world-requires c =
         sort = ap (λ (d : BorrowedDeclared). (about (declared_view d)).is_world) c.in-World.is;
         item = rw (was.interfaces, was.resolved.interfaces.same) x.own;
       };
-      index = rw (was.interfaces, was.resolved.interfaces.same) was.index;
+      index = rw (was.interfaces, was.resolved.interfaces.same) was.resolved.index;
     }
 
 pub loop-next-preserved : goal.loop-next-preserved
@@ -129,26 +122,23 @@ loop-next-preserved c =
     let ws = c.loop-next.worlds in
     let g = c.loop-next.resolving.growing in
     let x = item_at is.files items places c.args.types.now is.arena c.args.prefix r i c.index-items-next.result c.loop-next-test.true c.index-items-next.is in
-    let before = worlds_of (in_order all (take i places)) in
     elim c.match-world.branch [
       | in-World+in_ok-resolve_world-in-World b ↦ (
           let sort : is_world w ≡ true = ap (λ (d : BorrowedDeclared). (about (declared_view d)).is_world) b.in-World.is in
-          let more : worlds_of (in_order all (take (i + 1) places)) ≡ before ++ w ∷ [] = kept_next is_world all places i x.place w x.next x.at sort in
           let e = b.in_ok-resolve_world-in-World.ensures in
           let new = b.resolve_world.new in
           let same = ap (λ r. r.now) e.interfaces ∙ was.interfaces in
           rw (b.worlds-is, b.resolving-is) (record {
-            resolved = world_resolved is.files items places c.args.types.now is.arena c.args.prefix r i x.place w x.next x.at sort c.loop-place.interfaces ws.arena new.worlds.arena g.inside new.resolving.growing.inside g.types new.resolving.growing.types c.loop-next.resolving.required.items new.resolving.required.items was.resolved (rw was.interfaces at e.adds);
+            resolved = world_resolved is.files items places c.args.types.now is.arena c.args.prefix r i x.place w x.next x.at sort c.loop-place.interfaces ws.arena new.worlds.arena ws.by_name new.worlds.by_name g.inside new.resolving.growing.inside g.types new.resolving.growing.types c.loop-next.resolving.required.items new.resolving.required.items was.resolved (rw was.interfaces at e.adds) (rw (same, was.resolved.interfaces.same) at e.index)
+                (λ known right. e.first (contents_fault is.files known) (right_next_world is.files items places c.args.types.now is.arena c.args.prefix r ws i x.place c.index-items-next.result x.next x.at sort x.own g.inside g.types c.loop-next.resolving.required.items (rw was.interfaces was.resolved) known right));
             interfaces = same;
-            index = rw (same, was.resolved.interfaces.same) at e.index;
-            first = λ known right. rw more (in-more (contents_fault is.files known) before w (was.first known right) ∙ e.first (contents_fault is.files known) (right_next_world is.files items places c.args.types.now is.arena c.args.prefix r ws i x.place c.index-items-next.result x.next x.at sort x.own g.inside g.types c.loop-next.resolving.required.items (rw was.interfaces was.resolved) (rw (was.interfaces, was.resolved.interfaces.same) was.index) known right));
           }))
       | in-Interface b ↦ (
           let past = kept_past is_world all places i x.place w x.next x.at (ap (λ (d : BorrowedDeclared). (about (declared_view d)).is_world) b.in-Interface.is) in
-          rw (b.worlds-is, b.resolving-is) (record { resolved = rw past was.resolved; interfaces = was.interfaces; index = was.index; first = λ known right. rw past (was.first known right) }))
+          rw (b.worlds-is, b.resolving-is) (record { resolved = rw past was.resolved; interfaces = was.interfaces }))
       | in-Inline b ↦ (
           let past = kept_past is_world all places i x.place w x.next x.at (ap (λ (d : BorrowedDeclared). (about (declared_view d)).is_world) b.in-Inline.is) in
-          rw (b.worlds-is, b.resolving-is) (record { resolved = rw past was.resolved; interfaces = was.interfaces; index = was.index; first = λ known right. rw past (was.first known right) }))
+          rw (b.worlds-is, b.resolving-is) (record { resolved = rw past was.resolved; interfaces = was.interfaces }))
     ]
 
 pub returns-in_err-resolve_world-in-World-clause-first : goal.returns-in_err-resolve_world-in-World-clause-first
@@ -167,9 +157,9 @@ returns-in_err-resolve_world-in-World-clause-first c =
     let x = item_at is.files items places c.args.types.now is.arena c.args.prefix r i c.index-items-next.result c.loop-next-test.true c.index-items-next.is in
     let sort : is_world w ≡ true = ap (λ (d : BorrowedDeclared). (about (declared_view d)).is_world) c.in-World.is in
     rw (q.1, q.2) (λ known right. worlds_reported is.files known right places r.order _ r.uses
-    (ap (λ (l : List ℕ). first_in (contents_fault is.files known) (interfaces_of (in_order all l))) (sym (take_all c.loop-place.place-index places c.loop-place-test.false)) ∙ c.loop-place.invariant.first known right)
-    (among_kept is_world (contents_fault is.files known) all places i x.place w _ x.next x.at sort (was.first known right)
-    (c.in_err-resolve_world-in-World.ensures.first (contents_fault is.files known) (right_next_world is.files items places c.args.types.now is.arena c.args.prefix r ws i x.place c.index-items-next.result x.next x.at sort x.own g.inside g.types c.loop-next.resolving.required.items (rw was.interfaces was.resolved) (rw (was.interfaces, was.resolved.interfaces.same) was.index) known right))))
+    (ap (λ (l : List ℕ). first_in (contents_fault is.files known) (interfaces_of (in_order all l))) (sym (take_all c.loop-place.place-index places c.loop-place-test.false)) ∙ c.loop-place.invariant.resolved.first known right)
+    (among_kept is_world (contents_fault is.files known) all places i x.place w _ x.next x.at sort (was.resolved.first known right)
+    (c.in_err-resolve_world-in-World.ensures.first (contents_fault is.files known) (right_next_world is.files items places c.args.types.now is.arena c.args.prefix r ws i x.place c.index-items-next.result x.next x.at sort x.own g.inside g.types c.loop-next.resolving.required.items (rw was.interfaces was.resolved) known right))))
 
 pub returns-clause-made : goal.returns-clause-made
 returns-clause-made c =
@@ -177,8 +167,8 @@ returns-clause-made c =
     let places = c.args.places.now in
     let was = c.loop-next.invariant in
     let n = c.loop-next in
-    arenas_made is.files c.args.items.now places c.args.types.now is.arena c.args.prefix c.requires.ready c.loop-place.interfaces n.worlds.arena n.resolving.growing.inside n.resolving.growing.types n.resolving.required.items
-    (subst (λ (l : List ℕ). HasWorlds is.files places is.arena c.args.prefix (worlds_of (in_order (all_items is.files) l)) c.loop-place.interfaces n.worlds.arena n.resolving.growing.inside n.resolving.growing.types n.resolving.required.items) (take_all n.next-index places c.loop-next-test.false) was.resolved)
+    arenas_made is.files c.args.items.now places c.args.types.now is.arena c.args.prefix c.requires.ready c.loop-place.interfaces n.worlds.arena n.worlds.by_name n.resolving.growing.inside n.resolving.growing.types n.resolving.required.items
+    (subst (λ (l : List ℕ). HasWorlds is.files places is.arena c.args.prefix (worlds_of (in_order (all_items is.files) l)) c.loop-place.interfaces n.worlds.arena n.worlds.by_name n.resolving.growing.inside n.resolving.growing.types n.resolving.required.items) (take_all n.next-index places c.loop-next-test.false) was.resolved)
 
 pub returns-clause-first : goal.returns-clause-first
 returns-clause-first c = λ known right.
@@ -187,5 +177,5 @@ returns-clause-first c = λ known right.
     let all = all_items files in
     let places = c.args.places.now in
     none_after files known right places r.order r.uses
-    (ap (λ (l : List ℕ). first_in (contents_fault files known) (interfaces_of (in_order all l))) (sym (take_all c.loop-place.place-index places c.loop-place-test.false)) ∙ c.loop-place.invariant.first known right)
-    (ap (λ (l : List ℕ). first_in (contents_fault files known) (worlds_of (in_order all l))) (sym (take_all c.loop-next.next-index places c.loop-next-test.false)) ∙ c.loop-next.invariant.first known right)
+    (ap (λ (l : List ℕ). first_in (contents_fault files known) (interfaces_of (in_order all l))) (sym (take_all c.loop-place.place-index places c.loop-place-test.false)) ∙ c.loop-place.invariant.resolved.first known right)
+    (ap (λ (l : List ℕ). first_in (contents_fault files known) (worlds_of (in_order all l))) (sym (take_all c.loop-next.next-index places c.loop-next-test.false)) ∙ c.loop-next.invariant.resolved.first known right)
