@@ -1,5 +1,6 @@
 //! All interfaces and worlds of a package, one after another.
-ghost use Rattle.std.specs.Prelude.{◌≡◌, ◌++◌, [], IfOk};
+ghost use Rattle.std.specs.Prelude.{◌≡◌, ◌≤◌, ◌++◌, [], IfOk, length};
+ghost use Rattle.wit_items.specs.BorrowedItems.{others_of};
 ghost use Rattle.wit_contents.specs.Files.{FindsAfter, IsReady, MakeArenas};
 
 use crate::declared::resolve_interface;
@@ -75,6 +76,24 @@ fn begun(alloc: Global, types: &mut Entries, required: Vec<Required>) -> Resolvi
     Resolving { growing, required }
 }
 
+/// The worlds of other packages alone, once the interfaces are resolved.
+fn prefix_worlds<'f, 'a, 'i, 'n, 'e>(
+    alloc: Global,
+    interfaces: &'i Interfaces<'f, 'a, 'n, 'e>,
+    arena: Arena<World, WorldPlace>,
+) -> Worlds<'f, 'a, 'i, 'n, 'e>
+    requires { length (others_of interfaces.now.files) ≤ length arena }
+    ensures interfaces { result.interfaces.now ≡ interfaces.now }
+    ensures arena { result.arena ≡ arena }
+    ensures unnamed { result.by_name ≡ [] }
+{
+    Worlds {
+        interfaces,
+        arena,
+        by_name: TextTable::new(alloc),
+    }
+}
+
 /// Adds the interfaces among items, and then the worlds, each in the order of their places, to those of
 /// other packages; `prefix` are the worlds of these. Gives all worlds, the interfaces that are written in
 /// them, in the order in which they are seen, and what all items require of types of other packages.
@@ -106,12 +125,7 @@ pub fn resolve_items<'f, 'a>(
     let mut resolving = begun(alloc, types, required);
     let mut arena = prefix;
     make_room(items, &mut resolving.growing.inside, &mut arena)?;
-    let known: &Interfaces<'_, '_, '_, '_> = interfaces;
-    let mut worlds = Worlds {
-        interfaces: known,
-        arena,
-        by_name: TextTable::new(alloc),
-    };
+    let mut worlds = prefix_worlds(alloc, interfaces, arena);
     for next in places {
         let world = &items[*next];
         match world.declared {

@@ -1,13 +1,13 @@
 use Rattle.std.proofs.Common.{◌≡◌, List, ℕ, true, false, not, None, Some, refl, ap, sym, ◌∙◌, subst}
-use Rattle.wit_contents.proofs.Names.{World, about, all_items, contents_fault, declared_view, err_from_is_err_and, first_in, found_none, in_order, interfaces_of, is_world, item_called, item_view, kept_past, length, others_of, take_all, worlds_of}
+use Rattle.wit_contents.proofs.Names.{about, all_items, contents_fault, declared_view, err_from_is_err_and, first_in, in_order, interfaces_of, is_world, item_view, kept_past, take_all, worlds_of}
 use Rattle.wit_items.specs.declared.items.Declared.{Declared as BorrowedDeclared}
 use Rattle.wit_contents.proofs.FileFaults.{interfaces_reported, memory_found, none_after, worlds_reported}
 use Rattle.wit_contents.proofs.Files.{prefix_index, worlds_enough}
 use Rattle.wit_contents.proofs.ResolvedItems.{HasInterfaces, HasWorlds, arenas_made, interface_resolved, item_at, no_world_resolved, none_resolved, world_resolved}
 use Rattle.wit_contents.proofs.RightInterfaces.{right_next}
 use Rattle.wit_contents.proofs.RightWorlds.{right_next_world}
-use Rattle.wit_contents.proofs.WorldFaults.{among_kept}
-use Rattle.wit_contents.proofs.items.resolve_items.Goals.{in-Interface+in_ok-resolve_interface-in-Interface, in-World, in-Inline, in-World+in_ok-resolve_world-in-World, in-Interface}
+use Rattle.wit_contents.proofs.WorldFaults.{among_kept, item_called}
+use Rattle.wit_contents.proofs.items.resolve_items.Goals.{in-Interface+in_ok-resolve_interface-in-Interface, in-World, in-Inline, in-World-declared+in_ok-resolve_world-in-World-declared, in-Interface-declared, in-Inline-declared}
 use Rattle.wit_contents.proofs.items.resolve_items.Goals as goal
 
 -- the interfaces
@@ -74,15 +74,10 @@ returns-in_err-resolve_interface-in-Interface-clause-first c =
 pub returns-in_err-make_room-clause-first : goal.returns-in_err-make_room-clause-first
 returns-in_err-make_room-clause-first c = λ known right. memory_found _ c.from_residual-in_err-make_room.result c.from_residual-in_err-make_room.ensures.1
 
-pub invariant_of-worlds : goal.invariant_of-worlds
-invariant_of-worlds c =
-    let r = c.requires.ready in
+pub prefix_worlds-worlds-requires : goal.prefix_worlds-worlds-requires
+prefix_worlds-worlds-requires c =
     let is = c.args.interfaces.now in
-    let was = c.loop-place.invariant in
-    record {
-      prefix = rw (c.make_room.ensures.worlds, was.resolved.same) (worlds_enough is.files c.args.types.now is.arena c.args.prefix r.foreign);
-      found = found_none (λ (w : World). Some w.name) (length (others_of c.loop-place.interfaces.files)) c.make_room.new.worlds c.new.result c.new.ensures;
-    }
+    rw (c.make_room.ensures.worlds, c.loop-place.invariant.resolved.same) (worlds_enough is.files c.args.types.now is.arena c.args.prefix c.requires.ready.foreign)
 
 pub loop-next-init : goal.loop-next-init
 loop-next-init c =
@@ -92,7 +87,7 @@ loop-next-init c =
     let was = c.loop-place.invariant in
     let all_done = subst (λ (l : List ℕ). HasInterfaces is.files places is.arena (interfaces_of (in_order (all_items is.files) l)) c.loop-place.interfaces c.loop-place.types c.loop-place.required.items) (take_all c.loop-place.place-index places c.loop-place-test.false) was.resolved in
     record {
-      resolved = rw (c.begun-resolving.ensures.types, c.begun-resolving.ensures.required) (no_world_resolved is.files c.args.items.now places c.args.types.now is.arena c.args.prefix r c.loop-place.interfaces c.loop-place.types c.loop-place.required.items c.make_room.new.worlds c.new.result c.make_room.new.inside all_done c.make_room.ensures.worlds c.new.ensures (c.make_room.ensures.inside ∙ c.begun-resolving.ensures.inside));
+      resolved = rw (c.prefix_worlds-worlds.ensures.interfaces, c.begun-resolving.ensures.types, c.begun-resolving.ensures.required) (no_world_resolved is.files c.args.items.now places c.args.types.now is.arena c.args.prefix r c.loop-place.interfaces c.loop-place.types c.loop-place.required.items c.prefix_worlds-worlds.result.arena c.prefix_worlds-worlds.result.by_name c.make_room.new.inside all_done (c.prefix_worlds-worlds.ensures.arena ∙ c.make_room.ensures.worlds) c.prefix_worlds-worlds.ensures.unnamed (c.make_room.ensures.inside ∙ c.begun-resolving.ensures.inside));
       interfaces = refl;
     }
 
@@ -103,7 +98,7 @@ resolve_world-requires c =
     let x = item_at c.args.interfaces.now.files c.args.items.now c.args.places.now c.args.types.now c.args.interfaces.now.arena c.args.prefix r c.loop-next.next-index c.index-items-next.result c.loop-next-test.true c.index-items-next.is in
     record {
       item = record {
-        sort = ap (λ (d : BorrowedDeclared). (about (declared_view d)).is_world) c.in-World.is;
+        sort = ap (λ (d : BorrowedDeclared). (about (declared_view d)).is_world) c.in-World-declared.is;
         item = rw (was.interfaces, was.resolved.interfaces.same) x.own;
       };
       index = rw (was.interfaces, was.resolved.interfaces.same) was.resolved.index;
@@ -123,27 +118,27 @@ loop-next-preserved c =
     let g = c.loop-next.resolving.growing in
     let x = item_at is.files items places c.args.types.now is.arena c.args.prefix r i c.index-items-next.result c.loop-next-test.true c.index-items-next.is in
     elim c.match-world.branch [
-      | in-World+in_ok-resolve_world-in-World b ↦ (
-          let sort : is_world w ≡ true = ap (λ (d : BorrowedDeclared). (about (declared_view d)).is_world) b.in-World.is in
-          let e = b.in_ok-resolve_world-in-World.ensures in
+      | in-World-declared+in_ok-resolve_world-in-World-declared b ↦ (
+          let sort : is_world w ≡ true = ap (λ (d : BorrowedDeclared). (about (declared_view d)).is_world) b.in-World-declared.is in
+          let e = b.in_ok-resolve_world-in-World-declared.ensures in
           let new = b.resolve_world.new in
           let same = ap (λ r. r.now) e.interfaces ∙ was.interfaces in
           rw (b.worlds-is, b.resolving-is) (record {
-            resolved = world_resolved is.files items places c.args.types.now is.arena c.args.prefix r i x.place w x.next x.at sort c.loop-place.interfaces ws.arena new.worlds.arena ws.by_name new.worlds.by_name g.inside new.resolving.growing.inside g.types new.resolving.growing.types c.loop-next.resolving.required.items new.resolving.required.items was.resolved (rw was.interfaces at e.adds) (rw (same, was.resolved.interfaces.same) at e.index)
+            resolved = world_resolved is.files items places c.args.types.now is.arena c.args.prefix r i x.place w x.next x.at sort c.loop-next.initial.worlds.interfaces.now ws.arena new.worlds.arena ws.by_name new.worlds.by_name g.inside new.resolving.growing.inside g.types new.resolving.growing.types c.loop-next.resolving.required.items new.resolving.required.items was.resolved (rw was.interfaces at e.adds) (rw (same, was.resolved.interfaces.same) at e.index)
                 (λ known right. e.first (contents_fault is.files known) (right_next_world is.files items places c.args.types.now is.arena c.args.prefix r ws i x.place c.index-items-next.result x.next x.at sort x.own g.inside g.types c.loop-next.resolving.required.items (rw was.interfaces was.resolved) known right));
             interfaces = same;
           }))
-      | in-Interface b ↦ (
-          let past = kept_past is_world all places i x.place w x.next x.at (ap (λ (d : BorrowedDeclared). (about (declared_view d)).is_world) b.in-Interface.is) in
+      | in-Interface-declared b ↦ (
+          let past = kept_past is_world all places i x.place w x.next x.at (ap (λ (d : BorrowedDeclared). (about (declared_view d)).is_world) b.in-Interface-declared.is) in
           rw (b.worlds-is, b.resolving-is) (record { resolved = rw past was.resolved; interfaces = was.interfaces }))
-      | in-Inline b ↦ (
-          let past = kept_past is_world all places i x.place w x.next x.at (ap (λ (d : BorrowedDeclared). (about (declared_view d)).is_world) b.in-Inline.is) in
+      | in-Inline-declared b ↦ (
+          let past = kept_past is_world all places i x.place w x.next x.at (ap (λ (d : BorrowedDeclared). (about (declared_view d)).is_world) b.in-Inline-declared.is) in
           rw (b.worlds-is, b.resolving-is) (record { resolved = rw past was.resolved; interfaces = was.interfaces }))
     ]
 
-pub returns-in_err-resolve_world-in-World-clause-first : goal.returns-in_err-resolve_world-in-World-clause-first
-returns-in_err-resolve_world-in-World-clause-first c =
-    let q = err_from_is_err_and c.from_residual-in_err-resolve_world-in-World.result c.from_residual-in_err-resolve_world-in-World.ensures.1 in
+pub returns-in_err-resolve_world-in-World-declared-clause-first : goal.returns-in_err-resolve_world-in-World-declared-clause-first
+returns-in_err-resolve_world-in-World-declared-clause-first c =
+    let q = err_from_is_err_and c.from_residual-in_err-resolve_world-in-World-declared.result c.from_residual-in_err-resolve_world-in-World-declared.ensures.1 in
     let r = c.requires.ready in
     let is = c.args.interfaces.now in
     let all = all_items is.files in
@@ -155,11 +150,11 @@ returns-in_err-resolve_world-in-World-clause-first c =
     let ws = c.loop-next.worlds in
     let g = c.loop-next.resolving.growing in
     let x = item_at is.files items places c.args.types.now is.arena c.args.prefix r i c.index-items-next.result c.loop-next-test.true c.index-items-next.is in
-    let sort : is_world w ≡ true = ap (λ (d : BorrowedDeclared). (about (declared_view d)).is_world) c.in-World.is in
+    let sort : is_world w ≡ true = ap (λ (d : BorrowedDeclared). (about (declared_view d)).is_world) c.in-World-declared.is in
     rw (q.1, q.2) (λ known right. worlds_reported is.files known right places r.order _ r.uses
     (ap (λ (l : List ℕ). first_in (contents_fault is.files known) (interfaces_of (in_order all l))) (sym (take_all c.loop-place.place-index places c.loop-place-test.false)) ∙ c.loop-place.invariant.resolved.first known right)
     (among_kept is_world (contents_fault is.files known) all places i x.place w _ x.next x.at sort (was.resolved.first known right)
-    (c.in_err-resolve_world-in-World.ensures.first (contents_fault is.files known) (right_next_world is.files items places c.args.types.now is.arena c.args.prefix r ws i x.place c.index-items-next.result x.next x.at sort x.own g.inside g.types c.loop-next.resolving.required.items (rw was.interfaces was.resolved) known right))))
+    (c.in_err-resolve_world-in-World-declared.ensures.first (contents_fault is.files known) (right_next_world is.files items places c.args.types.now is.arena c.args.prefix r ws i x.place c.index-items-next.result x.next x.at sort x.own g.inside g.types c.loop-next.resolving.required.items (rw was.interfaces was.resolved) known right))))
 
 pub returns-clause-made : goal.returns-clause-made
 returns-clause-made c =
@@ -167,8 +162,9 @@ returns-clause-made c =
     let places = c.args.places.now in
     let was = c.loop-next.invariant in
     let n = c.loop-next in
-    arenas_made is.files c.args.items.now places c.args.types.now is.arena c.args.prefix c.requires.ready c.loop-place.interfaces n.worlds.arena n.worlds.by_name n.resolving.growing.inside n.resolving.growing.types n.resolving.required.items
-    (subst (λ (l : List ℕ). HasWorlds is.files places is.arena c.args.prefix (worlds_of (in_order (all_items is.files) l)) c.loop-place.interfaces n.worlds.arena n.worlds.by_name n.resolving.growing.inside n.resolving.growing.types n.resolving.required.items) (take_all n.next-index places c.loop-next-test.false) was.resolved)
+    let known = n.initial.worlds.interfaces.now in
+    rw (sym c.prefix_worlds-worlds.ensures.interfaces) (arenas_made is.files c.args.items.now places c.args.types.now is.arena c.args.prefix c.requires.ready known n.worlds.arena n.worlds.by_name n.resolving.growing.inside n.resolving.growing.types n.resolving.required.items
+    (subst (λ (l : List ℕ). HasWorlds is.files places is.arena c.args.prefix (worlds_of (in_order (all_items is.files) l)) known n.worlds.arena n.worlds.by_name n.resolving.growing.inside n.resolving.growing.types n.resolving.required.items) (take_all n.next-index places c.loop-next-test.false) was.resolved))
 
 pub returns-clause-first : goal.returns-clause-first
 returns-clause-first c = λ known right.

@@ -10,6 +10,6 @@ invariant-loop-place l = record {
 
 abbrev pub invariant-loop-next : goal.invariant-loop-next
 invariant-loop-next l = record {
-  resolved : HasWorlds l.fn.interfaces.files l.places l.fn.interfaces.arena l.fn.prefix (worlds_of (in_order (all_items l.fn.interfaces.files) (take l.next-index l.places))) l.interfaces l.worlds.arena l.worlds.by_name l.resolving.growing.inside l.resolving.growing.types l.resolving.required.items;
-  interfaces : l.worlds.interfaces.now ≡ l.interfaces;
+  resolved : HasWorlds l.fn.interfaces.files l.places l.fn.interfaces.arena l.fn.prefix (worlds_of (in_order (all_items l.fn.interfaces.files) (take l.next-index l.places))) l.initial.worlds.interfaces.now l.worlds.arena l.worlds.by_name l.resolving.growing.inside l.resolving.growing.types l.resolving.required.items;
+  interfaces : l.worlds.interfaces.now ≡ l.initial.worlds.interfaces.now;
 }
