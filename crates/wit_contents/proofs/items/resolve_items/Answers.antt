@@ -124,7 +124,7 @@ loop-next-preserved c =
           let new = b.resolve_world.new in
           let same = ap (λ r. r.now) e.interfaces ∙ was.interfaces in
           rw (b.worlds-is, b.resolving-is) (record {
-            resolved = world_resolved is.files items places c.args.types.now is.arena c.args.prefix r i x.place w x.next x.at sort c.loop-next.initial.worlds.interfaces.now ws.arena new.worlds.arena ws.by_name new.worlds.by_name g.inside new.resolving.growing.inside g.types new.resolving.growing.types c.loop-next.resolving.required.items new.resolving.required.items was.resolved (rw was.interfaces at e.adds) (rw (same, was.resolved.interfaces.same) at e.index)
+            resolved = world_resolved is.files items places c.args.types.now is.arena c.args.prefix r i x.place w x.next x.at sort c.prefix_worlds-worlds.result.interfaces.now ws.arena new.worlds.arena ws.by_name new.worlds.by_name g.inside new.resolving.growing.inside g.types new.resolving.growing.types c.loop-next.resolving.required.items new.resolving.required.items was.resolved (rw was.interfaces at e.adds) (rw (same, was.resolved.interfaces.same) at e.index)
                 (λ known right. e.first (contents_fault is.files known) (right_next_world is.files items places c.args.types.now is.arena c.args.prefix r ws i x.place c.index-items-next.result x.next x.at sort x.own g.inside g.types c.loop-next.resolving.required.items (rw was.interfaces was.resolved) known right));
             interfaces = same;
           }))
@@ -162,7 +162,7 @@ returns-clause-made c =
     let places = c.args.places.now in
     let was = c.loop-next.invariant in
     let n = c.loop-next in
-    let known = n.initial.worlds.interfaces.now in
+    let known = c.prefix_worlds-worlds.result.interfaces.now in
     rw (sym c.prefix_worlds-worlds.ensures.interfaces) (arenas_made is.files c.args.items.now places c.args.types.now is.arena c.args.prefix c.requires.ready known n.worlds.arena n.worlds.by_name n.resolving.growing.inside n.resolving.growing.types n.resolving.required.items
     (subst (λ (l : List ℕ). HasWorlds is.files places is.arena c.args.prefix (worlds_of (in_order (all_items is.files) l)) known n.worlds.arena n.worlds.by_name n.resolving.growing.inside n.resolving.growing.types n.resolving.required.items) (take_all n.next-index places c.loop-next-test.false) was.resolved))
 
