@@ -62,9 +62,12 @@ abbrev pub name_foreign_uses : ScopeName → List ForeignUse
 name_foreign_uses (Used from attributes n) = filter (λ t. is_foreign t.from) (use_of_foreign from attributes n ∷ [])
 name_foreign_uses _ = []
 
+abbrev pub names_foreign_uses : List Borrowed → List ForeignUse
+names_foreign_uses names = flat_map name_foreign_uses (map name_view names)
+
 -- those among the names of an item, and then among those of what is written in it, on the imported side and on the exported one
 abbrev pub borrowed_foreign_uses : BorrowedItem → List ForeignUse
-borrowed_foreign_uses i = flat_map name_foreign_uses (map name_view i.names.items) ++ (flat_map (flat_map name_foreign_uses) (inside_view Imported i) ++ flat_map (flat_map name_foreign_uses) (inside_view Exported i))
+borrowed_foreign_uses i = names_foreign_uses i.names.items ++ (flat_map (flat_map name_foreign_uses) (inside_view Imported i) ++ flat_map (flat_map name_foreign_uses) (inside_view Exported i))
 
 -- some names were used from some items, at which what is at hand is placed
 pub record HasUsed (types : List TypeDef) (a : ForeignArenas) (Placed : List Address → Type 0) : Type 0 where

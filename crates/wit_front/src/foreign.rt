@@ -1,13 +1,12 @@
 //! What other packages' items put before the arenas.
 ghost use Rattle.std.specs.Prelude.{◌≡◌, ◌∷◌, ◌<◌, All, Some, [], true, false, length, map, nat_eq, slice_get, IfOk, OnOk};
 ghost use Rattle.std.specs.Cmp.Lexicographic.{pointwise};
-ghost use Rattle.std.specs.List.{flat_map};
 ghost use Rattle.indexmap.specs.IndexMap.{insert_entry};
 ghost use Rattle.wit_syntax.specs.Shorthand.{use_of_foreign};
 ghost use Rattle.wit_files.specs.ForeignPaths.{foreign_view};
 ghost use Rattle.wit_scopes.specs.BorrowedNames.{name_view, IsNamePlaced, AreNamesPlaced};
 ghost use Rattle.wit_items.specs.BorrowedItems.{ArePlacedInside, IsItemPlaced};
-ghost use Rattle.wit_front.specs.ForeignPrefix.{AddsPrefix, AddsUsed, AddsVisit, inside_uses, interface_with, with_types, bare_world, AreAdded, HasUsed, name_foreign_uses, borrowed_foreign_uses};
+ghost use Rattle.wit_front.specs.ForeignPrefix.{AddsPrefix, AddsUsed, AddsVisit, inside_uses, interface_with, with_types, bare_world, AreAdded, HasUsed, name_foreign_uses, names_foreign_uses, borrowed_foreign_uses};
 
 use std::alloc::{AllocError, Global};
 use wit_entries::entries::Entries;
@@ -211,7 +210,7 @@ impl ForeignArenas {
         types: &mut Entries,
     ) -> Result<(), AllocError>
         requires { HasUsed types.old arenas.old (λ p. AreNamesPlaced p names.now) }
-        ensures { OnOk result (AddsUsed types.old arenas.old types.new arenas.new (λ p. AreNamesPlaced p names.now) (flat_map name_foreign_uses (map name_view names.now))) }
+        ensures { OnOk result (AddsUsed types.old arenas.old types.new arenas.new (λ p. AreNamesPlaced p names.now) (names_foreign_uses names.now)) }
     {
         for name in names {
             ForeignArenas::add_used_by_name(alloc, name, arenas, types)?;
