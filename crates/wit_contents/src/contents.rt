@@ -78,7 +78,7 @@ fn resolve_named<'f, 'a>(
     let order = names.item_order();
     let mut prefix = ForeignArenas::of_items(alloc, names.foreign(), order.len())?;
     let gathered = Files::of(names, &prefix.entries);
-    let mut items = declared_items(alloc, files, &gathered, order.len())?;
+    let mut items = declared_items(alloc, &gathered, files, order.len())?;
     drop(gathered);
     let lent: &mut [Item<'_, '_>] = &mut items;
     ForeignArenas::add_used_by_items(alloc, lent, &mut prefix, types)?;

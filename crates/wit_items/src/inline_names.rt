@@ -49,8 +49,8 @@ fn written_on<'f, 'a>(part: &'f WorldItem<'a>, side: WorldSide) -> Option<&'f [I
 /// order.
 pub fn names_inside<'f, 'a>(
     alloc: Global,
-    world: &'f World<'a>,
     files: &Files<'f, 'a, '_, '_>,
+    world: &'f World<'a>,
     side: WorldSide,
     place: usize,
 ) -> ParseResult<Vec<Vec<ScopeName<'f, 'a>>>>
@@ -62,7 +62,7 @@ pub fn names_inside<'f, 'a>(
     let mut inside = Vec::new(alloc);
     for part in world_items(world) {
         if let Some(items) = written_on(part, side) {
-            inside.push(interface_names(alloc, items, files, place)?)?;
+            inside.push(interface_names(alloc, files, items, place)?)?;
         }
     }
     Ok(inside)

@@ -105,8 +105,8 @@ struct WorldNames<'f, 'a> {
 /// Those of a world that the file at a place declares.
 fn names_of_world<'f, 'a>(
     alloc: Global,
-    world: &'f World<'a>,
     files: &Files<'f, 'a, '_, '_>,
+    world: &'f World<'a>,
     place: usize,
 ) -> ParseResult<WorldNames<'f, 'a>>
     requires { HasItem files.now place (TheWorld world.now) }
@@ -114,17 +114,17 @@ fn names_of_world<'f, 'a>(
     ensures first { Finds (item_uses_fault files.now (item_in files.now place (TheWorld world.now))) result }
 {
     Ok(WorldNames {
-        own: world_names(alloc, world, files, place)?,
-        imported: names_inside(alloc, world, files, WorldSide::Imported, place)?,
-        exported: names_inside(alloc, world, files, WorldSide::Exported, place)?,
+        own: world_names(alloc, files, world, place)?,
+        imported: names_inside(alloc, files, world, WorldSide::Imported, place)?,
+        exported: names_inside(alloc, files, world, WorldSide::Exported, place)?,
     })
 }
 
 /// Adds the items of the file at a place.
 fn add_items<'f, 'a>(
     alloc: Global,
-    file: &'f PackageFile<'a>,
     files: &Files<'f, 'a, '_, '_>,
+    file: &'f PackageFile<'a>,
     items: &mut Vec<Item<'f, 'a>>,
     place: usize,
 ) -> ParseResult<()>
@@ -142,13 +142,13 @@ fn add_items<'f, 'a>(
                     place,
                     file,
                     declared: Declared::Interface(interface),
-                    names: interface_names(alloc, &interface.items, files, place)?,
+                    names: interface_names(alloc, files, &interface.items, place)?,
                     imported: Vec::new(alloc),
                     exported: Vec::new(alloc),
                 },
             )?,
             AstItem::World(world) => {
-                let names = names_of_world(alloc, world, files, place)?;
+                let names = names_of_world(alloc, files, world, place)?;
                 push(
                     items,
                     Item {
@@ -173,8 +173,8 @@ fn add_items<'f, 'a>(
 /// or to a world (10).
 pub fn declared_items<'f, 'a>(
     alloc: Global,
-    files: &'f [PackageFile<'a>],
     names: &Files<'f, 'a, '_, '_>,
+    files: &'f [PackageFile<'a>],
     room: usize,
 ) -> ParseResult<Vec<Item<'f, 'a>>>
     requires files { names.now ≡ files.now }
@@ -184,7 +184,7 @@ pub fn declared_items<'f, 'a>(
 {
     let mut items = Vec::with_capacity(alloc, room)?;
     for (place, file) in files.iter().enumerate() {
-        add_items(alloc, file, names, &mut items, place)?;
+        add_items(alloc, names, file, &mut items, place)?;
     }
     Ok(items)
 }

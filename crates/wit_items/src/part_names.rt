@@ -71,8 +71,8 @@ fn sound_source<'f, 'a>(
 /// Adds the names that a part of an item of the file at a place brings.
 fn add_part<'f, 'a>(
     alloc: Global,
-    part: Part<'f, 'a>,
     files: &Files<'f, 'a, '_, '_>,
+    part: Part<'f, 'a>,
     place: usize,
     names: &mut Vec<ScopeName<'f, 'a>>,
 ) -> ParseResult<()>
@@ -128,8 +128,8 @@ fn world_room(items: &[WorldItem<'_>]) -> usize {
 /// The names of an interface of the file at a place, which has these items.
 pub fn interface_names<'f, 'a>(
     alloc: Global,
-    items: &'f [InterfaceItem<'a>],
     files: &Files<'f, 'a, '_, '_>,
+    items: &'f [InterfaceItem<'a>],
     place: usize,
 ) -> ParseResult<Vec<ScopeName<'f, 'a>>>
     requires paths { (u : TheUse) → Contains (flat_map own_uses (map the_interface_part items.now)) u → HasPath files.now place u.from }
@@ -139,7 +139,7 @@ pub fn interface_names<'f, 'a>(
 {
     let mut names = Vec::with_capacity(alloc, interface_room(items))?;
     for part in items {
-        add_part(alloc, interface_part(part), files, place, &mut names)?;
+        add_part(alloc, files, interface_part(part), place, &mut names)?;
     }
     Ok(names)
 }
@@ -147,8 +147,8 @@ pub fn interface_names<'f, 'a>(
 /// The names of a world of the file at a place.
 pub fn world_names<'f, 'a>(
     alloc: Global,
-    world: &'f World<'a>,
     files: &Files<'f, 'a, '_, '_>,
+    world: &'f World<'a>,
     place: usize,
 ) -> ParseResult<Vec<ScopeName<'f, 'a>>>
     requires item { HasItem files.now place (TheWorld world.now) }
@@ -159,7 +159,7 @@ pub fn world_names<'f, 'a>(
     let written = world_items(world);
     let mut names = Vec::with_capacity(alloc, world_room(written))?;
     for part in written {
-        add_part(alloc, world_part(part), files, place, &mut names)?;
+        add_part(alloc, files, world_part(part), place, &mut names)?;
     }
     Ok(names)
 }
