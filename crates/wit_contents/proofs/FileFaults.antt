@@ -1,5 +1,5 @@
 -- The first fault of files from a step of the walk on: of their names, of uses, and of what is in interfaces and worlds.
-use Rattle.std.proofs.Common.{◌≡◌, ◌⊎◌, ℕ, List, Option, Some, None, inl, inr, sym, ap, ◌∙◌, drop}
+use Rattle.std.proofs.Common.{◌≡◌, ◌⊎◌, ℕ, List, Option, Some, None, inl, inr, sym, ap, ◌∙◌, drop, IfOk, OnOk}
 use Rattle.wit_contents.proofs.Names.{AtCycle, AtMissing, Err, Fault, Finds, ForeignVisit, Id, InOrder, IsAllocationFailure, IsErrAnd, IsOrder, IsOutcome, IsRight, Known, Ok, Outcome, PackageFile, ParseError, Reports, Result, Row, all_items, all_uses_fault, contents_fault, cyclic_at, files_fault, first_in, foreign_visits, in_order, interfaces_of, item_names_fault, item_rows, item_word, missing_at, option_or, or_assoc, or_none, order_fault, order_of, outcome_one, reports_back, reports_prefix, reports_same, stability_fault, tops_fault, worlds_of, earliest}
 use Rattle.wit_first.specs.OrderFaults.{IsNamesFault, IsOrderFault, IsOrderedFault, names_prefix}
 use Rattle.wit_first.proofs.OrderFaults.{or_is, or_neither}
@@ -91,3 +91,8 @@ memory_found first (Err e) h = inl h
 pub or_found : {A B C : Type 0} → A ⊎ B → (B → C) → A ⊎ C
 or_found (inl memory) found = inl memory
 or_found (inr b) found = inr (found b)
+
+-- what holds of what a call gives, with what then holds too
+pub if_ok_both : {T E Q : Type 0} {P R : T → Type 0} (r : Result T E) → IfOk r P → OnOk r Q → ((x : T) → P x → Q → R x) → IfOk r R
+if_ok_both (Ok x) p q both = both x p q
+if_ok_both (Err e) p q both = p

@@ -1,6 +1,6 @@
 -- What holds of files, of what comes before their interfaces and worlds, and once these were added.
-use Rattle.std.proofs.Common.{◌≡◌, List, sym, ap, ◌∙◌, All, length, map, subst, ◌≤◌, [], arith, refl}
-use Rattle.wit_contents.proofs.Names.{AddsForeign, AreItemsOf, ForeignVisit, Interface, InterfaceNamed, IsItemPlaced, IsNameIndex, Item as BorrowedItem, Names, PackageFile, TypeDef, World, WorldNamed, all_items, append-nil, foreign_entry, foreign_interfaces, foreign_items, foreign_view, foreign_worlds, index_prefix, interfaces_at, interfaces_at-append, interfaces_differ, item_view, length-map, others_of, prefix_of, visited, visited_foreign, visits_differ, worlds_at, worlds_at-append}
+use Rattle.std.proofs.Common.{◌≡◌, List, sym, ap, ◌∙◌, All, length, map, subst, ◌≤◌, [], arith, refl, false}
+use Rattle.wit_contents.proofs.Names.{AddsForeign, AreItemsOf, ForeignVisit, Interface, InterfaceNamed, Interfaces, IsItemIn, IsItemPlaced, IsLent, IsNameIndex, ItemScope, Item as BorrowedItem, Names, PackageFile, TypeDef, World, WorldNamed, all_items, append-nil, foreign_entry, foreign_interfaces, foreign_items, foreign_view, foreign_worlds, index_prefix, interfaces_at, interfaces_at-append, interfaces_differ, item_view, length-map, name_view, others_of, prefix_of, scope_item, visited, visited_foreign, visits_differ, worlds_at, worlds_at-append}
 use Rattle.wit_arena.proofs.Common.{interfaces_count, worlds_count}
 use Rattle.wit_files.specs.declared.foreign.ForeignVisit.{ForeignVisit as BorrowedVisit}
 use Rattle.wit_front.specs.declared.foreign.ForeignArenas.{ForeignArenas}
@@ -26,9 +26,6 @@ module _ (files : List PackageFile) (es : List TypeDef) (is : List Interface) (w
   pub interfaces_enough : length (prefix_of files) ≤ length is
   interfaces_enough = omega (arith, interfaces_count adds, length-map (foreign_interfaces files) visited)
 
-  pub worlds_enough : length (others_of files) ≤ length ws
-  worlds_enough = omega (arith, worlds_count adds, length-map (foreign_worlds files) visited)
-
 -- the items of other packages before anything is taken from them
 bare : (files : List PackageFile) (vs : List BorrowedVisit) (types : List TypeDef) (a : ForeignArenas) → map foreign_view vs ≡ foreign_items files → types ≡ [] → AreAdded (map foreign_view vs) [] [] a → AreAdded (foreign_items files) [] types a
 bare files vs types a all empty h = subst (λ (ts : List TypeDef). AreAdded (foreign_items files) [] ts a) (sym empty) (subst (λ (l : List ForeignVisit). AreAdded l [] [] a) all h)
@@ -52,3 +49,12 @@ module _ (files : List PackageFile) (vs : List BorrowedVisit) (types : List Type
     -- once all are taken, they are what comes first
     pub prefix_used : (types' : List TypeDef) (a' : ForeignArenas) → map item_view items ≡ all_items files → AddsPrefix types a types' a' borrowed → IsPrefix files types' a'
     prefix_used types' a' view in_use = in_use files (bare files vs types a all empty made) (subst (AreItemsOf files) (sym lent) are) (ap (map item_view) lent ∙ view)
+
+-- an interface of files as it is lent
+pub item_lent : (is : Interfaces) (i : BorrowedItem) (s : ItemScope) → IsItemIn is false i → scope_item s ≡ item_view i → s.names.now ≡ i.names.items → IsLent s is.files (item_view i)
+item_lent is i s own same borrowed = record {
+  sort = own.sort;
+  item = same;
+  named = ap (map name_view) borrowed ∙ own.item.named;
+  placed = rw borrowed (own.item.placed.own);
+}

@@ -1,6 +1,6 @@
 -- The first fault of an interface: of its names, or, once they are resolved, of what comes after them.
-use Rattle.std.proofs.Common.{◌≡◌, ℕ, List, [], length, map, Option, None, sym, ap, ◌∙◌, subst, arith, ◌∷◌, ◌++◌, take, Some, refl, append_assoc, ◌<◌, ◌+◌, drop, get_or}
-use Rattle.wit_contents.proofs.Names.{AddsTurn, Defines, EndsInTurn, Env, Err, Fault, Finds, FindsInterface, Id, InOrder, Interfaces, IsLent, IsOutcome, IsRightOf, ItemScope, Names, Ok, Outcome, ParseError, Required, ResolvedScope, Result, ScopeName, TypeDef, TypeOwner, env_of, finds_same, in_turn, interface_fault, local_id, names_of, option_or, order_of, outcome_one, resolved_scopes_of, rest_fault, rows_of, scope_item, scope_names, take_all, AddsMembers, AreKeyed, AreNamesPlaced, AreRightMembers, Declared, IsLinkedTo, IsNext, IsRightMember, ItemWalk, Link, Reports, ResourceFunc, SideFunction, SideItem, SideLink, SourceFunction, Stage, TheInline, TheWorld, TopName, TypeBody, about, after-append, append-nil, declared_view, definition_functions, first_after, flat_map, flat_map-append, function_fault, inline_item, inline_of, inline_side, inside_of, inside_view, item_function, item_inline, item_name, items_on, lead, length-map, linked_fault, lost_word, map-append, meaning, metadata_fault, name_view, names_at_top, next_place, none_both, option_map, option_map_or, or_none, part_items, parts_more, prefix_of, put_link_fault, reports_prefix, reports_same, resource_function, seen_on, side_items, slice_get, slice_get_read, slice_get_within, stage, take_next, take_seam, top_at, word_fault, world_part, item_stability, names_fault, item_view, put_fault}
+use Rattle.std.proofs.Common.{◌≡◌, ℕ, List, [], length, map, Option, None, sym, ap, ◌∙◌, subst, arith, ◌∷◌, ◌++◌, take, Some, refl, append_assoc, ◌<◌, ◌≤◌, ◌+◌, drop, get_or}
+use Rattle.wit_contents.proofs.Names.{Item as BorrowedItem, AddsTurn, Defines, EndsInTurn, Env, Err, Fault, Finds, FindsInterface, Id, InOrder, Interfaces, IsLent, IsOutcome, IsRightOf, ItemScope, Names, Ok, Outcome, ParseError, Required, ResolvedScope, Result, ScopeName, TypeDef, TypeOwner, env_of, finds_same, in_turn, interface_fault, local_id, names_of, option_or, order_of, outcome_one, resolved_scopes_of, rest_fault, rows_of, scope_item, scope_names, take_all, AddsMembers, AreKeyed, AreRightMembers, Declared, IsLinkedTo, IsNext, IsRightMember, ItemWalk, Link, Reports, ResourceFunc, SideFunction, SideItem, SideLink, SourceFunction, Stage, TheInline, TheWorld, TopName, TypeBody, about, after-append, append-nil, declared_view, definition_functions, first_after, flat_map, flat_map-append, function_fault, inline_item, inline_of, inline_side, inside_of, inside_view, item_function, item_inline, item_name, items_on, lead, length-map, linked_fault, lost_word, meaning, metadata_fault, name_view, names_at_top, next_place, none_both, option_map, option_map_or, or_none, part_items, prefix_of, put_link_fault, reports_prefix, reports_same, resource_function, seen_on, side_items, slice_get, slice_get_read, slice_get_within, stage, take_next, take_seam, top_at, word_fault, world_part, item_stability, names_fault, item_view, put_fault}
 use Rattle.wit_arena.proofs.Common.{Item}
 use Rattle.wit_entries.specs.EntryFaults.{IsExtended, written_fault}
 use Rattle.wit_externs.specs.Clash.{EndsIn, FindsIn, signed_by}
@@ -8,16 +8,18 @@ use Rattle.wit_externs.proofs.AloneFaults.{safe_of, function_same, words_in}
 use Rattle.wit_item_entries.specs.Body.{HasTurn}
 use Rattle.wit_item_entries.specs.declared.names.ResolvedNames.{ResolvedNames}
 use Rattle.wit_contents.proofs.FileFaults.{or_found}
-use Rattle.wit_contents.specs.declared.walk.Growing.{Growing}
+use Rattle.wit_contents.specs.declared.making.Growing.{Growing}
 use Rattle.wit_contents.specs.declared.walk.Walked.{Walked}
 use Rattle.wit_walk.proofs.Common.{World, WorldItem}
 use Rattle.wit_rules.specs.Signatures.{function_view, HaveOwners}
 use Rattle.wit_items.specs.declared.items.InlineInterface.{InlineInterface}
+use Rattle.wit_links.specs.declared.inside.Counts.{Counts}
 use Rattle.wit_links.proofs.Inlined.{names_own, lent_named, lent_placed}
 use Rattle.wit_item_entries.proofs.ReachedFaults.{words_same, all_names}
 use Rattle.wit_item_entries.proofs.ScopeFunctions.{owners, turn_has}
 use Rattle.wit_contents.proofs.Members.{function_there, inline_here, members_none, members_then, next_then}
 use Rattle.wit_externs.proofs.Steps.{split_at}
+use Rattle.wit_syntax.proofs.JoinedLists.{flat_map-map}
 use Rattle.wit_types.specs.declared.types.TypeOwner.TheVariants as owner
 use Rattle.wit_type_tree.specs.declared.types.TypeBody.TheVariants as body
 
@@ -88,7 +90,7 @@ module _ (w : ItemWalk) where
 
   -- so more of them come next
   module _ (all done ys rest : List SideItem) (a b : Stage) (split : all ≡ done ++ (ys ++ rest)) (d : AreDone all done a b) where
-    abbrev pub next_of : IsNext w all a.walked → IsNext w ys b.walked
+    abbrev next_of : IsNext w all a.walked → IsNext w ys b.walked
     next_of n = next_then w all done ys rest a b n split (d.adds n)
 
     -- of which a test is right that is right of all
@@ -98,7 +100,7 @@ module _ (w : ItemWalk) where
         subst (λ (l : List SideItem). IsRightMember (wrong l x) w l x now) (sym (append_assoc n.prefix done early)) (right (done ++ early) (late ++ rest) x now whole (members_then w n.prefix done early a b now (d.adds n) more))
 
     -- the first fault of these is the first of all
-    pub first_later : (e : ParseError) → ((n : IsNext w ys b.walked) → ReportFirst w n.prefix ys b e) → (n : IsNext w all a.walked) → ReportFirst w n.prefix all a e
+    first_later : (e : ParseError) → ((n : IsNext w ys b.walked) → ReportFirst w n.prefix ys b e) → (n : IsNext w all a.walked) → ReportFirst w n.prefix all a e
     first_later e own n wrong right =
         let later = first_after wrong (n.prefix ++ done) (ys ++ rest) in
         let is : first_after wrong n.prefix all ≡ option_or (first_after wrong (n.prefix ++ done) ys) (first_after wrong ((n.prefix ++ done) ++ ys) rest) =
@@ -110,7 +112,7 @@ module _ (w : ItemWalk) where
         reports_same (sym is) (reports_prefix (first_after wrong ((n.prefix ++ done) ++ ys) rest) (own (next_of n) wrong (rights_next n wrong right)))
 
     -- where these have none either
-    pub done_later : (c : Stage) → ((n : IsNext w ys b.walked) → AddsMembers w n.prefix ys b c) → ((n : IsNext w ys b.walked) → HaveNone w n.prefix ys ys b) → AreDone all (done ++ ys) a c
+    done_later : (c : Stage) → ((n : IsNext w ys b.walked) → AddsMembers w n.prefix ys b c) → ((n : IsNext w ys b.walked) → HaveNone w n.prefix ys ys b) → AreDone all (done ++ ys) a c
     done_later c adds none = record {
       adds = λ n. members_then w n.prefix done ys a b c (d.adds n) (adds (next_of n));
       none = λ n wrong right. after-append wrong n.prefix done ys ∙ none_both (d.none n wrong right) (none (next_of n) wrong (rights_next n wrong right));
@@ -160,19 +162,17 @@ module _ {w : ItemWalk} {fn : SourceFunction} {m : Walked} (n : IsNext w (SideFu
   abbrev pub by_table : List TypeDef → Option Fault
   by_table es = function_fault (written_fault (lost_word (take (place + 1) fns)) env es) xs fn
 
-  abbrev pub by_names : (Id → Option Fault) → Option Fault
+  abbrev by_names : (Id → Option Fault) → Option Fault
   by_names handle = function_fault (signed_by (word_fault xs) handle (flat_map item_function n.prefix ++ fn ∷ [])) xs fn
 
-  pub function_is : (es : List TypeDef) (handle : Id → Option Fault) → EndsIn env es handle → by_table es ≡ by_names handle
+  function_is : (es : List TypeDef) (handle : Id → Option Fault) → EndsIn env es handle → by_table es ≡ by_names handle
   function_is es handle ends = function_same env es handle xs ends fns place fn function_next ∙ by_scope handle
 
--- and so of all that is found of it
-pub function_found : {T : Type 0} (r : Result T ParseError) (w : ItemWalk) (fn : SourceFunction) (a : Stage) (n : IsNext w (SideFunction fn ∷ []) a.walked) → ((handle : Id → Option Fault) → ((more : List TypeDef) → EndsIn (env_of w.scope.names.types) (a.growing.types ++ more) handle) → Finds (option_or (function_fault (signed_by (word_fault (scope_names (item_view w.item))) handle (flat_map item_function n.prefix ++ fn ∷ [])) (scope_names (item_view w.item)) fn) (put_fault a.walked.members (SideFunction fn))) r) → (wrong : List SideItem → SideItem → Option Fault) → AreRightMembers wrong w n.prefix (SideFunction fn ∷ []) a → Finds (first_after wrong n.prefix (SideFunction fn ∷ [])) r
-function_found r w fn a n found = one_found w r (SideFunction fn) a n (λ wrong right. finds_same r (sym right.2) (found right.0 right.1))
-
--- its test is right once it was resolved
-pub function_ends : (env : Env) (old new : List TypeDef) (handle : Id → Option Fault) → ((more : List TypeDef) → EndsIn env (old ++ more) handle) → IsExtended old new → EndsIn env new handle
-function_ends env old new handle from g = subst (λ (es : List TypeDef). EndsIn env es handle) (sym g.is) (from g.more)
+  -- and so of all that is found of it, where its name is looked at next
+  pub function_found : {U T : Type 0} (q : Result U ParseError) (r : Result T ParseError) (g : Growing) (new : List TypeDef) → IsExtended g.types new → Finds (by_table new) q → ((o : Option Fault) → Finds o q → Finds (option_or o (put_fault m.members (SideFunction fn))) r) → (wrong : List SideItem → SideItem → Option Fault) → AreRightMembers wrong w n.prefix (SideFunction fn ∷ []) (stage g m) → Finds (first_after wrong n.prefix (SideFunction fn ∷ [])) r
+  function_found q r g new more found next = one_found w r (SideFunction fn) (stage g m) n (λ wrong right. (
+      let ends = subst (λ (es : List TypeDef). EndsIn env es right.0) (sym more.is) (right.1 more.more) in
+      finds_same r (sym right.2) (next (by_names right.0) (finds_same q (function_is new right.0 ends) found))))
 
 -- a link that comes next: its attributes, where its path leads, and its name
 module _ {w : ItemWalk} {link : Link} {m : Walked} (n : IsNext w (SideLink link ∷ []) m) where
@@ -186,122 +186,96 @@ module _ {w : ItemWalk} {link : Link} {m : Walked} (n : IsNext w (SideLink link 
   pub link_leads : (id : ℕ) → IsLinkedTo resolved.files resolved.by_name (top_at resolved.files w.item.place) link.path id → IsLinkedTo resolved.files resolved.by_name (item_view w.item).top link.path id
   link_leads id leads = subst (λ (t : List TopName). IsLinkedTo resolved.files resolved.by_name t link.path id) at_top leads
 
-  abbrev lost : List TopName → Option Fault
-  lost top = linked_fault resolved.files resolved.by_name top link.path
+  abbrev pub link_lost : List TopName → Option Fault
+  link_lost top = linked_fault w.interfaces.files w.interfaces.by_name top link.path
 
-  abbrev put : Option Fault
-  put = option_map_or (put_link_fault m.members link) (lead w link.path) None
+  abbrev pub link_named : Option Fault
+  link_named = option_map_or (put_link_fault m.members link) (lead w link.path) None
 
-  pub link_noted : (f : Fault) → metadata_fault link.attributes ≡ Some f → option_or (metadata_fault link.attributes) (option_or (linked_fault w.interfaces.files w.interfaces.by_name (item_view w.item).top link.path) (option_map_or (put_link_fault m.members link) (lead w link.path) None)) ≡ Some f
-  link_noted f noted = ap (λ (o : Option Fault). option_or o (option_or (lost (item_view w.item).top) put)) noted
+  pub link_reached : {T : Type 0} (r : Result T ParseError) → Finds (link_lost (top_at w.interfaces.files w.item.place)) r → Finds (link_lost (item_view w.item).top) r
+  link_reached r found = finds_same r (ap link_lost at_top) found
 
-  pub link_lost : (f : Fault) → metadata_fault link.attributes ≡ None → lost (top_at resolved.files w.item.place) ≡ Some f → option_or (metadata_fault link.attributes) (option_or (linked_fault w.interfaces.files w.interfaces.by_name (item_view w.item).top link.path) (option_map_or (put_link_fault m.members link) (lead w link.path) None)) ≡ Some f
-  link_lost f noted wrong = ap (λ (o : Option Fault). option_or o (option_or (lost (item_view w.item).top) put)) noted ∙ ap (λ (o : Option Fault). option_or o put) (sym (ap lost at_top) ∙ wrong)
+  pub link_put : {T : Type 0} (r : Result T ParseError) (id : ℕ) → IsLinkedTo w.interfaces.files w.interfaces.by_name (top_at w.interfaces.files w.item.place) link.path id → Finds (put_link_fault m.members link id) r → Finds link_named r
+  link_put r id leads found = finds_same r (sym (ap (λ (p : Option ℕ). option_map_or (put_link_fault m.members link) p None) (link_leads id leads).1)) found
 
-  pub link_put : (id : ℕ) (o : Option Fault) → metadata_fault link.attributes ≡ None → lost (top_at resolved.files w.item.place) ≡ None → lead w link.path ≡ Some id → put_link_fault m.members link id ≡ o → option_or (metadata_fault link.attributes) (option_or (linked_fault w.interfaces.files w.interfaces.by_name (item_view w.item).top link.path) (option_map_or (put_link_fault m.members link) (lead w link.path) None)) ≡ o
-  link_put id o noted leads there is =
-      ap (λ (p : Option Fault). option_or p (option_or (lost (item_view w.item).top) put)) noted
-      ∙ ap (λ (p : Option Fault). option_or p put) (sym (ap lost at_top) ∙ leads)
-      ∙ ap (λ (p : Option ℕ). option_map_or (put_link_fault m.members link) p None) there
-      ∙ is
-
-pub link_found : {T : Type 0} (r : Result T ParseError) (w : ItemWalk) (link : Link) (a : Stage) (n : IsNext w (SideLink link ∷ []) a.walked) → Finds (option_or (metadata_fault link.attributes) (option_or (linked_fault w.interfaces.files w.interfaces.by_name (item_view w.item).top link.path) (option_map_or (put_link_fault a.walked.members link) (lead w link.path) None))) r → (wrong : List SideItem → SideItem → Option Fault) → AreRightMembers wrong w n.prefix (SideLink link ∷ []) a → Finds (first_after wrong n.prefix (SideLink link ∷ [])) r
-link_found r w link a n found = one_found w r (SideLink link) a n (λ wrong right. finds_same r (sym right) found)
+  pub link_found : {T : Type 0} (r : Result T ParseError) (g : Growing) → Finds (option_or (metadata_fault link.attributes) (option_or (link_lost (item_view w.item).top) link_named)) r → (wrong : List SideItem → SideItem → Option Fault) → AreRightMembers wrong w n.prefix (SideLink link ∷ []) (stage g m) → Finds (first_after wrong n.prefix (SideLink link ∷ [])) r
+  link_found r g found = one_found w r (SideLink link) (stage g m) n (λ wrong right. finds_same r (sym right) found)
 
 -- an inline interface that comes next, as it is lent
-module _ {w : ItemWalk} {m : Walked} (x : InlineInterface) (n : IsNext w (inline_side x ∷ []) m) (world : x.world.now ≡ item_name (item_view w.item)) (place : x.place ≡ (seen_on x.written.now.side m.seen).interfaces) (s : ItemScope) (before : ℕ) (count : before ≡ (seen_on x.written.now.side m.seen).inline) (item : scope_item s ≡ inline_of (item_view w.item) x) (own : option_map (λ ns. ns.items) (slice_get (inside_of x.written.now.side w.item) before) ≡ Some s.names.now) where
-  names : names_of s ≡ scope_names (inline_of (item_view w.item) x)
-  names =
+module _ {w : ItemWalk} {m : Walked} (x : InlineInterface) (n : IsNext w (inline_side x ∷ []) m) (world : x.world.now ≡ item_name (item_view w.item)) (place : x.place ≡ (seen_on x.written.now.side m.seen).interfaces) (s : ItemScope) (counts : Counts) (count : counts ≡ seen_on x.written.now.side m.seen) (item : scope_item s ≡ inline_of (item_view w.item) x) (own : option_map (λ ns. ns.items) (slice_get (inside_of x.written.now.side w.item) counts.inline) ≡ Some s.names.now) where
+  abbrev u : Item
+  u = inline_of (item_view w.item) x
+
+  lent : IsLent s w.interfaces.files u
+  lent =
       let side = x.written.now.side in
       let i = item_view w.item in
-      let number : before ≡ length (flat_map item_inline (items_on side n.prefix)) = count ∙ n.seen.inline side in
-      let here : inline_item i x.place (inline_side x) ≡ inline_of i x ∷ [] = ap (λ (world : List _). record { top = i.top; declared = TheInline world x.place x.written.now x.name x.items.now } ∷ []) (sym world) in
-      names_own (inside_view side w.item) i (inline_of i x) n.prefix n.rest x.written.now x.name x.items.now before x.place (map name_view s.names.now) (n.walk.world.item.written side) n.sides number here (lent_named (inside_of side w.item) before s.names.now own)
+      let number : counts.inline ≡ length (flat_map item_inline (items_on side n.prefix)) = ap (λ (k : Counts). k.inline) count ∙ n.seen.inline side in
+      let here : inline_item i x.place (inline_side x) ≡ u ∷ [] = ap (λ (world : List _). record { top = i.top; declared = TheInline world x.place x.written.now x.name x.items.now } ∷ []) (sym world) in
+      record {
+        sort = refl;
+        item = item;
+        named = names_own (inside_view side w.item) i u n.prefix n.rest x.written.now x.name x.items.now counts.inline x.place (map name_view s.names.now) (n.walk.world.item.written side) n.sides number here (lent_named (inside_of side w.item) counts.inline s.names.now own);
+        placed = lent_placed (prefix_of w.interfaces.files) (inside_of side w.item) counts.inline s.names.now own (n.walk.world.item.placed.inside side);
+      }
 
-  pub names_inside : names_of s ≡ scope_names (scope_item s)
-  names_inside = names ∙ ap scope_names (sym item)
+  pub inside_lent : IsLent s w.interfaces.files (scope_item s)
+  inside_lent = subst (IsLent s w.interfaces.files) (sym item) lent
 
-  pub names_placed : AreNamesPlaced (prefix_of w.interfaces.files) s.names.now
-  names_placed = lent_placed (prefix_of w.interfaces.files) (inside_of x.written.now.side w.item) before s.names.now own (n.walk.world.item.placed.inside x.written.now.side)
-
-  module _ (old : Growing) where
-    abbrev is : Interfaces
-    is = w.interfaces
-
-    abbrev u : Item
-    u = inline_of (item_view w.item) x
-
-    abbrev IsRight : (Item → Option Fault) → Type 0
-    IsRight test = IsRightOf test is old.types (next_place is old.inside) u
-
-    -- what is found in it is what a test that is right of it says
-    pub inside_found : {T : Type 0} (q : Result T ParseError) (test : Item → Option Fault) → IsRight test → FindsInterface is (next_place is old.inside) old.types s q → Finds (test u) q
-    inside_found q test right found = finds_right q test is old.types (next_place is old.inside) u s (record { item = item; named = names; placed = names_placed }) right found
-
-    -- that, and then its name
-    pub inline_found : {T : Type 0} (r : Result T ParseError) → ((test : Item → Option Fault) → IsRight test → Finds (option_or (test u) (option_or (metadata_fault x.written.now.attributes.items) (put_fault m.members (inline_side x)))) r) → (wrong : List SideItem → SideItem → Option Fault) → AreRightMembers wrong w n.prefix (inline_side x ∷ []) (stage old m) → Finds (first_after wrong n.prefix (inline_side x ∷ [])) r
-    inline_found r found = one_found w r (inline_side x) (stage old m) n (λ wrong right. (
-        let it = right.1 u (inline_here (item_view w.item) n.prefix x world (place ∙ n.seen.interfaces x.written.now.side)) in
-        finds_same r (sym it.1) (found right.0 it.0)))
+  -- what is found in it is what a test that is right of it says, and then its attributes and its name
+  pub inline_found : {U T : Type 0} (q : Result U ParseError) (r : Result T ParseError) (old : Growing) → FindsInterface w.interfaces (next_place w.interfaces old.inside) old.types s q → ((o : Option Fault) → Finds o q → Finds (option_or o (option_or (metadata_fault x.written.now.attributes.items) (put_fault m.members (inline_side x)))) r) → (wrong : List SideItem → SideItem → Option Fault) → AreRightMembers wrong w n.prefix (inline_side x ∷ []) (stage old m) → Finds (first_after wrong n.prefix (inline_side x ∷ [])) r
+  inline_found q r old found next = one_found w r (inline_side x) (stage old m) n (λ wrong right. (
+      let it = right.1 u (inline_here (item_view w.item) n.prefix x world (place ∙ n.seen.interfaces x.written.now.side)) in
+      finds_same r (sym it.1) (next (right.0 u) (finds_right q right.0 w.interfaces old.types (next_place w.interfaces old.inside) u s lent it.0 found))))
 
 -- what parts of a world are on its sides
 abbrev pub world_sides : List WorldItem → List SideItem
 world_sides xs = flat_map part_items (map world_part xs)
 
+abbrev pub part_sides : WorldItem → List SideItem
+part_sides x = part_items (world_part x)
+
 -- those of the world are what the item has on its sides
-pub all_sides : (w : ItemWalk) (world : World) (xs : List WorldItem) → declared_view w.item.declared ≡ TheWorld world → xs ≡ world.items.items → side_items (item_view w.item) ≡ world_sides xs
-all_sides w world xs is same = ap (λ (d : Declared). flat_map part_items (about d).parts) is ∙ ap world_sides (sym same)
+pub all_sides : (i : BorrowedItem) {world : World} (xs : List WorldItem) → declared_view i.declared ≡ TheWorld world → xs ≡ world.items.items → side_items (item_view i) ≡ flat_map part_sides xs
+all_sides i xs is same = ap (λ (d : Declared). flat_map part_items (about d).parts) is ∙ ap world_sides (sym same) ∙ flat_map-map part_items world_part xs
 
--- those before a part were done
-module _ (w : ItemWalk) (world : World) (xs : List WorldItem) (k : ℕ) (x y : WorldItem) (is : declared_view w.item.declared ≡ TheWorld world) (same : xs ≡ world.items.items) (within : k < length xs) (item : x ≡ get_or xs k x) (own : x ≡ y) (a b : Stage) (was : AreDone w (side_items (item_view w.item)) (world_sides (take k xs)) a b) where
-  abbrev one : List SideItem
-  one = part_items (world_part y)
+-- a function of a resource is, too
+abbrev pub function_sides : Id → ResourceFunc → List SideItem
+function_sides r f = SideFunction (resource_function r f) ∷ []
 
-  part_at : slice_get xs k ≡ Some y
-  part_at = slice_get_read xs _ k x refl within item ∙ ap Some own
+pub all_functions : (r : Id) (fs : List ResourceFunc) → map SideFunction (map (resource_function r) fs) ≡ flat_map (function_sides r) fs
+all_functions r [] = refl
+all_functions r (f ∷ fs) = ap (λ (l : List SideItem). SideFunction (resource_function r f) ∷ l) (all_functions r fs)
 
-  split : side_items (item_view w.item) ≡ world_sides (take k xs) ++ (one ++ world_sides (drop (k + 1) xs))
-  split =
-      let prefix = take k xs in
-      let back = drop (k + 1) xs in
-      all_sides w world xs is same
-      ∙ ap world_sides (split_at xs k y part_at)
-      ∙ ap (flat_map part_items) (map-append world_part prefix (y ∷ back))
-      ∙ flat_map-append part_items (map world_part prefix) (world_part y ∷ map world_part back)
+-- those before one were done
+module _ {X : Type 0} {w : ItemWalk} (of : X → List SideItem) {all : List SideItem} (xs : List X) {k : ℕ} {a b : Stage} (was : AreDone w all (flat_map of (take k xs)) a b) (are : all ≡ flat_map of xs) where
+  -- once there are no more all are done
+  pub all_done : length xs ≤ k → AreDone w all all a b
+  all_done past = subst (λ (l : List SideItem). AreDone w all l a b) (ap (flat_map of) (take_all k xs past) ∙ sym are) was
 
-  more : world_sides (take k xs) ++ one ≡ world_sides (take (k + 1) xs)
-  more = sym (parts_more part_items world_part (take k xs) (take (k + 1) xs) y (world_part y) (take_next xs k y part_at) refl)
+  module _ {x y : X} (within : k < length xs) (item : x ≡ get_or xs k x) (own : x ≡ y) where
+    there : slice_get xs k ≡ Some y
+    there = slice_get_read xs _ k x refl within item ∙ ap Some own
 
-  -- so its own come next
-  pub part_next : IsNext w (side_items (item_view w.item)) a.walked → IsNext w (part_items (world_part y)) b.walked
-  part_next n = next_of w (side_items (item_view w.item)) (world_sides (take k xs)) one (world_sides (drop (k + 1) xs)) a b split was n
+    split : all ≡ flat_map of (take k xs) ++ (of y ++ flat_map of (drop (k + 1) xs))
+    split = are ∙ ap (flat_map of) (split_at xs k y there) ∙ flat_map-append of (take k xs) (y ∷ drop (k + 1) xs)
 
-  -- and are done, or report the first fault
-  pub part_done : (c : Stage) → ((n : IsNext w (part_items (world_part y)) b.walked) → AddsMembers w n.prefix (part_items (world_part y)) b c) → ((n : IsNext w (part_items (world_part y)) b.walked) → HaveNone w n.prefix (part_items (world_part y)) (part_items (world_part y)) b) → AreDone w (side_items (item_view w.item)) (world_sides (take (k + 1) xs)) a c
-  part_done c adds none = subst (λ (l : List SideItem). AreDone w (side_items (item_view w.item)) l a c) more (done_later w (side_items (item_view w.item)) (world_sides (take k xs)) one (world_sides (drop (k + 1) xs)) a b split was c adds none)
+    more : flat_map of (take k xs) ++ of y ≡ flat_map of (take (k + 1) xs)
+    more = sym (ap (flat_map of) (take_next xs k y there) ∙ flat_map-append of (take k xs) (y ∷ []) ∙ ap (λ (l : List SideItem). flat_map of (take k xs) ++ l) (append-nil (of y)))
 
-  pub part_kept : part_items (world_part y) ≡ [] → AreDone w (side_items (item_view w.item)) (world_sides (take (k + 1) xs)) a b
-  part_kept nothing = subst (λ (l : List SideItem). AreDone w (side_items (item_view w.item)) l a b) (sym (append-nil (world_sides (take k xs))) ∙ ap (λ (l : List SideItem). world_sides (take k xs) ++ l) (sym nothing) ∙ more) was
+    -- so its own come next
+    pub part_next : IsNext w all a.walked → IsNext w (of y) b.walked
+    part_next n = next_of w all (flat_map of (take k xs)) (of y) (flat_map of (drop (k + 1) xs)) a b split was n
 
-  pub part_first : (e : ParseError) → ((n : IsNext w (part_items (world_part y)) b.walked) → ReportFirst w n.prefix (part_items (world_part y)) b e) → (n : IsNext w (side_items (item_view w.item)) a.walked) → ReportFirst w n.prefix (side_items (item_view w.item)) a e
-  part_first e own n = first_later w (side_items (item_view w.item)) (world_sides (take k xs)) one (world_sides (drop (k + 1) xs)) a b split was e own n
+    -- and are done, or report the first fault
+    pub part_done : (c : Stage) → ((n : IsNext w (of y) b.walked) → AddsMembers w n.prefix (of y) b c) → ((n : IsNext w (of y) b.walked) → HaveNone w n.prefix (of y) (of y) b) → AreDone w all (flat_map of (take (k + 1) xs)) a c
+    part_done c adds none = subst (λ (l : List SideItem). AreDone w all l a c) more (done_later w all (flat_map of (take k xs)) (of y) (flat_map of (drop (k + 1) xs)) a b split was c adds none)
 
--- the same of the functions of a resource
-pub resource_split : (r : Id) (fs : List ResourceFunc) (k : ℕ) (f : ResourceFunc) → slice_get fs k ≡ Some f → map SideFunction (map (resource_function r) fs) ≡ map SideFunction (map (resource_function r) (take k fs)) ++ (SideFunction (resource_function r f) ∷ [] ++ map SideFunction (map (resource_function r) (drop (k + 1) fs)))
-resource_split r fs k f at =
-    let prefix = take k fs in
-    let back = drop (k + 1) fs in
-    ap (λ (fs : List ResourceFunc). map SideFunction (map (resource_function r) fs)) (split_at fs k f at)
-    ∙ ap (map SideFunction) (map-append (resource_function r) prefix (f ∷ back))
-    ∙ map-append SideFunction (map (resource_function r) prefix) (map (resource_function r) (f ∷ back))
+    pub part_kept : of y ≡ [] → AreDone w all (flat_map of (take (k + 1) xs)) a b
+    part_kept nothing = subst (λ (l : List SideItem). AreDone w all l a b) (sym (append-nil (flat_map of (take k xs))) ∙ ap (λ (l : List SideItem). flat_map of (take k xs) ++ l) (sym nothing) ∙ more) was
 
-pub resource_more : (r : Id) (fs : List ResourceFunc) (k : ℕ) (f : ResourceFunc) → slice_get fs k ≡ Some f → map SideFunction (map (resource_function r) (take k fs)) ++ SideFunction (resource_function r f) ∷ [] ≡ map SideFunction (map (resource_function r) (take (k + 1) fs))
-resource_more r fs k f at =
-    let prefix = take k fs in
-    sym (
-    ap (λ (fs : List ResourceFunc). map SideFunction (map (resource_function r) fs)) (take_next fs k f at)
-    ∙ ap (map SideFunction) (map-append (resource_function r) prefix (f ∷ []))
-    ∙ map-append SideFunction (map (resource_function r) prefix) (map (resource_function r) (f ∷ [])))
+    pub part_first : (e : ParseError) → ((n : IsNext w (of y) b.walked) → ReportFirst w n.prefix (of y) b e) → (n : IsNext w all a.walked) → ReportFirst w n.prefix all a e
+    part_first e found n = first_later w all (flat_map of (take k xs)) (of y) (flat_map of (drop (k + 1) xs)) a b split was e found n
 
 -- a definition of another form has no function
 pub no_functions : (r : Id) (b : TypeBody) → ((fs : _) → b ≡ body.Resource fs → ⊥) → definition_functions r b ≡ []

@@ -1,8 +1,8 @@
 -- What is on the sides of a world, resolved one after another: nothing, more after some, and a function, an interface by its path, or an inline one.
-use Rattle.std.proofs.Common.{◌≡◌, ℕ, ◌+◌, List, [], ◌∷◌, ◌++◌, length, refl, sym, ap, ◌∙◌, subst, append_assoc, arith, Bool, true, false, if◌then◌else◌, map, Some, inl, inr, add-zero, Option, suc, None, get_or}
-use Rattle.wit_contents.proofs.Names.{Address, AddsFunctions, AddsInside, AddsInterface, AddsMembers, AddsSides, AreEnded, AreKeyed, Contains-append_cases, Entry, Extern, Function, HavePlaces, Id, Interface, InterfaceItem, IsNext, IsSeen, ItemWalk, Link, Name, Names, Puts, Required, ResolvedScope, SideFunction, SideInline, SideItem, SideLink, Sorted, SourceFunction, Stage, TheInline, TypeDef, WorldSide, address, all_handles, append-nil, at_back, at_prefix, contains_one, entry_sorted, env_of, filter-append, flat_map, flat_map-append, function_item, functions, inline_after, inline_after-append, inline_entry, inline_of, inline_side, interfaces_at, interfaces_on, item_function, item_inline, item_name, item_side, item_sorted, items_on, lead, length-append, length-inline_after, length-map, link_item, map-append, next_place, option_map_or, option_to_list, path_scope, prefix_of, put_on, resolved_scopes_of, role_side, same_side, side_items, slice_get, sorted_on, stage, written_types, item_view, Key, filter, filter_map-append, inline_item, is_interface}
+use Rattle.std.proofs.Common.{◌≡◌, ℕ, ◌+◌, List, [], ◌∷◌, ◌++◌, length, refl, sym, ap, ◌∙◌, subst, append_assoc, arith, Bool, true, false, if◌then◌else◌, map, Some, inl, inr, add-zero, Option, suc, None, get_or, Vec}
+use Rattle.wit_contents.proofs.Names.{Address, AddsFunctions, AddsInside, AddsInterface, AddsMembers, AddsSides, AreEnded, AreKeyed, Contains-append_cases, Entry, Extern, Function, Growing, HavePlaces, Id, Interface, InterfaceItem, IsNext, IsSeen, ItemWalk, Link, Name, Names, Puts, Required, ResolvedScope, SideFunction, SideInline, SideItem, SideLink, Sorted, SourceFunction, Stage, TheInline, TypeDef, WorldSide, address, all_handles, append-nil, at_back, at_prefix, contains_one, entry_sorted, env_of, filter-append, flat_map, flat_map-append, function_item, functions, inline_after, inline_after-append, inline_entry, inline_of, inline_side, interfaces_at, interfaces_on, item_function, item_inline, item_name, item_side, item_sorted, items_on, lead, length-append, length-inline_after, length-map, link_item, map-append, next_place, option_map_or, option_to_list, path_scope, prefix_of, put_on, resolved_scopes_of, role_side, same_side, side_items, slice_get, sorted_on, stage, written_types, item_view, Key, filter, filter_map-append, inline_item, is_interface}
 use Rattle.wit_contents.specs.declared.walk.Walked.{Walked}
-use Rattle.wit_arena.proofs.Common.{Item, function_in, entries_on, scope_place, link_key}
+use Rattle.wit_arena.proofs.Common.{Global, Item, function_in, entries_on, scope_place, link_key}
 use Rattle.wit_entries.proofs.Requiring.{extended_then}
 use Rattle.wit_sides.specs.SideNames.{defined_on}
 use Rattle.wit_externs.specs.Clash.{item_names, bare_place, linked_on}
@@ -122,7 +122,7 @@ module _ (w : ItemWalk) where
   pub members_none : (prefix : List SideItem) (a : Stage) → AreKeyed a.walked.members → AddsMembers w prefix [] a a
   members_none prefix a keyed = record {
     functions = [];
-    adds = record { own = []; list = sym (append-nil a.walked.required.items); holds = λ s. sides_none (resolved_scopes_of w.interfaces) (length w.interfaces.arena) s w.scope.names.types a.growing.types a.growing.inside [] };
+    adds = record { own = []; list = sym (append-nil a.growing.required.items); holds = λ s. sides_none (resolved_scopes_of w.interfaces) (length w.interfaces.arena) s w.scope.names.types a.growing.types a.growing.inside [] };
     extended = record { more = []; is = sym (append-nil a.growing.types) };
     seen = λ ys seen. subst (λ (l : List SideItem). IsSeen l a.walked.seen) (sym (append-nil ys)) seen;
     in_use = λ s. sym (append-nil (defined_on s a.walked.members.in_use));
@@ -188,7 +188,7 @@ module _ (w : ItemWalk) where
     pub members_then : AddsMembers w prefix (xs ++ ys) a c
     members_then = record {
       functions = p.functions ++ q.functions;
-      adds = record { own = p.adds.own ++ q.adds.own; list = q.adds.list ∙ ap (λ (l : List Required). l ++ q.adds.own) p.adds.list ∙ append_assoc a.walked.required.items p.adds.own q.adds.own; holds = adds_both };
+      adds = record { own = p.adds.own ++ q.adds.own; list = q.adds.list ∙ ap (λ (l : List Required). l ++ q.adds.own) p.adds.list ∙ append_assoc a.growing.required.items p.adds.own q.adds.own; holds = adds_both };
       extended = extended_then a.growing.types b.growing.types c.growing.types p.extended q.extended;
       seen = λ zs seen. subst (λ (l : List SideItem). IsSeen l c.walked.seen) (append_assoc zs xs ys) (q.seen (zs ++ xs) (p.seen zs seen));
       in_use = λ s. q.in_use s ∙ ap (λ (l : List Name). l ++ flat_map item_names (items_on s ys)) (p.in_use s) ∙ append_assoc (defined_on s a.walked.members.in_use) (flat_map item_names (items_on s xs)) (flat_map item_names (items_on s ys)) ∙ ap (λ (l : List Name). defined_on s a.walked.members.in_use ++ l) (sym (names_then s xs ys));
@@ -253,8 +253,8 @@ inline_here i prefix x world place =
 
 module _ (w : ItemWalk) (prefix : List SideItem) (a : Stage) where
   -- a function
-  pub member_function : (fn : SourceFunction) (made : Function) (types : List TypeDef) (m : Walked) → ((s : Address) → AddsFunctions a.growing.types types s w.scope.names.types (fn ∷ []) (made ∷ [])) → Requires (env_of w.scope.names.types) types (all_handles (written_types fn)) a.walked.required.items m.required.items → IsExtended a.growing.types types → Puts a.walked.members m.members (SideFunction fn) (function_item made) → ((ys : List SideItem) → IsSeen ys a.walked.seen → IsSeen (ys ++ SideFunction fn ∷ []) m.seen) → AddsMembers w prefix (SideFunction fn ∷ []) a (stage (record { types = types; inside = a.growing.inside }) m)
-  member_function fn made types m adds handled extended put seen = record {
+  pub member_function : (fn : SourceFunction) (made : Function) (types : List TypeDef) (required : Vec Required Global) (m : Walked) → ((s : Address) → AddsFunctions a.growing.types types s w.scope.names.types (fn ∷ []) (made ∷ [])) → Requires (env_of w.scope.names.types) types (all_handles (written_types fn)) a.growing.required.items required.items → IsExtended a.growing.types types → Puts a.walked.members m.members (SideFunction fn) (function_item made) → ((ys : List SideItem) → IsSeen ys a.walked.seen → IsSeen (ys ++ SideFunction fn ∷ []) m.seen) → AddsMembers w prefix (SideFunction fn ∷ []) a (stage (record { types = types; inside = a.growing.inside; required = required }) m)
+  member_function fn made types required m adds handled extended put seen = record {
     functions = made ∷ [];
     adds = record { own = handled.list; list = handled.added; holds = λ s. sides_function (resolved_scopes_of w.interfaces) (length w.interfaces.arena) s w.scope.names.types a.growing.types types a.growing.inside fn made handled.list (adds s) handled.ended };
     extended = extended;
@@ -270,10 +270,10 @@ module _ (w : ItemWalk) (prefix : List SideItem) (a : Stage) where
   }
 
   -- an interface by its path
-  pub member_link : (link : Link) (id : ℕ) (m : Walked) → lead w link.path ≡ Some id → slice_get (interfaces_at (prefix_of w.interfaces.files) w.interfaces.arena) id ≡ Some (path_scope (item_view w.item).top link.path) → m.required.items ≡ a.walked.required.items → Puts a.walked.members m.members (SideLink link) (link_item link id) → ((ys : List SideItem) → IsSeen ys a.walked.seen → IsSeen (ys ++ SideLink link ∷ []) m.seen) → AddsMembers w prefix (SideLink link ∷ []) a (stage a.growing m)
-  member_link link id m leads present required put seen = record {
+  pub member_link : (link : Link) (id : ℕ) (m : Walked) → lead w link.path ≡ Some id → slice_get (interfaces_at (prefix_of w.interfaces.files) w.interfaces.arena) id ≡ Some (path_scope (item_view w.item).top link.path) → Puts a.walked.members m.members (SideLink link) (link_item link id) → ((ys : List SideItem) → IsSeen ys a.walked.seen → IsSeen (ys ++ SideLink link ∷ []) m.seen) → AddsMembers w prefix (SideLink link ∷ []) a (stage a.growing m)
+  member_link link id m leads present put seen = record {
     functions = [];
-    adds = record { own = []; list = required ∙ sym (append-nil a.walked.required.items); holds = λ s. sides_link (resolved_scopes_of w.interfaces) (length w.interfaces.arena) s w.scope.names.types a.growing.types a.growing.inside link };
+    adds = record { own = []; list = sym (append-nil a.growing.required.items); holds = λ s. sides_link (resolved_scopes_of w.interfaces) (length w.interfaces.arena) s w.scope.names.types a.growing.types a.growing.inside link };
     extended = record { more = []; is = sym (append-nil a.growing.types) };
     seen = seen;
     in_use = put.in_use;
@@ -288,8 +288,8 @@ module _ (w : ItemWalk) (prefix : List SideItem) (a : Stage) where
   }
 
   -- an inline interface
-  pub member_inline : (x : InlineInterface) (u : Item) (types : List TypeDef) (inside : List Interface) (m : Walked) → inline_after (item_view w.item) prefix (inline_side x ∷ []) ≡ u ∷ [] → AddsInside w.interfaces a.growing.types types a.growing.inside inside a.walked.required.items m.required.items u → Puts a.walked.members m.members (inline_side x) (inline_entry x.written.now x.name (next_place w.interfaces a.growing.inside)) → ((ys : List SideItem) → IsSeen ys a.walked.seen → IsSeen (ys ++ inline_side x ∷ []) m.seen) → AddsMembers w prefix (inline_side x ∷ []) a (stage (record { types = types; inside = inside }) m)
-  member_inline x u types inside m own step put seen = record {
+  pub member_inline : (x : InlineInterface) (u : Item) (g : Growing) (m : Walked) → inline_after (item_view w.item) prefix (inline_side x ∷ []) ≡ u ∷ [] → AddsInside w.interfaces a.growing g u → Puts a.walked.members m.members (inline_side x) (inline_entry x.written.now x.name (next_place w.interfaces a.growing.inside)) → ((ys : List SideItem) → IsSeen ys a.walked.seen → IsSeen (ys ++ inline_side x ∷ []) m.seen) → AddsMembers w prefix (inline_side x ∷ []) a (stage g m)
+  member_inline x u g m own step put seen = record {
     functions = [];
     adds = record {
       own = step.2.appends.own;
@@ -298,9 +298,9 @@ module _ (w : ItemWalk) (prefix : List SideItem) (a : Stage) where
           let cs = resolved_scopes_of w.interfaces in
           let count = length w.interfaces.arena in
           let names = w.scope.names.types in
-          let one = sides_inline cs count s names a.growing.types types a.growing.inside step.0 step.2.appends.own x.written.now x.name x.items.now u step.2.appends.holds in
-          subst (λ (us : List Item). AddsSides cs count s names a.growing.types types a.growing.inside inside [] step.2.appends.own (inline_side x ∷ []) us) (sym own) (
-          subst (λ (l : List Interface). AddsSides cs count s names a.growing.types types a.growing.inside l [] step.2.appends.own (inline_side x ∷ []) (u ∷ [])) (sym step.1) one);
+          let one = sides_inline cs count s names a.growing.types g.types a.growing.inside step.0 step.2.appends.own x.written.now x.name x.items.now u step.2.appends.holds in
+          subst (λ (us : List Item). AddsSides cs count s names a.growing.types g.types a.growing.inside g.inside [] step.2.appends.own (inline_side x ∷ []) us) (sym own) (
+          subst (λ (l : List Interface). AddsSides cs count s names a.growing.types g.types a.growing.inside l [] step.2.appends.own (inline_side x ∷ []) (u ∷ [])) (sym step.1) one);
     };
     extended = step.2.extended;
     seen = seen;

@@ -3,7 +3,7 @@ use Rattle.std.proofs.Common.{◌≡◌, ℕ, ◌+◌, suc, Bool, true, false, n
 use Rattle.wit_contents.proofs.Names.{Address, Fault, Foreign, ForeignNamed, ForeignVisit, Id, InterfaceNamed, Link, Local, Names, PackageFile, PackageName, SideFunction, SideInline, SideItem, SideLink, Target, TopName, UsePath, all_items, cases_Bool, env_of, find_at, find_passes, flat_map, foreign_at, foreign_interfaces, foreign_items, if◌then◌else◌, interface_place, interfaces_differ, is_none, is_same_link, is_world, is_world_at, item_link, item_named, item_word, items_on, kept_has, leads, link_fault, linked_fault, linked_twice, list_any, lost_fault, metadata_fault, missing_at, number_equal, option_map, option_map_or, option_or, option_to_list, or_assoc, path_id, path_place, path_scope, place_at, place_at-found, prefix_of, reached_fault, same_address, same_address-equal, same_address-from, slice_get, slice_get-map, some_of, target_scope, unresolved_fault, visited, world_there, ◌&&◌, AddsMembers, AreRightMembers, Called, Exported, Extern, Imported, InterfaceItem, Interfaces, IsRightOf, IsStart, ItemWalk, Known, Name, ScopeName, Sorted, SourceFunction, Stage, TheInline, TypeDef, WorldSide, about, address, called_fault, clash-made, contains_at, crossed, entry_sorted, external_fault, filter, first_in, function_fault, handle_fault, in-map, in_turn, inline_after, inline_item, interfaces_at, is_extern, is_interface, item_called, item_function, item_name, item_side, item_sorted, kept_at, lead, local_id, local_names, map_map, member_fault, name_called, names_in, names_on, next_place, or_none_both, own_fault, put_fault, put_link_fault, same_side, scope_names, side_items, side_sorted, signed_fault, sorted_on, stability_fault, stage, type_imports, item_view, crossed_same, sides_sorted, side_called, sorted_name, crossed_among, repeat_of, word_fault}
 use Rattle.wit_arena.proofs.Common.{Item}
 use Rattle.wit_items.proofs.Common.{linked_fault as again_fault, ordered_fault}
-use Rattle.wit_contents.specs.declared.walk.Growing.{Growing}
+use Rattle.wit_contents.specs.declared.making.Growing.{Growing}
 use Rattle.wit_contents.specs.declared.walk.Walked.{Walked}
 use Rattle.wit_signatures.specs.FunctionsOfScope.{name_key, name_of_id}
 use Rattle.wit_sides.specs.SideNames.{defined_on}

@@ -1,6 +1,6 @@
 -- Interfaces and worlds that are resolved say of used names and of includes what files do.
 use Rattle.std.proofs.Common.{◌≡◌, ℕ, ◌+◌, true, false, List, ◌++◌, length, map, Option, Some, None, ◌⊎◌, IsSome, inl, inr, refl, sym, ap, ◌∙◌, subst, arith, Contains, ◌<◌, zero, suc, Bool, [], ◌∷◌, take}
-use Rattle.wit_contents.proofs.Names.{Address, AddsForeign, AllDiffer, AreUsableUses, AreWorldsDone, Attribute, Def, DefinitionPart, DoneScope, ExternPart, Fault, Foreign, ForeignNamed, ForeignVisit, FunctionPart, Id, Include, IncludePart, Interface, InterfaceNamed, Interfaces, InterfacesDone, IsForeignUse, IsFound, IsNameIndex, IsNoWorld, IsOrder, IsPlaced, IsResolvedUse, Local, Names, PackageFile, PackageName, Part, Required, ResolvedScope, ScopeName, Source as BorrowedSource, Target, Turned, TypeDef, UseName, UsePart, UsePath, Used, UsedName, World, WorldNamed, Worlds, address, all_declared, all_items, any_found, any_some, are_interfaces, are_worlds, at_back, at_contains, at_part, at_prefix, at_split, at_within, bytes_eq, cases_Bool, contains_at, env_of, find_passes, find_some, first_in, first_named, firsts_has, flat_map_at, flat_map_has, foreign_at, foreign_entry, foreign_interfaces, foreign_use_key, foreign_uses, foreign_worlds, free_functions, functions, if◌then◌else◌, in_order, include_fault, include_path, include_paths, included_fault, includes, interface_address, interface_there, interfaces, interfaces_at, is_foreign, is_none, is_world, is_world_at, item_at, item_name, item_named, item_rows, item_scopes, item_word, kept_early, keys, leads, length-map, list_any, local_name, lookup-place, lost_use, map_at, meaning, missing_at, name_equal, name_itself, named_at, named_within, needed_before, option_and_then, option_cases, option_map, option_map_or, option_or, ordered_at, own_declared, part_includes, parts, path_id, paths_of_world, prefix_resolved_scope, prefix_scopes, resolved_scope, resolved_scope_at, resolved_scope_of, resolved_scopes, resolved_scopes-append, same_address, same_address-equal, same_foreign_use, scope, scope_at, scope_names, scope_of, slice_get, slice_get-map, slice_get_within, some_of, source_target, source_view, stability_fault, unresolved_fault, unstated, use_fault, use_of_foreign, use_of_foreign-equal, use_of_foreign-from, use_view, used_listed, visited, visited_foreign, world_address, world_at, world_entry, world_list, world_missing, worlds, worlds_at, worlds_at-append, worlds_of, worlds_sort, interfaces_sort, lost_listed, source_place}
+use Rattle.wit_contents.proofs.Names.{Address, AddsForeign, AllDiffer, AreUsableUses, AreWorldsDone, Attribute, Def, DefinitionPart, DoneScope, ExternPart, Fault, Foreign, ForeignNamed, ForeignVisit, FunctionPart, Id, Include, IncludePart, Interface, InterfaceNamed, Interfaces, InterfacesDone, IsForeignUse, IsFound, IsNameIndex, IsNoWorld, IsOrder, IsPlaced, IsResolvedUse, Local, Names, PackageFile, PackageName, Part, Required, ResolvedScope, ScopeName, Source as BorrowedSource, Target, Turned, TypeDef, UseName, UsePart, UsePath, Used, UsedName, World, WorldNamed, Resolved, address, all_declared, all_items, any_found, any_some, are_interfaces, are_worlds, at_back, at_contains, at_part, at_prefix, at_split, at_within, bytes_eq, cases_Bool, contains_at, env_of, find_passes, find_some, first_in, first_named, firsts_has, flat_map_at, flat_map_has, foreign_at, foreign_entry, foreign_interfaces, foreign_use_key, foreign_uses, foreign_worlds, free_functions, functions, if◌then◌else◌, in_order, include_fault, include_path, include_paths, included_fault, includes, interface_address, interface_there, interfaces, interfaces_at, is_foreign, is_none, is_world, is_world_at, item_at, item_name, item_named, item_rows, item_scopes, item_word, kept_early, keys, leads, length-map, list_any, local_name, lookup-place, lost_use, map_at, meaning, missing_at, name_equal, name_itself, named_at, named_within, needed_before, option_and_then, option_cases, option_map, option_map_or, option_or, ordered_at, own_declared, part_includes, parts, path_id, paths_of_world, prefix_resolved_scope, prefix_scopes, resolved_scope, resolved_scope_at, resolved_scope_of, resolved_scopes, resolved_scopes-append, same_address, same_address-equal, same_foreign_use, scope, scope_at, scope_names, scope_of, slice_get, slice_get-map, slice_get_within, some_of, source_target, source_view, stability_fault, unresolved_fault, unstated, use_fault, use_of_foreign, use_of_foreign-equal, use_of_foreign-from, use_view, used_listed, visited, visited_foreign, world_address, world_at, world_entry, world_list, world_missing, worlds, worlds_at, worlds_at-append, worlds_of, worlds_sort, interfaces_sort, lost_listed, source_place}
 use Rattle.wit_arena.proofs.Common.{Imported, Item, by_name, functions_imported, interface_functions, map_map, placed, same_some, position_or_len, same_item, function_in, interfaces_count, worlds_count}
 use Rattle.wit_items.proofs.Common.{interface_fault}
 use Rattle.wit_arena.proofs.Placing.{gives_in, place_in}
@@ -268,7 +268,7 @@ module _ (files : List PackageFile) (places : List ℕ) (order : IsOrder (item_r
         | inr other ↦ absurd (let wrong : None ≡ Some j = ap (λ (b : Bool). world_entry (Some (if b then entry.World (position_or_len (λ (y : ForeignVisit). same_item y v) (foreign_worlds files)) else entry.Interface (position_or_len (λ (y : ForeignVisit). same_item y v) (foreign_interfaces files))))) (sym other) ∙ is in cc)
       ]
 
-  module _ (ws : Worlds) (same_files : ws.interfaces.now.files ≡ files) (same_names : ws.by_name ≡ by_name) (visits : (n : Include) (m : ℕ) → slice_get (parts w) m ≡ Some (IncludePart n) → (q : PackageName) (id : Id) → leads w.top n.from ≡ Foreign q id → (v : ForeignVisit) × (foreign_at files (ForeignNamed q id.name.now) ≡ Some v)) where
+  module _ (ws : Resolved) (same_files : ws.interfaces.files ≡ files) (same_names : ws.world_names ≡ by_name) (visits : (n : Include) (m : ℕ) → slice_get (parts w) m ≡ Some (IncludePart n) → (q : PackageName) (id : Id) → leads w.top n.from ≡ Foreign q id → (v : ForeignVisit) × (foreign_at files (ForeignNamed q id.name.now) ≡ Some v)) where
     included : (n : Include) (j : ℕ) → slice_get (includes w) j ≡ Some n → included_fault ws w.top n ≡ include_fault files w.top n
     included n j there =
         let part = flat_map_at part_includes (parts w) j n there in
@@ -277,7 +277,7 @@ module _ (files : List PackageFile) (places : List ℕ) (order : IsOrder (item_r
         let t = leads w.top n.from in
         let g = interface_there (path_id n.from) in
         let by : (o : Option ℕ) → world_at files by_name t ≡ o → (if is_none (world_at files by_name t) then Some g else None) ≡ interface_fault (is_world_at files t) (path_id n.from) = of_place n t (λ none. lost_path n.from (contains_at (include_paths w) path.0 n.from path.1) t refl (world_missing files by_name t (visits n part.0 own) none)) (present t) in
-        ap (λ (fs : List PackageFile). option_or (stability_fault n.attributes.items) (if is_none (world_at fs ws.by_name t) then Some g else None)) same_files
+        ap (λ (fs : List PackageFile). option_or (stability_fault n.attributes.items) (if is_none (world_at fs ws.world_names t) then Some g else None)) same_files
         ∙ ap (λ (names : Names). option_or (stability_fault n.attributes.items) (if is_none (world_at files names t) then Some g else None)) same_names
         ∙ ap (option_or (stability_fault n.attributes.items)) (by (world_at files by_name t) refl)
       where

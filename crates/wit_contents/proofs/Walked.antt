@@ -1,6 +1,6 @@
 -- The first fault of an interface by tables, and that of a world before its members, is that of the walk of files, where the tables say what the files do.
 use Rattle.std.proofs.Common.{◌≡◌, ℕ, suc, Bool, true, false, List, [], ◌∷◌, ◌++◌, map, Option, Some, None, refl, sym, ap, ◌∙◌, length, ◌==◌}
-use Rattle.wit_contents.proofs.Names.{Called, Defined, Exported, Fault, ForeignName, Id, Imported, Include, Interfaces, Item as BorrowedItem, ItemScope, Name, Outcome, PackageFile, ScopeName, SideFunction, SideItem, SourceFunction, Used, UsedName, WorldSide, Worlds, about, address, after-append, after_kept, any-map, bytes_eq, called_fault, clash, clash-made, clash-map, codes, crossed, cyclic_at, defined, definition_fault, earliest, fault_in, first_after, first_in, flat_map, folded_fault, folded_key, function_fault, functions, functions_imported, handle_fault, if◌then◌else◌, in_order, in_turn, include_fault, includes, includes_fault, interface_fault, is_on_side, is_world, item_function, item_stability, item_view, items_on, kept_all, kept_none, local_id, local_name, local_names_fault, map-append, member_fault, missing_type_at, name_called, name_fault, name_twice, names_of, names_on, name_view, on_side, option_or, or_assoc, or_none, or_none_both, order_fault, order_of, ordered_fault, own_fault, own_use, repeat-map, repeat_of, role_side, same_side, scope_faults, scope_item, scope_names, setters_fault, side_called, side_items, side_items_functions, side_setters_fault, signed_fault, slice_get, stability_fault, type_word, use_fault, use_view, used, uses_viewed, word_fault, functions_free, names_fault}
+use Rattle.wit_contents.proofs.Names.{Called, Defined, Exported, Fault, ForeignName, Id, Imported, Include, Interfaces, Item as BorrowedItem, ItemScope, Name, Outcome, PackageFile, ScopeName, SideFunction, SideItem, SourceFunction, Used, UsedName, WorldSide, Resolved, about, address, after-append, after_kept, any-map, bytes_eq, called_fault, clash, clash-made, clash-map, codes, crossed, cyclic_at, defined, definition_fault, earliest, fault_in, first_after, first_in, flat_map, folded_fault, folded_key, function_fault, functions, functions_imported, handle_fault, if◌then◌else◌, in_order, in_turn, include_fault, includes, includes_fault, interface_fault, is_on_side, is_world, item_function, item_stability, item_view, items_on, kept_all, kept_none, local_id, local_name, local_names_fault, map-append, member_fault, missing_type_at, name_called, name_fault, name_twice, names_of, names_on, name_view, on_side, option_or, or_assoc, or_none, or_none_both, order_fault, order_of, ordered_fault, own_fault, own_use, repeat-map, repeat_of, role_side, same_side, scope_faults, scope_item, scope_names, setters_fault, side_called, side_items, side_items_functions, side_setters_fault, signed_fault, slice_get, stability_fault, type_word, use_fault, use_view, used, uses_viewed, word_fault, functions_free, names_fault}
 use Rattle.wit_arena.proofs.Common.{Item}
 use Rattle.wit_items.proofs.Common.{resource_items}
 use Rattle.wit_signatures.specs.FunctionsOfScope.{name_key, name_of_function, name_of_id}
@@ -166,7 +166,7 @@ world_split files steps inside i outcome =
     let order = order_of outcome in
     regroup_world (stability_fault (about i.declared).attributes) (first_after (name_fault files) [] (used listed ++ defined listed)) (order_fault missing_type_at (cyclic_at 16 type_word) outcome) (first_in (definition_fault (handle_fault files steps (address i))) (defined (in_order listed order))) (first_in (include_fault files i.top) (includes i)) (first_after folded_fault [] (map name_called (in_turn listed order))) (first_after (member_fault files steps inside i order) [] (side_items i)) (setters_fault i)
 
-module _ (files : List PackageFile) (steps : ℕ) (ws : Worlds) (i : BorrowedItem) (outcome : Outcome) (named : map name_view i.names.items ≡ scope_names (item_view i)) where
+module _ (files : List PackageFile) (steps : ℕ) (ws : Resolved) (i : BorrowedItem) (outcome : Outcome) (named : map name_view i.names.items ≡ scope_names (item_view i)) where
   abbrev w : Item
   w = item_view i
 
@@ -180,7 +180,7 @@ module _ (files : List PackageFile) (steps : ℕ) (ws : Worlds) (i : BorrowedIte
   stable = item_stability w
 
   abbrev uses : Option Fault
-  uses = first_after (local_fault ws.interfaces.now) [] (flat_map own_use i.names.items)
+  uses = first_after (local_fault ws.interfaces) [] (flat_map own_use i.names.items)
 
   abbrev twice : Option Fault
   twice = local_names_fault (map local_id (used listed ++ defined listed))
@@ -192,15 +192,15 @@ module _ (files : List PackageFile) (steps : ℕ) (ws : Worlds) (i : BorrowedIte
   after = option_or (includes_fault ws w) (defined_fault [] (map name_of_id (map local_id (in_turn listed (order_of outcome)))))
 
   -- by tables, over the names of the scope
-  by_tables : (h : Id → Option Fault) → option_or (item_stability (item_view i)) (option_or (names_fault ws.interfaces.now i.names.items outcome h) (option_or (includes_fault ws (item_view i)) (defined_fault [] (map name_of_id (map local_id (in_turn (scope_names (item_view i)) (order_of outcome))))))) ≡ option_or stable (option_or (option_or uses (option_or twice (option_or round (first_in (definition_fault h) (defined (in_order listed (order_of outcome))))))) after)
+  by_tables : (h : Id → Option Fault) → option_or (item_stability (item_view i)) (option_or (names_fault ws.interfaces i.names.items outcome h) (option_or (includes_fault ws (item_view i)) (defined_fault [] (map name_of_id (map local_id (in_turn (scope_names (item_view i)) (order_of outcome))))))) ≡ option_or stable (option_or (option_or uses (option_or twice (option_or round (first_in (definition_fault h) (defined (in_order listed (order_of outcome))))))) after)
   by_tables h = ap (λ (ys : List ScopeName). option_or stable (option_or (option_or uses (ordered_fault ys outcome h)) after)) named
 
-  module _ (say : AreAsWalked files ws.interfaces.now (flat_map own_use i.names.items)) (included : includes_fault ws w ≡ first_in (include_fault files w.top) (includes w)) where
-    pub head_walked : option_or (item_stability (item_view i)) (option_or (names_fault ws.interfaces.now i.names.items outcome test) (option_or (includes_fault ws (item_view i)) (defined_fault [] (map name_of_id (map local_id (in_turn (scope_names (item_view i)) (order_of outcome))))))) ≡ walked_head files steps w outcome
+  module _ (say : AreAsWalked files ws.interfaces (flat_map own_use i.names.items)) (included : includes_fault ws w ≡ first_in (include_fault files w.top) (includes w)) where
+    pub head_walked : option_or (item_stability (item_view i)) (option_or (names_fault ws.interfaces i.names.items outcome test) (option_or (includes_fault ws (item_view i)) (defined_fault [] (map name_of_id (map local_id (in_turn (scope_names (item_view i)) (order_of outcome))))))) ≡ walked_head files steps w outcome
     head_walked =
         let order = order_of outcome in
         let definitions = first_in (definition_fault test) (defined (in_order listed order)) in
         let names = first_after (name_fault files) [] (used listed ++ defined listed) in
-        let names_are : option_or uses twice ≡ names = names_walked files ws.interfaces.now (flat_map own_use i.names.items) listed (uses_viewed i.names.items ∙ ap used named) say in
+        let names_are : option_or uses twice ≡ names = names_walked files ws.interfaces (flat_map own_use i.names.items) listed (uses_viewed i.names.items ∙ ap used named) say in
         let last : option_or stable (option_or (option_or (option_or uses twice) (option_or round definitions)) after) ≡ walked_head files steps w outcome = rw (names_are, included, turn_walked (in_turn listed order)) refl in
         by_tables test ∙ ap (λ (o : Option Fault). option_or stable (option_or o after)) (sym (or_assoc uses twice (option_or round definitions))) ∙ last

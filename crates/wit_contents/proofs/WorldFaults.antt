@@ -1,18 +1,19 @@
 -- The first fault of a world: of its attributes, of its names, of its includes, or of what is on its sides.
-use Rattle.std.proofs.Common.{◌≡◌, ℕ, ◌+◌, Bool, false, true, List, [], ◌∷◌, ◌++◌, drop, length, map, take, Option, Some, None, refl, sym, ap, ◌∙◌, subst, ◌==◌, arith}
-use Rattle.wit_contents.proofs.Names.{AddsTurn, AreKeyed, Declared, EndsInTurn, Exported, Fault, Finds, FindsNames, FindsSides, Id, Imported, Include, IsItemOf, IsNext, IsOutcome, IsRightOfWorld, IsSeen, IsWalk, Item as BorrowedItem, ItemWalk, Outcome, PackageFile, ParseError, Reports, ResolvedScope, Result, ScopeName, SourceFunction, TheInline, TheInterface, TheWorld, TopName, TypeDef, TypeOwner, Worlds, about, all_declared, all_items, append-nil, at_contains, declared_view, eqb-suc-zero, filter, filter-append, filter_map-append, finds_same, first_after, first_in, functions, if◌then◌else◌, in-append, in-more, in_order, in_turn, includes, includes_fault, is_inside, item_in, item_stability, item_view, kept_next, local_id, names_at_top, names_fault, name_view, option_or, order_of, reports_back, reports_prefix, reports_same, resolved_scopes_of, rows_of, scope_names, setters_fault, side_items, side_setters_fault, slice_get, take-append-drop, Address, AddsMembers, AddsSides, AddsWorld, AllDiffer, AreIncludes, Borrowed, Entry, HavePlaces, Interface, Interfaces, IsStart, IsTurn, Name, Names, Required, SideItem, World, WorldSide, address, and_parts, at_back, at_prefix, declared_metadata, eqb-true, flat_map, function_of, in_turn_distinct, inline_items, interfaces_at, is_ascii_uppercase, item_function, list_all, list_any, names_on, nil_from_length, no_clashes, none_both, part_functions, part_items, prefix_of, puts_nothing, settled, stage, type_imports, world_part, worlds_at, functions_parts}
+use Rattle.std.proofs.Common.{◌≡◌, ℕ, ◌+◌, Bool, false, true, List, [], ◌∷◌, ◌++◌, drop, length, map, take, Option, Some, None, refl, sym, ap, ◌∙◌, subst, ◌==◌, append_assoc, arith}
+use Rattle.wit_contents.proofs.Names.{AreKeyed, Declared, EndsInTurn, Exported, Fault, Finds, FindsNames, FindsSides, Id, Imported, Include, IsItemOf, IsNext, IsOutcome, IsRightOfWorld, IsSeen, IsWalk, Item as BorrowedItem, ItemWalk, Outcome, PackageFile, ParseError, Reports, ResolvedScope, Result, ScopeName, SourceFunction, TheInline, TheInterface, TheWorld, TopName, TypeDef, TypeOwner, AddsContent, AddsNamesOf, IsItemIn, Resolved, about, all_declared, all_items, append-nil, at_contains, declared_view, eqb-suc-zero, filter, filter-append, filter_map-append, finds_same, first_after, first_in, functions, if◌then◌else◌, in-append, in-more, in_order, in_turn, includes, includes_fault, is_inside, item_in, item_stability, item_view, kept_next, local_id, names_at_top, names_fault, name_view, option_or, order_of, reports_back, reports_prefix, reports_same, resolved_scopes_of, rows_of, scope_names, setters_fault, side_items, side_setters_fault, slice_get, take-append-drop, Address, AddsMembers, AddsSides, AllDiffer, AreIncludes, Borrowed, Entry, HavePlaces, Interface, IsStart, addresses_of, IsTurn, Name, Names, Required, SideItem, World, WorldSide, address, and_parts, at_back, at_prefix, declared_metadata, eqb-true, flat_map, function_of, in_turn_distinct, inline_items, interfaces_at, is_ascii_uppercase, item_function, list_all, list_any, names_on, nil_from_length, no_clashes, none_both, part_functions, part_items, prefix_of, puts_nothing, settled, stage, type_imports, world_part, functions_parts}
 use Rattle.wit_arena.proofs.Common.{Item, world, entries_on, name_imports, WorldInclude}
-use Rattle.wit_contents.specs.declared.walk.Growing.{Growing}
+use Rattle.wit_contents.specs.declared.making.Growing.{Growing}
 use Rattle.wit_contents.specs.declared.walk.Walked.{Walked}
 use Rattle.wit_contents.specs.declared.walk.WorldScope.{WorldScope}
+use Rattle.wit_contents.specs.declared.world.WorldContent.{WorldContent}
 use Rattle.wit_walk.proofs.Common.{World as Written, WorldItem}
 use Rattle.wit_externs.specs.Clash.{sides_setters, defined_fault}
 use Rattle.wit_item_entries.proofs.ReachedFaults.{done, failed, turn_texts}
 use Rattle.wit_item_entries.specs.declared.names.ResolvedNames.{ResolvedNames}
 use Rattle.wit_contents.proofs.MemberFaults.{turned, world_sides}
-use Rattle.wit_world_sides.specs.Members.{none_of}
+use Rattle.wit_world_sides.specs.Members.{AreSettled, none_of}
 use Rattle.wit_links.proofs.Leading.{addresses_count}
-use Rattle.wit_contents.specs.Walk.{IsWorldOf, next_entries}
+use Rattle.wit_contents.specs.Walk.{next_entries}
 use Rattle.wit_rules.specs.Signatures.{function_view, AreResults}
 use Rattle.wit_functions.specs.MaybeFunction.{is_setter}
 use Rattle.wit_functions.proofs.NoSetters.{no_setters}
@@ -44,15 +45,15 @@ item_here i world own is =
 abbrev pub next_all : (w : ItemWalk) (m : Walked) → IsWalk w → IsSeen [] m.seen → AreKeyed m.members → IsNext w (side_items (item_view w.item)) m
 next_all w m walk seen keyed = record { walk = walk; prefix = []; rest = []; sides = sym (append-nil (side_items (item_view w.item))); seen = seen; keyed = keyed }
 
-module _ (ws : Worlds) (i : BorrowedItem) (old : Growing) where
+module _ (ws : Resolved) (i : BorrowedItem) (old : Growing) where
   abbrev w : Item
   w = item_view i
 
   abbrev cs : List ResolvedScope
-  cs = resolved_scopes_of ws.interfaces.now
+  cs = resolved_scopes_of ws.interfaces
 
   abbrev o : TypeOwner
-  o = owner.World (length ws.arena)
+  o = owner.World (length ws.worlds)
 
   abbrev xs : List ScopeName
   xs = scope_names w
@@ -65,7 +66,7 @@ module _ (ws : Worlds) (i : BorrowedItem) (old : Growing) where
   turned_ids outcome = map local_id (in_turn xs (order_of outcome))
 
   abbrev names_test : Outcome → (Id → Option Fault) → Option Fault
-  names_test outcome handle = names_fault ws.interfaces.now i.names.items outcome handle
+  names_test outcome handle = names_fault ws.interfaces i.names.items outcome handle
 
   -- what a test that is right of it says of it
   module _ (wrong : Item → Option Fault) (test : IsRightOfWorld wrong ws old i) where
@@ -80,15 +81,15 @@ module _ (ws : Worlds) (i : BorrowedItem) (old : Growing) where
     unstable_first e found = reports_same (sym test.says) (reports_prefix rest (reports_prefix (option_or (names_test test.outcome test.handle) last) found))
 
     module _ (named : map name_view i.names.items ≡ scope_names (item_view i)) (stable : item_stability (item_view i) ≡ None) where
-      names_found : {T : Type 0} (r : Result T ParseError) → FindsNames None ws.interfaces.now o old.types i.names.items r → Finds (names_test test.outcome test.handle) r
+      names_found : {T : Type 0} (r : Result T ParseError) → FindsNames None ws.interfaces o old.types i.names.items r → Finds (names_test test.outcome test.handle) r
       names_found r found = found test.outcome (subst (λ (ys : List ScopeName). IsOutcome (rows_of ys) test.outcome) (sym named) test.right) test.handle (subst (λ (ys : List ScopeName). EndsInTurn cs o old.types ys test.outcome test.handle) (sym named) test.ends)
 
       -- its names are
-      pub names_first : (e : ParseError) → FindsNames None ws.interfaces.now o old.types i.names.items (failed e) → Reports (wrong (item_view i)) e
+      pub names_first : (e : ParseError) → FindsNames None ws.interfaces o old.types i.names.items (failed e) → Reports (wrong (item_view i)) e
       names_first e found = reports_same (sym test.says) (reports_prefix rest (reports_back stable (reports_prefix last (names_found (failed e) found))))
 
       -- they are resolved, and in the arena
-      module _ (n : ResolvedNames) (mid : List TypeDef) (turn : AddsTurn old.types mid cs o xs n.types n.turn.items n.required.items) (head : FindsNames None ws.interfaces.now o old.types i.names.items (done n)) where
+      module _ (n : ResolvedNames) (mid : List TypeDef) (turn : AddsNamesOf ws i old.types mid n) (head : FindsNames None ws.interfaces o old.types i.names.items (done n)) where
         turned_is : n.turn.items ≡ turned_ids test.outcome
         turned_is = turned old.types mid cs o xs n.types n.turn.items n.required.items turn test.outcome test.right
 
@@ -98,7 +99,7 @@ module _ (ws : Worlds) (i : BorrowedItem) (old : Growing) where
 
         -- or what is found of its sides is found of it
         module _ (included : includes_fault ws (item_view i) ≡ None) where
-          head_is : option_or (item_stability (item_view i)) (option_or (names_fault ws.interfaces.now i.names.items test.outcome test.handle) (option_or (includes_fault ws (item_view i)) (defined_fault [] (map name_of_id (map local_id (in_turn (scope_names (item_view i)) (order_of test.outcome))))))) ≡ defined_fault [] (map name_of_id n.turn.items)
+          head_is : option_or (item_stability (item_view i)) (option_or (names_fault ws.interfaces i.names.items test.outcome test.handle) (option_or (includes_fault ws (item_view i)) (defined_fault [] (map name_of_id (map local_id (in_turn (scope_names (item_view i)) (order_of test.outcome))))))) ≡ defined_fault [] (map name_of_id n.turn.items)
           head_is =
               ap (λ (x : Option Fault). option_or x (option_or (names_test test.outcome test.handle) last)) stable
               ∙ ap (λ (x : Option Fault). option_or x last) (names_found (done n) head)
@@ -109,12 +110,12 @@ module _ (ws : Worlds) (i : BorrowedItem) (old : Growing) where
           world_alone r found = finds_same r (sym (test.says ∙ ap (λ (x : Option Fault). option_or x rest) head_is)) found
 
       -- what is found in its walk, too
-      module _ (s : WorldScope) (mid : List TypeDef) (turn : AddsTurn old.types mid cs o xs s.names.types s.names.turn.items s.names.required.items) (head : FindsNames None ws.interfaces.now o old.types i.names.items (done s.names)) (included : includes_fault ws (item_view i) ≡ None) where
+      module _ (s : WorldScope) (mid : Growing) (same : mid.inside ≡ old.inside) (turn : AddsNamesOf ws i old.types mid.types s.names) (head : FindsNames None ws.interfaces o old.types i.names.items (done s.names)) (included : includes_fault ws (item_view i) ≡ None) where
         abbrev walk : ItemWalk
-        walk = record { item = i; scope = s; interfaces = ws.interfaces.now }
+        walk = record { item = i; scope = s; interfaces = ws.interfaces }
 
-        pub world_found : {T : Type 0} (r : Result T ParseError) → IsWalk walk → FindsSides walk (record { types = mid; inside = old.inside }) r → Finds (wrong (item_view i)) r
-        world_found r walks found = world_alone s.names mid turn head included r (found test.member (test.members s mid walks turn.adds))
+        pub world_found : {T : Type 0} (r : Result T ParseError) → IsWalk walk → FindsSides walk mid r → Finds (wrong (item_view i)) r
+        world_found r walks found = world_alone s.names mid.types turn head included r (found test.member (test.members s mid walks same turn.adds))
 
 -- each item of files has a name by which it is found
 pub item_called : (files : List PackageFile) (i : BorrowedItem) → IsItemOf files i → (about (item_view i).declared).called ≡ Some (about (item_view i).declared).id.name.now
@@ -144,13 +145,13 @@ among_kept keep wrong ws places k p w e next at kept none own =
 
 -- The walk of a world of the files, and what the world adds: after its names what is on its sides, or nothing.
 -- it is the walk of a world of the files, where its names are resolved in turn
-pub walk_there : (is : Interfaces) (i : BorrowedItem) (s : WorldScope) (world : Written) (names : List Borrowed) → IsWorldOf is i → declared_view i.declared ≡ TheWorld world → IsTurn (scope_names (item_view i)) s.names.turn.items → map function_view s.functions.items ≡ flat_map part_functions (map world_part world.items.items) → names ≡ i.names.items → AreResults s.results (map name_view names) → s.closed ≡ none_of (includes (item_view i)) → IsWalk (record { item = i; scope = s; interfaces = is })
-walk_there is i s world names of declared turn functions lent results closed = record {
+pub walk_there : (r : Resolved) (i : BorrowedItem) (s : WorldScope) (world : Written) (names : List Borrowed) (ns found : List WorldInclude) → IsItemIn r.interfaces true i → declared_view i.declared ≡ TheWorld world → IsTurn (scope_names (item_view i)) s.names.turn.items → map function_view s.functions.items ≡ flat_map part_functions (map world_part world.items.items) → names ≡ i.names.items → AreResults s.results (map name_view names) → AreIncludes (addresses_of r) (item_in r.interfaces.files i.place (TheWorld world)) found → ns ≡ found → ((written : List Include) → length ns ≡ length written → s.closed ≡ none_of written) → IsWalk (record { item = i; scope = s; interfaces = r.interfaces })
+walk_there r i s world names ns found of declared turn functions lent results are same closed = record {
   world = of;
   functions = functions ∙ ap (λ (d : Declared). flat_map part_functions (about d).parts) (sym declared) ∙ sym (functions_parts (item_view i));
   results = subst (AreResults s.results) (ap (map name_view) lent ∙ of.item.named) results;
   turn = turn;
-  closed = closed;
+  closed = closed (includes (item_view i)) (ap length same ∙ are.0 ∙ ap (λ (w : Item). length (includes w)) (item_here i world of.item declared));
 }
 
 -- where each of so many interfaces that are written in an item is, after the declared ones and those that were written before
@@ -162,43 +163,50 @@ module _ (foreign : List Address) (is inside : List Interface) (ss : List Addres
       ap (slice_get (interfaces_at foreign is ++ (ss ++ us))) place ∙ at_back (interfaces_at foreign is) (ss ++ us) (length ss + k) s (at_back ss us k s at)
 
 -- what a world adds, where its names and what is on its sides were added
-module _ (w : ItemWalk) (others : List Address) (ws : List World) (old : List TypeDef) (middle new : Growing) (required : List Required) (m : Walked) (is : IsWalk w) (n : AddsTurn old middle.types (resolved_scopes_of w.interfaces) (owner.World (length ws)) (scope_names (item_view w.item)) w.scope.names.types w.scope.names.turn.items required) (start : Walked) (begun : IsStart w start) (adds : AddsMembers w [] (side_items (item_view w.item)) (stage middle start) (stage new m)) where
+module _ (r : Resolved) (i : BorrowedItem) (s : WorldScope) (a middle b : Growing) (n : AddsNamesOf r i a.types middle.types s.names) (required : middle.required.items ≡ a.required.items ++ s.names.required.items) (same : middle.inside ≡ a.inside) (m start : Walked) (begun : IsStart (record { item = i; scope = s; interfaces = r.interfaces }) start) (adds : AddsMembers (record { item = i; scope = s; interfaces = r.interfaces }) [] (side_items (item_view i)) (stage middle start) (stage b m)) where
+  abbrev own_walk : ItemWalk
+  own_walk = record { item = i; scope = s; interfaces = r.interfaces }
+
   abbrev item : Item
-  item = item_view w.item
+  item = item_view i
 
   abbrev foreign : List Address
-  foreign = prefix_of w.interfaces.files
+  foreign = prefix_of r.interfaces.files
 
   abbrev interfaces : List Interface
-  interfaces = w.interfaces.arena
+  interfaces = r.interfaces.arena
 
-  pub content_adds : (added : World) (imports exports : List Entry) (included : List WorldInclude) → added ≡ world (about item.declared).id.name.now imports exports included (declared_metadata item.declared) (about item.declared).id.span → imports ≡ settled (includes item) m.members.sides.imports → exports ≡ settled (includes item) m.members.sides.exports → AreIncludes (worlds_at others ws) item included → AddsWorld foreign others interfaces old new.types ws (ws ++ added ∷ []) middle.inside new.inside (required ++ m.required.items) item
-  content_adds added imports exports included says on_imports on_exports are = record {
-    added = added;
-    last = refl;
-    types = w.scope.names.types;
-    middle = middle.types;
-    adds = n.adds;
-    own = n.handled.list;
-    ended = n.handled.ended;
-    functions = adds.functions;
-    rest = adds.adds.own;
-    requires = ap (λ (l : List Required). l ++ m.required.items) n.handled.added ∙ ap (λ (l : List Required). n.handled.list ++ l) (adds.adds.list ∙ ap (λ (l : List Required). l ++ adds.adds.own) begun.required);
-    sides = adds.adds.holds (address item);
-    made = λ id typed made ss known all vs here there. (
-        let us = map address (inline_items item) in
-        let counted = addresses_count foreign interfaces w.interfaces.prefix in
-        let places : HavePlaces w middle.inside (inline_items item) all = record {
-          interfaces = record { at = λ p s at. here.at p s (at_prefix (interfaces_at foreign interfaces) (ss ++ us) p s at) };
-          inline = λ k s at. here.at ((length interfaces + length middle.inside) + k) s (inline_present foreign interfaces middle.inside ss item counted known k s at);
-        } in
-        let names = in_turn (scope_names item) n.adds.order in
-        let on : WorldSide → List Entry = λ s. entries_on s (next_entries id all item [] (side_items item)) in
-        let named = begun.imports names n.turn ∙ ap (type_imports names) typed ∙ type_imports-as_stated id (address item) names in
-        world_stated (about item.declared).id.name.now (about item.declared).id.span (declared_metadata item.declared) added imports _ exports _ included _ says
-        (on_imports ∙ ap (settled (includes item)) (adds.are_present id made all places Imported ∙ ap (λ (l : List Entry). l ++ on Imported) named))
-        (on_exports ∙ ap (settled (includes item)) (adds.are_present id made all places Exported ∙ ap (λ (l : List Entry). l ++ on Exported) begun.exports))
-        (are.1 vs there));
+  pub content_adds : IsWalk own_walk → (c : WorldContent) → AreSettled s.closed m.members.sides c.sides → AreIncludes (addresses_of r) (item_view i) c.includes → AddsContent r i a b c
+  content_adds walks c on_sides are = λ added says. record {
+    own = s.names.required.items ++ adds.adds.own;
+    list = adds.adds.list ∙ ap (λ (l : List Required). l ++ adds.adds.own) required ∙ append_assoc a.required.items s.names.required.items adds.adds.own;
+    holds = record {
+      added = added;
+      last = refl;
+      types = s.names.types;
+      middle = middle.types;
+      adds = n.adds;
+      own = n.handled.list;
+      ended = n.handled.ended;
+      functions = adds.functions;
+      rest = adds.adds.own;
+      requires = ap (λ (l : List Required). l ++ adds.adds.own) n.handled.added;
+      sides = subst (λ (l : List Interface). AddsSides (resolved_scopes_of r.interfaces) (length interfaces) (address item) s.names.types middle.types b.types l b.inside adds.functions adds.adds.own (side_items item) (inline_items item)) same (adds.adds.holds (address item));
+      made = λ id typed made ss known all vs here there. (
+          let us = map address (inline_items item) in
+          let counted = addresses_count foreign interfaces r.interfaces.prefix in
+          let places : HavePlaces own_walk middle.inside (inline_items item) all = record {
+            interfaces = record { at = λ p s at. here.at p s (at_prefix (interfaces_at foreign interfaces) (ss ++ us) p s at) };
+            inline = λ k s at. here.at ((length interfaces + length middle.inside) + k) s (inline_present foreign interfaces middle.inside ss item counted (known ∙ sym (ap length same)) k s at);
+          } in
+          let names = in_turn (scope_names item) n.adds.order in
+          let on : WorldSide → List Entry = λ s. entries_on s (next_entries id all item [] (side_items item)) in
+          let named = begun.imports names n.turn ∙ ap (type_imports names) typed ∙ type_imports-as_stated id (address item) names in
+          world_stated (about item.declared).id.name.now (about item.declared).id.span (declared_metadata item.declared) added c.sides.imports _ c.sides.exports _ c.includes _ says
+          (on_sides Imported (includes item) walks.closed ∙ ap (settled (includes item)) (adds.are_present id made all places Imported ∙ ap (λ (l : List Entry). l ++ on Imported) named))
+          (on_sides Exported (includes item) walks.closed ∙ ap (settled (includes item)) (adds.are_present id made all places Exported ∙ ap (λ (l : List Entry). l ++ on Exported) begun.exports))
+          (are.1 vs there));
+    };
   }
 
 -- parts that put nothing on a side
@@ -240,36 +248,38 @@ module _ (xs : List ScopeName) (ids : List Id) (turn : IsTurn xs ids) (lower : l
   keys_differ s = subst (λ (l : List Name). AllDiffer (map name_key l)) (append-nil (names_on s (map name_of_id ids))) (names_alone s xs ids [] refl turn lower)
 
 -- a world of the files that has nothing on its sides after its names
-module _ (item : Item) (empty : side_items item ≡ []) where
+module _ (i : BorrowedItem) (empty : side_items (item_view i) ≡ []) where
   -- nothing has a fault
-  pub alone_none : (ids : List Id) → IsTurn (scope_names item) ids → list_any (λ (id : Id). list_any is_ascii_uppercase id.name.now) ids ≡ false → (member : List SideItem → SideItem → Option Fault) → option_or (defined_fault [] (map name_of_id ids)) (option_or (first_after member [] (side_items item)) (setters_fault item)) ≡ None
-  alone_none ids turn lower member = none_both (no_clashes name_key again (map name_of_id ids) (keys_differ (scope_names item) ids turn lower Imported)) (none_both (ap (first_after member []) empty) (setters_none item empty))
+  pub alone_none : (ids : List Id) → IsTurn (scope_names (item_view i)) ids → list_any (λ (id : Id). list_any is_ascii_uppercase id.name.now) ids ≡ false → (member : List SideItem → SideItem → Option Fault) → option_or (defined_fault [] (map name_of_id ids)) (option_or (first_after member [] (side_items (item_view i))) (setters_fault (item_view i))) ≡ None
+  alone_none ids turn lower member = none_both (no_clashes name_key again (map name_of_id ids) (keys_differ (scope_names (item_view i)) ids turn lower Imported)) (none_both (ap (first_after member []) empty) (setters_none (item_view i) empty))
 
   -- and only the names are added
-  module _ (is : Interfaces) (others : List Address) (ws : List World) (old middle : List TypeDef) (inside : List Interface) (types : Names) (ids : List Id) (required : List Required) (n : AddsTurn old middle (resolved_scopes_of is) (owner.World (length ws)) (scope_names item) types ids required) where
-    abbrev names : List Entry
-    names = type_imports (in_turn (scope_names item) n.adds.order) types
-
-    pub alone_adds : (added : World) (imports exports : List Entry) (included : List WorldInclude) → added ≡ world (about item.declared).id.name.now imports exports included (declared_metadata item.declared) (about item.declared).id.span → imports ≡ names → exports ≡ [] → AreIncludes (worlds_at others ws) item included → AddsWorld (prefix_of is.files) others is.arena old middle ws (ws ++ added ∷ []) inside inside required item
-    alone_adds added imports exports included says imported exported are =
-        let us = inline_items item in
-        let turn = in_turn (scope_names item) n.adds.order in
-        record {
+  pub alone_adds : (r : Resolved) (a b : Growing) (names : ResolvedNames) (n : AddsNamesOf r i a.types b.types names) → b.required.items ≡ a.required.items ++ names.required.items → b.inside ≡ a.inside → (c : WorldContent) → c.sides.imports ≡ type_imports (in_turn (scope_names (item_view i)) n.adds.order) names.types → c.sides.exports ≡ [] → AreIncludes (addresses_of r) (item_view i) c.includes → AddsContent r i a b c
+  alone_adds r a b names n required same c imported exported are = λ added says.
+      let item = item_view i in
+      let us = inline_items item in
+      let turn = in_turn (scope_names item) n.adds.order in
+      let Sides : List Interface → List SideItem → Type 0 = λ l xs. AddsSides (resolved_scopes_of r.interfaces) (length r.interfaces.arena) (address item) names.types b.types b.types l b.inside [] [] xs us in
+      record {
+        own = names.required.items;
+        list = required;
+        holds = record {
           added = added;
           last = refl;
-          types = types;
-          middle = middle;
+          types = names.types;
+          middle = b.types;
           adds = n.adds;
           own = n.handled.list;
           ended = n.handled.ended;
           functions = [];
           rest = [];
           requires = n.handled.added ∙ sym (append-nil n.handled.list);
-          sides = subst (λ (xs : List SideItem). AddsSides (resolved_scopes_of is) (length is.arena) (address item) types middle middle inside inside [] [] xs us) (sym empty) (sides_none (resolved_scopes_of is) (length is.arena) (address item) types middle inside us);
+          sides = subst (λ (l : List Interface). Sides l (side_items item)) same (subst (Sides b.inside) (sym empty) (sides_none (resolved_scopes_of r.interfaces) (length r.interfaces.arena) (address item) names.types b.types b.inside us));
           made = λ id typed made ss known all vs here there. (
               let none = λ (s : WorldSide). ap (λ (xs : List SideItem). entries_on s (next_entries id all item [] xs)) empty in
-              world_stated (about item.declared).id.name.now (about item.declared).id.span (declared_metadata item.declared) added imports _ exports _ included _ says
-              (imported ∙ sym (names_settled (includes item) turn types) ∙ ap (settled (includes item)) (ap (type_imports turn) typed ∙ type_imports-as_stated id (address item) turn ∙ sym (append-nil (name_imports id (address item) turn)) ∙ ap (λ (l : List Entry). name_imports id (address item) turn ++ l) (sym (none Imported))))
-              (exported ∙ sym (names_settled (includes item) [] types) ∙ ap (settled (includes item)) (sym (none Exported)))
+              world_stated (about item.declared).id.name.now (about item.declared).id.span (declared_metadata item.declared) added c.sides.imports _ c.sides.exports _ c.includes _ says
+              (imported ∙ sym (names_settled (includes item) turn names.types) ∙ ap (settled (includes item)) (ap (type_imports turn) typed ∙ type_imports-as_stated id (address item) turn ∙ sym (append-nil (name_imports id (address item) turn)) ∙ ap (λ (l : List Entry). name_imports id (address item) turn ++ l) (sym (none Imported))))
+              (exported ∙ sym (names_settled (includes item) [] names.types) ∙ ap (settled (includes item)) (sym (none Exported)))
               (are.1 vs there));
-        }
+        };
+      }

@@ -1,20 +1,22 @@
 -- What files make, and their first fault from a step of the walk on.
-use Rattle.std.specs.Prelude.{◌≡◌, List, None, Result, Some, ℕ, drop, map}
-use Rattle.wit_contents.specs.Names.{AreItemsOf, BorrowedItem, Fault, Required, item_view, Interface, IsLegal, Makes, PackageFile, TypeDef, World, first_docs, headers, last_header, package_of, Address, EndsAt, Id, ParseError, Row, Word, item_rows, shape_end}
+use Rattle.std.specs.Prelude.{◌≡◌, ◌++◌, List, None, Result, Some, ℕ, drop, map}
+use Rattle.wit_contents.specs.Names.{AreItemsOf, BorrowedItem, Fault, Required, item_view, IsLegal, Makes, PackageFile, first_docs, headers, last_header, package_of, Address, EndsAt, Id, ParseError, Row, Word, item_rows, shape_end}
 use Rattle.wit_tree.specs.declared.tree.PackageName.{PackageName as Header}
 use Rattle.wit_model.specs.Packages.{package_of_parts}
 use Rattle.wit_model.specs.declared.foreign.ForeignItems.{ForeignItems}
+use Rattle.wit_contents.specs.declared.contents.Contents.{Contents}
+use Rattle.wit_contents.specs.declared.making.Making.{Making}
 use Rattle.wit_syntax.specs.NameEnds.{End}
 use Rattle.wit_first.specs.First.{Finds}
-use Rattle.wit_arena.specs.Common.{AddsForeign, ForeignUse, ForeignVisit, IsOrder, all_items, dep, first_foreign_uses, foreign_packages}
+use Rattle.wit_arena.specs.Common.{ForeignUse, ForeignVisit, IsOrder, all_items, dep, first_foreign_uses, foreign_packages}
 use Rattle.wit_syntax.specs.Broken.{IsBrokenNames}
 use Rattle.wit_first.specs.UseFaults.{all_uses_fault}
 use Rattle.wit_walk.specs.Orders.{IsOutcome}
 use Rattle.wit_walk.specs.Walk.{Known, earliest, walk_faults}
 
 -- it is what they make, where they are legal
-pub record MakeContents (files : List PackageFile) (es : List TypeDef) (is : List Interface) (ws : List World) (foreign : ForeignItems) : Type 0 where
-  pub made : (header : Header) → last_header files ≡ Some header → IsLegal files → Makes files (package_of_parts (package_of header) (record { types = es; interfaces = is; worlds = ws }) (first_docs (headers files)) header.span foreign)
+pub record MakeContents (files : List PackageFile) (c : Contents) : Type 0 where
+  pub made : (header : Header) → last_header files ≡ Some header → IsLegal files → Makes files (package_of_parts (package_of header) c.arenas (first_docs (headers files)) header.span c.foreign)
 
 -- what is looked up is right: each table has its outcome, and each name that ends ends in so many steps
 pub record IsRight (files : List PackageFile) (known : Known) : Type 0 where
@@ -25,15 +27,13 @@ pub record IsRight (files : List PackageFile) (known : Known) : Type 0 where
 abbrev pub FindsAfter : {T : Type 0} → ℕ → List PackageFile → Result T ParseError → Type 0
 FindsAfter n files r = (known : Known) → IsRight files known → Finds (earliest (drop n (walk_faults files known (known.outcome (item_rows files))))) r
 
--- These are all items of files, in the order of these places, where no name is broken and no use is wrong, and nothing is there but what other
--- packages put before them.
-pub record IsReady (files : List PackageFile) (items : List BorrowedItem) (places : List ℕ) (es : List TypeDef) (is : List Interface) (ws : List World) : Type 0 where
+-- these are all items of files, in the order of these places, where no name is broken and no use is wrong
+pub record IsReady (files : List PackageFile) (items : List BorrowedItem) (places : List ℕ) : Type 0 where
   pub order : IsOrder (item_rows files) places
   pub unbroken : (f : Fault) → IsBrokenNames files f → ⊥
   pub uses : all_uses_fault files ≡ None
   pub all : map item_view items ≡ all_items files
   pub each : AreItemsOf files items
-  pub foreign : AddsForeign files es is ws
 
 -- what files name of other packages, of which these types must be resources
 pub record NamesForeign (files : List PackageFile) (rs : List Required) (named : ForeignItems) : Type 0 where
@@ -42,6 +42,13 @@ pub record NamesForeign (files : List PackageFile) (rs : List Required) (named :
   pub unknown : named.unknown_type_spans ≡ map (λ (t : ForeignUse). t.id.span) (first_foreign_uses files)
   pub required : named.required_resource_types ≡ rs
 
--- these are the arenas that files make, and what they require of other packages
-abbrev pub MakeArenas : List PackageFile → List TypeDef → List Interface → List World → List Required → Type 0
-MakeArenas files es is ws rs = (named : ForeignItems) → NamesForeign files rs named → MakeContents files es is ws named
+-- what was made, with these items of other packages
+abbrev pub contents_in : Making → ForeignItems → Contents
+contents_in m named = record {
+  arenas = record { types = m.growing.types; interfaces = m.resolved.interfaces.arena ++ m.growing.inside; worlds = m.resolved.worlds };
+  foreign = named;
+}
+
+-- it is what files make
+abbrev pub AreMade : List PackageFile → Making → Type 0
+AreMade files m = (named : ForeignItems) → NamesForeign files m.growing.required.items named → MakeContents files (contents_in m named)

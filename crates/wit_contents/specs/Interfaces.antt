@@ -1,6 +1,8 @@
 -- What an interface adds to the arenas, and its first fault, by the interfaces that are resolved and by where its names end.
-use Rattle.std.specs.Prelude.{[], ◌++◌, ◌∷◌, ◌≡◌, ℕ, List, Vec, map, Option, Result, length}
-use Rattle.wit_contents.specs.Names.{AddsBody, AddsInterface, Appends, EndsInTurn, Fault, Function, Global, HasTurn, Id, Interface, InterfaceNamed, Interfaces, IsExtended, IsNameIndex, Item, ItemScope, PackageFile, ParseError, Required, ResolvedNames, ResolvedScope, ScopeName, TypeDef, TypeOwner, functions, in_turn, interfaces_at, item_stability, local_id, lone_setters, names_fault, option_or, prefix_of, resolved_scopes_of, rows_of, scope_item, scope_names}
+use Rattle.std.specs.Prelude.{◌≡◌, ℕ, List, map, Option, Result, false, length}
+use Rattle.wit_contents.specs.Names.{AddsBody, AddsInterface, Appends, EndsInTurn, Fault, Function, Growing, HasTurn, Id, Interface, Interfaces, IsExtended, Item, ItemScope, PackageFile, ParseError, ResolvedNames, ResolvedScope, ScopeName, TypeDef, TypeOwner, functions, in_turn, is_world, item_stability, local_id, lone_setters, names_fault, option_or, prefix_of, resolved_scopes_of, rows_of, scope_item, scope_names}
+use Rattle.wit_contents.specs.Making.{PutsInterface}
+use Rattle.wit_contents.specs.declared.making.Making.{Making}
 use Rattle.wit_arena.specs.SourceFunctions.{placed_functions}
 use Rattle.wit_types.specs.declared.types.TypeOwner.TheVariants as owner
 use Rattle.wit_first.specs.First.{Finds}
@@ -14,17 +16,16 @@ pub record AddsTable (n n' : ResolvedNames) (now new : List TypeDef) (i : Item) 
   pub functions : (old : List TypeDef) (cs : List ResolvedScope) (o : TypeOwner) → HasTurn n now i old cs o → (fs : List Function) × AddsBody old new cs o i n.types n.turn.items fs n'.required.items × (table ≡ placed_functions fs)
 
 -- an interface, at a place
-pub record AddsAt (is : Interfaces) (place : ℕ) (old new : List TypeDef) (before after : List Required) (i : Item) (added : Interface) : Type 0 where
-  pub appends : Appends before after (λ rs. AddsInterface (resolved_scopes_of is) place old new added rs i)
-  pub extended : IsExtended old new
+pub record AddsAt (is : Interfaces) (place : ℕ) (a b : Growing) (i : Item) (added : Interface) : Type 0 where
+  pub appends : Appends a.required.items b.required.items (λ rs. AddsInterface (resolved_scopes_of is) place a.types b.types added rs i)
+  pub extended : IsExtended a.types b.types
 
--- each interface is found by its name
-abbrev pub IsIndexed : Interfaces → Type 0
-IsIndexed is = IsNameIndex InterfaceNamed (interfaces_at (prefix_of is.files) is.arena) is.by_name
-
--- a declared interface was added after those before it
-abbrev pub AddsDeclared : Interfaces → Interfaces → List TypeDef → List TypeDef → Vec Required Global → Vec Required Global → Item → Type 0
-AddsDeclared is now old new before after item = (added : Interface) × (now.arena ≡ is.arena ++ added ∷ []) × AddsAt is (length is.arena) old new before.items after.items item added
+-- a declared interface was added after those before it, and none that is written in a world
+pub record AddsDeclared (a b : Making) (i : Item) : Type 0 where
+  pub added : Interface
+  pub puts : PutsInterface a.resolved b.resolved added
+  pub adds : AddsAt a.resolved.interfaces (length a.resolved.interfaces.arena) a.growing b.growing i added
+  pub inside : b.growing.inside ≡ a.growing.inside
 
 -- the names of an item that is borrowed
 abbrev pub names_of : ItemScope → List ScopeName
@@ -42,8 +43,9 @@ interface_fault is i outcome handle = option_or (option_or (item_stability (scop
 abbrev pub FindsInterface : {T : Type 0} → Interfaces → ℕ → List TypeDef → ItemScope → Result T ParseError → Type 0
 FindsInterface is place old i r = (outcome : Outcome) → IsOutcome (rows_of (names_of i)) outcome → (handle : Id → Option Fault) → EndsInTurn (resolved_scopes_of is) (owner.Interface place) old (names_of i) outcome handle → Finds (interface_fault is i outcome handle) r
 
--- an item as it is lent, with its names
+-- an interface as it is lent, with its names
 pub record IsLent (s : ItemScope) (files : List PackageFile) (w : Item) : Type 0 where
+  pub sort : is_world w ≡ false
   pub item : scope_item s ≡ w
   pub named : names_of s ≡ scope_names w
   pub placed : AreNamesPlaced (prefix_of files) s.names.now
@@ -57,5 +59,5 @@ pub record IsRightOf (wrong : Item → Option Fault) (is : Interfaces) (old : Li
   pub says : (s : ItemScope) → IsLent s is.files w → wrong w ≡ interface_fault is s outcome handle
 
 -- a call finds what each such test says
-abbrev pub FindsOne : {T : Type 0} → Interfaces → List TypeDef → Item → Result T ParseError → Type 0
-FindsOne is old w r = (wrong : Item → Option Fault) → IsRightOf wrong is old (length is.arena) w → Finds (wrong w) r
+abbrev pub FindsOne : {T : Type 0} → Making → Item → Result T ParseError → Type 0
+FindsOne m w r = (wrong : Item → Option Fault) → IsRightOf wrong m.resolved.interfaces m.growing.types (length m.resolved.interfaces.arena) w → Finds (wrong w) r

@@ -1,3 +1,4 @@
+pub mod Making
 pub mod Interfaces
 pub mod Files
 pub mod Walk

@@ -1,6 +1,6 @@
 -- What the imports and exports of a world add, one after another after its names, and their first fault.
 use Rattle.std.specs.Prelude.{◌≡◌, ◌+◌, ◌++◌, ◌∷◌, [], ℕ, Bool, Contains, List, Option, length, map, nat_eq, slice_get, Some, true, None, Result}
-use Rattle.wit_contents.specs.Names.{Address, AddsSides, Appends, BorrowedItem, EndsIn, Fault, Function, Id, Interface, Interfaces, IsExtended, IsItemOf, Item, Link, ParseError, Required, ScopeName, SideFunction, SideInline, SideItem, SideLink, TypeDef, UsePath, WorldSide, address, entries_of, env_of, flat_map, functions as the_functions, includes, inline_after, interfaces_at, is_world, item_function, item_view, items_on, linked_fault, local_id, name_of_id, names_on, none_of, option_map_or, option_or, part_items, path_place, prefix_of, resolved_scopes_of, scope_names, side_items, signed_by, type_imports, world_part}
+use Rattle.wit_contents.specs.Names.{Address, AddsSides, Appends, BorrowedItem, EndsIn, Fault, Function, Growing, Id, Interface, Interfaces, IsExtended, Item, Link, ParseError, ScopeName, SideFunction, SideInline, SideItem, SideLink, TypeDef, UsePath, WorldSide, address, entries_of, env_of, flat_map, functions as the_functions, includes, inline_after, interfaces_at, item_function, item_view, items_on, linked_fault, local_id, name_of_id, names_on, none_of, option_map_or, option_or, part_items, path_place, prefix_of, resolved_scopes_of, scope_names, side_items, signed_by, type_imports, world_part}
 use Rattle.wit_syntax.specs.Sides.{members_after}
 use Rattle.wit_arena.specs.Made.{entries_on, function_in, member_entries, scope_place}
 use Rattle.wit_arena.specs.Occurrences.{Key}
@@ -13,8 +13,8 @@ use Rattle.wit_externs.specs.Clash.{linked_on, bare_place, item_names}
 use Rattle.wit_world_sides.specs.Members.{AreKeyed, Entry, sorted_on, put_fault, put_link_fault}
 use Rattle.wit_links.specs.Links.{IsSeen}
 use Rattle.wit_item_entries.specs.AddedNames.{IsTurn}
+use Rattle.wit_contents.specs.Making.{IsItemIn}
 use Rattle.wit_contents.specs.Interfaces.{AddsAt, IsRightOf}
-use Rattle.wit_contents.specs.declared.walk.Growing.{Growing}
 use Rattle.wit_contents.specs.declared.walk.Walked.{Walked}
 use Rattle.wit_contents.specs.declared.walk.WorldScope.{WorldScope}
 use Rattle.wit_first.specs.AttributeFaults.{metadata_fault}
@@ -32,7 +32,7 @@ pub record ItemWalk : Type 0 where
   pub interfaces : Interfaces
 
 abbrev pub walk_of : BorrowedItem → WorldScope → ItemWalk
-walk_of i s = record { item = i; scope = s; interfaces = s.interfaces.now }
+walk_of i s = record { item = i; scope = s; interfaces = s.resolved.now.interfaces }
 
 -- the place of the interface that a path of it leads to
 abbrev pub lead : ItemWalk → UsePath → Option ℕ
@@ -42,14 +42,9 @@ lead w = path_place w.interfaces.files w.interfaces.by_name (item_view w.item).t
 abbrev pub next_place : Interfaces → List Interface → ℕ
 next_place is inside = length is.arena + length inside
 
--- it is a world of the files whose interfaces are resolved
-pub record IsWorldOf (is : Interfaces) (i : BorrowedItem) : Type 0 where
-  pub sort : is_world (item_view i) ≡ true
-  pub item : IsItemOf is.files i
-
 -- this walk is that of one, with its names in turn, its functions, and its definitions that are written as results
 pub record IsWalk (w : ItemWalk) : Type 0 where
-  pub world : IsWorldOf w.interfaces w.item
+  pub world : IsItemIn w.interfaces true w.item
   pub functions : map function_view w.scope.functions.items ≡ the_functions (item_view w.item)
   pub results : AreResults w.scope.results (scope_names (item_view w.item))
   pub turn : IsTurn (scope_names (item_view w.item)) w.scope.names.turn.items
@@ -84,7 +79,7 @@ next_entries id ss i prefix xs = flat_map (λ m. member_entries (function_in id 
 -- after a prefix, these were resolved, and put on their sides
 pub record AddsMembers (w : ItemWalk) (prefix xs : List SideItem) (a b : Stage) : Type 0 where
   pub functions : List Function
-  pub adds : Appends a.walked.required.items b.walked.required.items (λ rs. (s : Address) → AddsSides (resolved_scopes_of w.interfaces) (length w.interfaces.arena) s w.scope.names.types a.growing.types b.growing.types a.growing.inside b.growing.inside functions rs xs (inline_after (item_view w.item) prefix xs))
+  pub adds : Appends a.growing.required.items b.growing.required.items (λ rs. (s : Address) → AddsSides (resolved_scopes_of w.interfaces) (length w.interfaces.arena) s w.scope.names.types a.growing.types b.growing.types a.growing.inside b.growing.inside functions rs xs (inline_after (item_view w.item) prefix xs))
   pub extended : IsExtended a.growing.types b.growing.types
   pub seen : (ys : List SideItem) → IsSeen ys a.walked.seen → IsSeen (ys ++ xs) b.walked.seen
   pub in_use : (s : WorldSide) → defined_on s b.walked.members.in_use ≡ defined_on s a.walked.members.in_use ++ flat_map item_names (items_on s xs)
@@ -100,7 +95,6 @@ AddsItems i w xs old a new b = (n : IsNext (walk_of i w) xs a) → AddsMembers (
 
 -- at first the names of the scope are imported, and nothing is exported
 pub record IsStart (w : ItemWalk) (m : Walked) : Type 0 where
-  pub required : m.required.items ≡ []
   pub seen : IsSeen [] m.seen
   pub keyed : AreKeyed m.members
   pub in_use : (s : WorldSide) → defined_on s m.members.in_use ≡ names_on s (map name_of_id w.scope.names.turn.items)
@@ -109,12 +103,12 @@ pub record IsStart (w : ItemWalk) (m : Walked) : Type 0 where
   pub exports : m.members.sides.exports ≡ []
 
 -- all of what is on its sides was added, after its names
-abbrev pub AddsSidesOf : BorrowedItem → WorldScope → Interfaces → Growing → Growing → Walked → Type 0
-AddsSidesOf i s is old new m = (start : Walked) × IsStart (record { item = i; scope = s; interfaces = is }) start × AddsMembers (record { item = i; scope = s; interfaces = is }) [] (side_items (item_view i)) (stage old start) (stage new m)
+abbrev pub AddsSidesOf : BorrowedItem → WorldScope → Growing → Growing → Walked → Type 0
+AddsSidesOf i s a b m = (start : Walked) × IsStart (walk_of i s) start × AddsMembers (walk_of i s) [] (side_items (item_view i)) (stage a start) (stage b m)
 
 -- an inline interface was added after those before it, which come after all declared ones
-abbrev pub AddsInside : Interfaces → List TypeDef → List TypeDef → List Interface → List Interface → List Required → List Required → Item → Type 0
-AddsInside is old new inside now before after item = (added : Interface) × (now ≡ inside ++ added ∷ []) × AddsAt is (next_place is inside) old new before after item added
+abbrev pub AddsInside : Interfaces → Growing → Growing → Item → Type 0
+AddsInside is a b i = (added : Interface) × (b.inside ≡ a.inside ++ added ∷ []) × AddsAt is (next_place is a.inside) a b i added
 
 -- This is the fault of the next one at a stage, and then of its name: of a function by a test of names in handles that is right of the arena
 -- from there on, of an inline interface by a test of items.

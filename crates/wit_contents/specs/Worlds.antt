@@ -1,40 +1,41 @@
 -- What a world adds to the arenas, the walk of what it imports and exports, and its first fault.
 use Rattle.std.specs.Prelude.{◌≡◌, List, ◌∷◌, [], ◌++◌, length, map, Option, Result}
-use Rattle.wit_contents.specs.Names.{AddsScope, AddsWorld, Appends, BorrowedItem, EndsInTurn, Fault, Id, IsNameIndex, Item, Metadata, ParseError, ResolvedNames, TypeDef, World, WorldNamed, about, declared_metadata, defined_fault, in_turn, includes, item_stability, item_view, local_id, name_of_id, names_fault, option_or, others_of, prefix_of, resolved_scopes_of, rows_of, scope_names, side_items, worlds_at, SideItem}
+use Rattle.wit_contents.specs.Names.{AddsScope, AddsWorld, Appends, BorrowedItem, EndsInTurn, Fault, Growing, Id, Item, Metadata, ParseError, Resolved, ResolvedNames, TypeDef, World, about, declared_metadata, defined_fault, in_turn, includes, item_stability, item_view, local_id, name_of_id, names_fault, option_or, others_of, prefix_of, resolved_scopes_of, rows_of, scope_names, side_items, SideItem}
 use Rattle.wit_arena.specs.Made.{world}
 use Rattle.wit_types.specs.declared.types.TypeOwner.TheVariants as owner
-use Rattle.wit_links.specs.declared.worlds.Worlds.{Worlds}
 use Rattle.wit_item_entries.specs.AddedNames.{AddsTurn}
 use Rattle.wit_first.specs.First.{Finds, first_after}
 use Rattle.wit_walk.specs.Orders.{IsOutcome, Outcome, order_of}
 use Rattle.wit_walk.specs.Setters.{setters_fault}
 use Rattle.wit_links.specs.Links.{includes_fault}
-use Rattle.wit_contents.specs.declared.world.Resolving.{Resolving}
+use Rattle.wit_contents.specs.Making.{PutsWorld}
+use Rattle.wit_contents.specs.declared.making.Making.{Making}
 use Rattle.wit_contents.specs.declared.world.WorldContent.{WorldContent}
-use Rattle.wit_contents.specs.declared.walk.Growing.{Growing}
 use Rattle.wit_contents.specs.declared.walk.Walked.{Walked}
 use Rattle.wit_contents.specs.declared.walk.WorldScope.{WorldScope}
 use Rattle.wit_contents.specs.Walk.{IsStart, IsWalk, ItemWalk, stage, AreRightMembers}
 
--- the arena of worlds is now this one: an item was added to the arenas, as a world
-abbrev pub AddsTo : Worlds → List World → BorrowedItem → Resolving → Resolving → Type 0
-AddsTo ws arena i old new = Appends old.required.items new.required.items (λ rs. AddsWorld (prefix_of ws.interfaces.now.files) (others_of ws.interfaces.now.files) ws.interfaces.now.arena old.growing.types new.growing.types ws.arena arena old.growing.inside new.growing.inside rs (item_view i))
+-- an item was added to the arenas, as a world
+abbrev pub AddsTo : Resolved → BorrowedItem → Growing → Growing → World → Type 0
+AddsTo r i a b added = Appends a.required.items b.required.items (λ rs. AddsWorld (prefix_of r.interfaces.files) (others_of r.interfaces.files) r.interfaces.arena a.types b.types r.worlds (r.worlds ++ added ∷ []) a.inside b.inside rs (item_view i))
+
+-- and put after those before it
+pub record AddsDeclaredWorld (a b : Making) (i : BorrowedItem) : Type 0 where
+  pub added : World
+  pub puts : PutsWorld a.resolved b.resolved added
+  pub adds : AddsTo a.resolved i a.growing b.growing added
 
 -- the names of a world that comes next were added
-abbrev pub AddsNamesOf : Worlds → BorrowedItem → List TypeDef → List TypeDef → ResolvedNames → Type 0
-AddsNamesOf ws i old new n = AddsTurn old new (resolved_scopes_of ws.interfaces.now) (owner.World (length ws.arena)) (scope_names (item_view i)) n.types n.turn.items n.required.items
+abbrev pub AddsNamesOf : Resolved → BorrowedItem → List TypeDef → List TypeDef → ResolvedNames → Type 0
+AddsNamesOf r i old new n = AddsTurn old new (resolved_scopes_of r.interfaces) (owner.World (length r.worlds)) (scope_names (item_view i)) n.types n.turn.items n.required.items
 
 -- a world has this name, this is stated of it, and it has this content
 abbrev pub HasContent : Id → Metadata → WorldContent → World → Type 0
 HasContent id stated c w = w ≡ world id.name.now c.sides.imports c.sides.exports c.includes stated id.span
 
 -- a world of an item with this content is added
-abbrev pub AddsContent : Worlds → BorrowedItem → Resolving → Resolving → WorldContent → Type 0
-AddsContent ws i old new c = (w : World) → HasContent (about (item_view i).declared).id (declared_metadata (item_view i).declared) c w → AddsTo ws (ws.arena ++ w ∷ []) i old new
-
--- each world is found by its name
-abbrev pub AreIndexed : Worlds → Type 0
-AreIndexed ws = IsNameIndex WorldNamed (worlds_at (others_of ws.interfaces.now.files) ws.arena) ws.by_name
+abbrev pub AddsContent : Resolved → BorrowedItem → Growing → Growing → WorldContent → Type 0
+AddsContent r i a b c = (w : World) → HasContent (about (item_view i).declared).id (declared_metadata (item_view i).declared) c w → AddsTo r i a b w
 
 -- a test is right of the members of a world after its names
 abbrev pub AreRightSides : (List SideItem → SideItem → Option Fault) → ItemWalk → Growing → Type 0
@@ -46,16 +47,16 @@ FindsSides w old r = (member : List SideItem → SideItem → Option Fault) → 
 
 -- A test of items says of a world that comes next what is found of it, by a test of names in handles that is right of the arena: its own
 -- attributes, its names, its includes, E17 of the names, its members, and E18.
-pub record IsRightOfWorld (wrong : Item → Option Fault) (ws : Worlds) (old : Growing) (i : BorrowedItem) : Type 0 where
+pub record IsRightOfWorld (wrong : Item → Option Fault) (r : Resolved) (old : Growing) (i : BorrowedItem) : Type 0 where
   pub outcome : Outcome
   pub handle : Id → Option Fault
   pub member : List SideItem → SideItem → Option Fault
   pub right : IsOutcome (rows_of (scope_names (item_view i))) outcome
-  pub ends : EndsInTurn (resolved_scopes_of ws.interfaces.now) (owner.World (length ws.arena)) old.types (scope_names (item_view i)) outcome handle
-  pub says : wrong (item_view i) ≡ option_or (option_or (item_stability (item_view i)) (option_or (names_fault ws.interfaces.now i.names.items outcome handle) (option_or (includes_fault ws (item_view i)) (defined_fault [] (map name_of_id (map local_id (in_turn (scope_names (item_view i)) (order_of outcome)))))))) (option_or (first_after member [] (side_items (item_view i))) (setters_fault (item_view i)))
-  pub members : (s : WorldScope) (es : List TypeDef) → IsWalk (record { item = i; scope = s; interfaces = ws.interfaces.now }) → AddsScope old.types es (resolved_scopes_of ws.interfaces.now) (owner.World (length ws.arena)) (scope_names (item_view i)) s.names.types
-      → AreRightSides member (record { item = i; scope = s; interfaces = ws.interfaces.now }) (record { types = es; inside = old.inside })
+  pub ends : EndsInTurn (resolved_scopes_of r.interfaces) (owner.World (length r.worlds)) old.types (scope_names (item_view i)) outcome handle
+  pub says : wrong (item_view i) ≡ option_or (option_or (item_stability (item_view i)) (option_or (names_fault r.interfaces i.names.items outcome handle) (option_or (includes_fault r (item_view i)) (defined_fault [] (map name_of_id (map local_id (in_turn (scope_names (item_view i)) (order_of outcome)))))))) (option_or (first_after member [] (side_items (item_view i))) (setters_fault (item_view i)))
+  pub members : (s : WorldScope) (g : Growing) → IsWalk (record { item = i; scope = s; interfaces = r.interfaces }) → g.inside ≡ old.inside → AddsScope old.types g.types (resolved_scopes_of r.interfaces) (owner.World (length r.worlds)) (scope_names (item_view i)) s.names.types
+      → AreRightSides member (record { item = i; scope = s; interfaces = r.interfaces }) g
 
 -- a call finds what it says
-abbrev pub FindsWorld : {T : Type 0} → Worlds → Growing → BorrowedItem → Result T ParseError → Type 0
-FindsWorld ws old i r = (wrong : Item → Option Fault) → IsRightOfWorld wrong ws old i → Finds (wrong (item_view i)) r
+abbrev pub FindsWorld : {T : Type 0} → Resolved → Growing → BorrowedItem → Result T ParseError → Type 0
+FindsWorld r old i result = (wrong : Item → Option Fault) → IsRightOfWorld wrong r old i → Finds (wrong (item_view i)) result

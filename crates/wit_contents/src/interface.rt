@@ -1,17 +1,19 @@
 //! An interface, whether it is declared or written in a world.
-ghost use Rattle.std.specs.Prelude.{◌≡◌, ◌<◌, ◌++◌, List, false, length, IfErr, IfOk, None, OnOk, map};
+ghost use Rattle.std.specs.Prelude.{◌≡◌, ◌<◌, ◌++◌, false, length, IfErr, IfOk, OnOk, map};
 ghost use Rattle.wit_type_tree.specs.RefusalText.{IsAllocationFailure};
 ghost use Rattle.wit_syntax.specs.Source.{about, is_world, scope_names};
 ghost use Rattle.wit_entries.specs.EntryFaults.{IsExtended};
 ghost use Rattle.wit_rules.specs.Signatures.{function_view};
 ghost use Rattle.wit_signatures.specs.FunctionsOfScope.{name_of_function, name_of_id};
-ghost use Rattle.wit_items.specs.BorrowedItems.{declared_view, scope_item};
+ghost use Rattle.wit_items.specs.BorrowedItems.{declared_view, metadata_view, scope_item};
 ghost use Rattle.wit_first.specs.First.{Finds};
+ghost use Rattle.wit_arena.specs.Made.{interface};
 ghost use Rattle.wit_arena.specs.Resolving.{env_of};
 ghost use Rattle.wit_externs.specs.Clash.{FindsIn, lone_setters};
 ghost use Rattle.wit_contents.specs.Interfaces.{rest_fault, FindsInterface, IsLent, names_of, AddsAt, AddsTable};
 ghost use Rattle.wit_item_entries.specs.Body.{HasTurn};
 
+use crate::making::Growing;
 use std::alloc::{AllocError, Global};
 use wit_entries::entries::Entries;
 use wit_entries::scope::Required;
@@ -20,9 +22,9 @@ use wit_item_entries::body::{Head, resolve_head, resolve_item_functions};
 use wit_item_entries::functions::function_table;
 use wit_item_entries::names::ResolvedNames;
 use wit_item_entries::required::add_required;
-use wit_items::interfaces::Interfaces;
 use wit_items::items::{Declared, ItemScope};
 use wit_links::inside::declared_name;
+use wit_links::resolved::Resolved;
 use wit_maps::TextTable;
 use wit_model::{Function, Interface};
 use wit_refusals::NameScope;
@@ -92,14 +94,7 @@ fn interface_with(
     span: Span,
     required: &mut Vec<Required>,
 ) -> ParseResult<Interface>
-    ensures called { IfOk result (λ i. i.name ≡ name) }
-    ensures there { IfOk result (λ i. i.span ≡ span) }
-    ensures docs { IfOk result (λ i. i.docs ≡ head.entry.metadata.docs) }
-    ensures stability { IfOk result (λ i. i.stability ≡ head.entry.metadata.stability) }
-    ensures own { IfOk result (λ i. i.package ≡ None) }
-    ensures original { IfOk result (λ i. i.clone_of ≡ None) }
-    ensures types { IfOk result (λ i. i.types ≡ head.entry.names.types) }
-    ensures has { IfOk result (λ i. i.functions ≡ functions) }
+    ensures is { IfOk result (λ i. i ≡ interface name head.entry.names.types functions (metadata_view head.entry.metadata) span) }
     ensures required { OnOk result (required.new.items ≡ required.old.items ++ head.entry.names.required.items) }
     ensures refused { IfErr result IsAllocationFailure }
 {
@@ -121,22 +116,20 @@ fn interface_with(
 /// functions.
 pub fn interface_of<'f, 'a>(
     item: &ItemScope<'f, 'a, '_>,
-    types: &mut Entries,
-    required: &mut Vec<Required>,
-    interfaces: &Interfaces<'f, 'a, '_, '_>,
+    growing: &mut Growing,
+    resolved: &Resolved<'f, 'a, '_, '_>,
     place: InterfaceId,
 ) -> ParseResult<Interface>
-    requires sort { is_world (scope_item item.now) ≡ false }
-    requires lent { IsLent item.now interfaces.now.files (scope_item item.now) }
-    ensures adds { IfOk result (AddsAt interfaces.now place types.old types.new required.old.items required.new.items (scope_item item.now)) }
-    ensures first { FindsInterface interfaces.now place types.old item.now result }
+    requires { IsLent item.now resolved.now.interfaces.files (scope_item item.now) }
+    ensures adds { IfOk result (AddsAt resolved.now.interfaces place growing.old growing.new (scope_item item.now)) }
+    ensures inside { growing.new.inside ≡ growing.old.inside }
+    ensures first { FindsInterface resolved.now.interfaces place growing.old.types item.now result }
 {
-    let alloc = *interfaces.by_name.allocator();
+    let alloc = *resolved.interfaces.by_name.allocator();
     let id = declared_name(&item.declared);
     let name = called_name(alloc, &item.declared)?;
     let owner = TypeOwner::Interface(place);
-    let mut head = resolve_head(alloc, item, types, interfaces, owner)?;
-    let functions = functions_of(alloc, item, types, &mut head.names)?;
-    let interface = interface_with(name, head, functions, id.span, required)?;
-    Ok(interface)
+    let mut head = resolve_head(alloc, item, &mut growing.types, &resolved.interfaces, owner)?;
+    let functions = functions_of(alloc, item, &mut growing.types, &mut head.names)?;
+    interface_with(name, head, functions, id.span, &mut growing.required)
 }

@@ -6,6 +6,7 @@ pub mod contents;
 pub mod declared;
 pub mod interface;
 pub mod items;
+pub mod making;
 pub mod sides;
 pub mod walk;
 pub mod world;

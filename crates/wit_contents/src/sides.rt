@@ -4,7 +4,8 @@ ghost use Rattle.std.specs.List.{list_all};
 ghost use Rattle.wit_contents.specs.Walk.{AddsSidesOf, IsWalk, puts_nothing, walk_of};
 ghost use Rattle.wit_contents.specs.Worlds.{FindsSides};
 
-use crate::walk::{Growing, Walked, WorldScope, walk_parts};
+use crate::making::Growing;
+use crate::walk::{Walked, WorldScope, walk_parts};
 use wit_items::items::Item;
 use wit_links::inside::{Seen, declared_world};
 use wit_notes::is_same_side;
@@ -86,10 +87,10 @@ pub fn walk_sides<'f, 'a>(
     growing: &mut Growing,
 ) -> ParseResult<Walked>
     requires { IsWalk (walk_of item.now scope.now) }
-    ensures adds { IfOk result (AddsSidesOf item.now scope.now scope.now.interfaces.now growing.old growing.new) }
+    ensures adds { IfOk result (AddsSidesOf item.now scope.now growing.old growing.new) }
     ensures first { FindsSides (walk_of item.now scope.now) growing.old result }
 {
-    let alloc = *scope.interfaces.by_name.allocator();
+    let alloc = *scope.resolved.interfaces.by_name.allocator();
     let turn: &[Id<'_>] = &scope.names.turn;
     let world = declared_world(&item.declared);
     let functions: &[BorrowedFunction<'_, '_>] = &scope.functions;
@@ -98,7 +99,6 @@ pub fn walk_sides<'f, 'a>(
     let members = named_members(alloc, turn, &scope.names.types, imports, exports)?;
     let mut walked = Walked {
         members,
-        required: Vec::new(alloc),
         seen: Seen::none(),
     };
     walk_parts(item, scope, growing, &mut walked)?;

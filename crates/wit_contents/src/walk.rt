@@ -1,8 +1,8 @@
 //! What a world imports and exports, in source order: each is resolved, checked and put on its side.
-ghost use Rattle.std.specs.Prelude.{◌≡◌, ◌+◌, ◌∷◌, [], IfOk, OnOk, false, length, map};
+ghost use Rattle.std.specs.Prelude.{◌≡◌, ◌+◌, ◌∷◌, [], IfOk, OnOk, length, map};
 ghost use Rattle.wit_syntax.specs.Function.{side_function, resource_function};
 ghost use Rattle.wit_syntax.specs.Sides.{extern_items, side_items, SideFunction, SideLink, part_items};
-ghost use Rattle.wit_syntax.specs.Source.{DefinitionPart, is_world, item_name};
+ghost use Rattle.wit_syntax.specs.Source.{DefinitionPart, item_name};
 ghost use Rattle.wit_rules.specs.Signatures.{function_view};
 ghost use Rattle.wit_items.specs.BorrowedItems.{item_view, scope_item};
 ghost use Rattle.wit_world_sides.specs.Members.{path_link};
@@ -11,14 +11,14 @@ ghost use Rattle.wit_contents.specs.Interfaces.{FindsInterface, IsLent};
 ghost use Rattle.wit_contents.specs.Walk.{FindsMembers, AddsItems, IsNext, next_place, stage, walk_of, AddsInside};
 
 use crate::interface::interface_of;
+use crate::making::Growing;
 use std::alloc::AllocError;
-use wit_entries::entries::Entries;
-use wit_entries::scope::Required;
 use wit_item_entries::names::ResolvedNames;
 use wit_items::interfaces::Interfaces;
 use wit_items::items::{InlineInterface, Item, ItemScope};
 use wit_links::inside::{Seen, declared_world, inside_scope};
 use wit_links::links::linked_id;
+use wit_links::resolved::Resolved;
 use wit_maps::TextTable;
 use wit_model::Interface;
 use wit_notes::check_metadata;
@@ -34,31 +34,21 @@ use wit_types::{Arena, InterfaceId, InterfacePlace};
 use wit_world_sides::members::{Members, PathExtern, put_function, put_inline, put_link};
 
 /// What a world is walked over in: its names, which are resolved, the definitions that are written as
-/// results, its functions as they are written, and the interfaces that are resolved. Where it includes
-/// nothing, it is `closed`.
+/// results, its functions as they are written, and what is resolved. Where it includes nothing, it is
+/// `closed`.
 #[derive(Drop)]
 pub struct WorldScope<'f, 'a, 'i, 'n, 'e> {
     pub names: ResolvedNames<'a>,
     pub results: TextTable<&'f Type<'a>>,
     pub functions: Vec<BorrowedFunction<'f, 'a>>,
-    pub interfaces: &'i Interfaces<'f, 'a, 'n, 'e>,
+    pub resolved: &'i Resolved<'f, 'a, 'n, 'e>,
     pub closed: bool,
-}
-
-/// What grows while worlds are resolved, for all of them.
-#[derive(Drop)]
-pub struct Growing {
-    pub types: Entries,
-    /// The interfaces that are written in worlds, in the order in which they are seen.
-    pub inside: Arena<Interface, InterfacePlace>,
 }
 
 /// What is on the sides of a world so far.
 #[derive(Drop)]
 pub struct Walked {
     pub members: Members,
-    /// What its handles require of types of other packages.
-    pub required: Vec<Required>,
     /// How many functions and interfaces there are.
     pub seen: Seen,
 }
@@ -76,23 +66,20 @@ fn next_inside(
     }
 }
 
-/// Adds an inline interface; `inside` are those before it, which come after all declared ones.
+/// Adds an inline interface, after those before it, which come after all declared ones.
 fn resolve_inline<'f, 'a>(
     scope: &ItemScope<'f, 'a, '_>,
-    types: &mut Entries,
-    required: &mut Vec<Required>,
-    interfaces: &Interfaces<'f, 'a, '_, '_>,
-    inside: &mut Arena<Interface, InterfacePlace>,
+    growing: &mut Growing,
+    resolved: &Resolved<'f, 'a, '_, '_>,
 ) -> ParseResult<InterfaceId>
-    requires sort { is_world (scope_item scope.now) ≡ false }
-    requires lent { IsLent scope.now interfaces.now.files (scope_item scope.now) }
-    ensures id { IfOk result (λ id. id ≡ next_place interfaces.now inside.old) }
-    ensures adds { OnOk result (AddsInside interfaces.now types.old types.new inside.old inside.new required.old.items required.new.items (scope_item scope.now)) }
-    ensures first { FindsInterface interfaces.now (next_place interfaces.now inside.old) types.old scope.now result }
+    requires { IsLent scope.now resolved.now.interfaces.files (scope_item scope.now) }
+    ensures id { IfOk result (λ id. id ≡ next_place resolved.now.interfaces growing.old.inside) }
+    ensures adds { OnOk result (AddsInside resolved.now.interfaces growing.old growing.new (scope_item scope.now)) }
+    ensures first { FindsInterface resolved.now.interfaces (next_place resolved.now.interfaces growing.old.inside) growing.old.types scope.now result }
 {
-    let id = next_inside(interfaces, inside)?;
-    let interface = interface_of(scope, types, required, interfaces, id)?;
-    inside.alloc(interface)?;
+    let id = next_inside(&resolved.interfaces, &growing.inside)?;
+    let interface = interface_of(scope, growing, resolved, id)?;
+    growing.inside.add(interface)?;
     Ok(id)
 }
 
@@ -110,7 +97,7 @@ fn walk_function<'f, 'a>(
     ensures adds { OnOk result (AddsItems item.now walk.now (SideFunction (function_view borrowed.entry) ∷ []) growing.old walked.old growing.new walked.new) }
     ensures first { FindsMembers (walk_of item.now walk.now) (SideFunction (function_view borrowed.entry) ∷ []) (stage growing.old walked.old) result }
 {
-    let alloc = *walk.interfaces.by_name.allocator();
+    let alloc = *walk.resolved.interfaces.by_name.allocator();
     let place = walked.seen.functions;
     let scope = FunctionScope {
         names: &walk.names.types,
@@ -121,7 +108,7 @@ fn walk_function<'f, 'a>(
         alloc,
         scope,
         &mut growing.types,
-        &mut walked.required,
+        &mut growing.required,
         place,
     )?;
     put_function(&mut walked.members, borrowed, function)?;
@@ -143,9 +130,9 @@ fn walk_link<'f, 'a>(
     ensures adds { OnOk result ((g : _) → AddsItems item.now walk.now (SideLink (path_link link.entry) ∷ []) g walked.old g walked.new) }
     ensures first { (g : _) → FindsMembers (walk_of item.now walk.now) (SideLink (path_link link.entry) ∷ []) (stage g walked.old) result }
 {
-    let alloc = *walk.interfaces.by_name.allocator();
+    let alloc = *walk.resolved.interfaces.by_name.allocator();
     check_metadata(alloc, &link.written.attributes)?;
-    let id = linked_id(alloc, walk.interfaces, item.place, link.path)?;
+    let id = linked_id(alloc, &walk.resolved.interfaces, item.place, link.path)?;
     put_link(alloc, &mut walked.members, link, id)?;
     let seen = walked.seen.with_interface(link.written.side, 0)?;
     walked.seen = seen;
@@ -169,17 +156,11 @@ fn walk_inline<'f, 'a>(
     ensures adds { OnOk result (AddsItems item.now walk.now (inline_side inline.entry ∷ []) growing.old walked.old growing.new walked.new) }
     ensures first { FindsMembers (walk_of item.now walk.now) (inline_side inline.entry ∷ []) (stage growing.old walked.old) result }
 {
-    let alloc = *walk.interfaces.by_name.allocator();
+    let alloc = *walk.resolved.interfaces.by_name.allocator();
     let side = inline.written.side;
     let counts = walked.seen.on(side);
     let scope = inside_scope(item, inline, counts.inline);
-    let id = resolve_inline(
-        &scope,
-        &mut growing.types,
-        &mut walked.required,
-        walk.interfaces,
-        &mut growing.inside,
-    )?;
+    let id = resolve_inline(&scope, growing, walk.resolved)?;
     check_metadata(alloc, &inline.written.attributes)?;
     put_inline(alloc, &mut walked.members, inline.written, inline.name, id)?;
     let seen = walked.seen.with_interface(side, 1)?;

@@ -3,7 +3,7 @@ use Rattle.std.proofs.Common.{List, Option, Some, [], ap, ap₂, arith, length, 
 use Rattle.wit_items.proofs.Common.{Address, length-append, AreFound, AreIncludes, Fault, ForeignNamed, GivesPlaces, Include, InlineAt, Interface, InterfaceNamed, IsPlaced, Names, PackageFile, ResolvedScope, Source as BorrowedSource, Span, Stability, TheWorld, TopName, WorldInclude, WorldNamed, append-nil, first_in, flat_map, flat_map-append, found_resolved_scope, in-parts, include_in, interfaces_at, interfaces_differ, item_in, leads, length-map, map-append, option_map, package_of, part_includes, path_id, place_at-found, position-Some, prefix_of, renamed, resolved_scopes, same_address, same_address-equal, scope_place, slice_get, slice_get-get_or, slice_get-map, source_place, source_target, stability_of, take_next, target_scope, top_at, world_part}
 use Rattle.wit_links.specs.Links.{interface_place, included_fault, includes_fault}
 use Rattle.wit_syntax.proofs.Common.{World as Written, WorldItem}
-use Rattle.wit_links.specs.declared.worlds.Worlds.{Worlds}
+use Rattle.wit_links.specs.declared.resolved.Resolved.{Resolved}
 use Rattle.wit_scopes.specs.declared.scope_name.Source.TheVariants as borrowed_source
 use Rattle.wit_tree.specs.declared.tree.WorldItem.TheVariants as world_item
 use Rattle.wit_model.specs.declared.world.IncludeName.{IncludeName}
@@ -82,8 +82,8 @@ includes_are worlds top w is are = are
 
 -- The first fault of includes, by the parts of a world.
 -- of a part of a world: the fault of the include that it may be
-abbrev pub part_fault : Worlds → List TopName → WorldItem → Option Fault
+abbrev pub part_fault : Resolved → List TopName → WorldItem → Option Fault
 part_fault ws top x = first_in (included_fault ws top) (part_includes (world_part x))
 
-pub parts_fault : (ws : Worlds) (place : ℕ) (w : Written) → first_in (part_fault ws (top_at ws.interfaces.now.files place)) w.items.items ≡ includes_fault ws (item_in ws.interfaces.now.files place (TheWorld w))
-parts_fault ws place w = sym (in-parts (included_fault ws (top_at ws.interfaces.now.files place)) part_includes world_part w.items.items)
+pub parts_fault : (ws : Resolved) (place : ℕ) (w : Written) → first_in (part_fault ws (top_at ws.interfaces.files place)) w.items.items ≡ includes_fault ws (item_in ws.interfaces.files place (TheWorld w))
+parts_fault ws place w = sym (in-parts (included_fault ws (top_at ws.interfaces.files place)) part_includes world_part w.items.items)

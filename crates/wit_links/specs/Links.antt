@@ -1,11 +1,13 @@
 -- Where includes and the paths of a world lead, once all interfaces are resolved, and their first fault: E30 to E34 and E11; and how many are on its sides.
 use Rattle.std.specs.Prelude.{if◌then◌else◌, List, Option, None, Some, is_none, ◌≡◌, ℕ, false, true, length}
-use Rattle.wit_arena.specs.Common.{Address, Exported, Fault, ForeignNamed, Imported, Include, InterfaceNamed, Item, Names, PackageFile, SideInline, SideItem, TheInline, TopName, UsePath, WorldSide, env_of, filter, flat_map, includes, interface_there, is_interface, is_world_at, item_function, item_inline, item_side, items_on, leads, option_or, path_id, path_scope, place_at, worlds_at}
+use Rattle.wit_arena.specs.Common.{Address, Exported, Fault, ForeignNamed, Imported, Include, InterfaceNamed, Item, Names, PackageFile, SideInline, SideItem, TheInline, TopName, UsePath, WorldInclude, WorldSide, env_of, filter, flat_map, includes, interface_there, is_interface, is_world_at, item_function, item_inline, item_side, items_on, leads, option_or, path_id, path_scope, place_at, worlds_at}
+use Rattle.wit_arena.specs.Made.{include_in, scope_place}
+use Rattle.wit_arena.specs.Resolving.{GivesPlaces}
 use Rattle.wit_first.specs.AttributeFaults.{stability_fault}
 use Rattle.wit_first.specs.First.{first_in}
 use Rattle.wit_items.specs.ItemPaths.{world_at}
 use Rattle.wit_items.specs.BorrowedItems.{others_of}
-use Rattle.wit_links.specs.declared.worlds.Worlds.{Worlds}
+use Rattle.wit_links.specs.declared.resolved.Resolved.{Resolved}
 use Rattle.wit_first.specs.UseFaults.{path_fault}
 use Rattle.wit_items.specs.ItemPaths.{prefix_of}
 use Rattle.wit_items.specs.ResolvedInterfaces.{unresolved_fault}
@@ -14,16 +16,20 @@ use Rattle.wit_links.specs.declared.inside.Counts.{Counts}
 use Rattle.wit_links.specs.declared.inside.Seen.{Seen}
 
 -- the addresses of the worlds that are resolved
-abbrev pub addresses_of : Worlds → List Address
-addresses_of ws = worlds_at (others_of ws.interfaces.now.files) ws.arena
+abbrev pub addresses_of : Resolved → List Address
+addresses_of r = worlds_at (others_of r.interfaces.files) r.worlds
+
+-- an include, wherever the worlds have their places
+abbrev pub IsInclude : Resolved → List TopName → Include → WorldInclude → Type 0
+IsInclude r top n i = (ws : List Address) → GivesPlaces (scope_place ws) (addresses_of r) → i ≡ include_in ws top n
 
 -- the first fault of an include: its attributes, and then that its path leads to no world that is resolved
-abbrev pub included_fault : Worlds → List TopName → Include → Option Fault
-included_fault ws top n = option_or (stability_fault n.attributes.items) (if is_none (world_at ws.interfaces.now.files ws.by_name (leads top n.from)) then Some (interface_there (path_id n.from)) else None)
+abbrev pub included_fault : Resolved → List TopName → Include → Option Fault
+included_fault r top n = option_or (stability_fault n.attributes.items) (if is_none (world_at r.interfaces.files r.world_names (leads top n.from)) then Some (interface_there (path_id n.from)) else None)
 
 -- of the includes of an item
-abbrev pub includes_fault : Worlds → Item → Option Fault
-includes_fault ws i = first_in (included_fault ws i.top) (includes i)
+abbrev pub includes_fault : Resolved → Item → Option Fault
+includes_fault r i = first_in (included_fault r i.top) (includes i)
 
 -- The place of the interface at an address: of a declared one that of its name, of another package's where it comes before the arena.
 abbrev pub interface_place : List Address → Names → Address → Option ℕ

@@ -4,13 +4,12 @@ ghost use Rattle.std.specs.Option.{option_copied};
 ghost use Rattle.wit_syntax.specs.Source.{leads, TheWorld, IncludePart, about};
 ghost use Rattle.wit_first.specs.First.{Finds};
 ghost use Rattle.wit_arena.specs.Whole.{renamed};
-ghost use Rattle.wit_arena.specs.Made.{include_in, scope_place};
-ghost use Rattle.wit_arena.specs.Resolving.{AreIncludes, GivesPlaces};
+ghost use Rattle.wit_arena.specs.Resolving.{AreIncludes};
 ghost use Rattle.wit_files.specs.FileNames.{top_at};
 ghost use Rattle.wit_items.specs.ItemPaths.{HasItem, world_at, world_entry, item_in, HasAmong};
-ghost use Rattle.wit_links.specs.Links.{addresses_of, included_fault, includes_fault};
+ghost use Rattle.wit_links.specs.Links.{IsInclude, addresses_of, included_fault, includes_fault};
 
-use crate::worlds::Worlds;
+use crate::resolved::Resolved;
 use std::alloc::{AllocError, Global};
 use wit_items::resolved_path::entry_of;
 use wit_model::{AstItem as Entry, IncludeName, WorldInclude};
@@ -58,19 +57,19 @@ fn world_of(entry: Option<&Entry>) -> Option<WorldId>
 
 /// The world that a path in the file at a place leads to; none where that is no world.
 fn included_world<'f, 'a>(
-    worlds: &Worlds<'f, 'a, '_, '_, '_>,
+    resolved: &Resolved<'f, 'a, '_, '_>,
     place: usize,
     path: &'f UsePath<'a>,
 ) -> Option<WorldId>
-    requires within { place < length worlds.now.interfaces.now.files }
-    ensures { result ≡ world_at worlds.now.interfaces.now.files worlds.now.by_name (leads (top_at worlds.now.interfaces.now.files place) path.now) }
+    requires within { place < length resolved.now.interfaces.files }
+    ensures { result ≡ world_at resolved.now.interfaces.files resolved.now.world_names (leads (top_at resolved.now.interfaces.files place) path.now) }
 {
-    match worlds.interfaces.files.target(place, path) {
-        Target::Local(id) => match worlds.by_name.get(id.name) {
+    match resolved.interfaces.files.target(place, path) {
+        Target::Local(id) => match resolved.world_names.get(id.name) {
             Some(id) => Some(*id),
             None => None,
         },
-        Target::Foreign { .. } => world_of(entry_of(&worlds.interfaces.files, place, path)),
+        Target::Foreign { .. } => world_of(entry_of(&resolved.interfaces.files, place, path)),
     }
 }
 
@@ -78,17 +77,17 @@ fn included_world<'f, 'a>(
 /// include of an interface.
 fn resolve_include<'f, 'a>(
     alloc: Global,
-    worlds: &Worlds<'f, 'a, '_, '_, '_>,
+    resolved: &Resolved<'f, 'a, '_, '_>,
     place: usize,
     include: &'f tree::Include<'a>,
 ) -> ParseResult<WorldInclude>
-    requires part { HasAmong worlds.now.interfaces.now.files place (λ d. (about d).parts) (IncludePart include.now) }
-    ensures is { IfOk result (λ i. (w : _) → GivesPlaces (scope_place w) (addresses_of worlds.now) → i ≡ include_in w (top_at worlds.now.interfaces.now.files place) include.now) }
-    ensures first { Finds (included_fault worlds.now (top_at worlds.now.interfaces.now.files place) include.now) result }
+    requires part { HasAmong resolved.now.interfaces.files place (λ d. (about d).parts) (IncludePart include.now) }
+    ensures is { IfOk result (IsInclude resolved.now (top_at resolved.now.interfaces.files place) include.now) }
+    ensures first { Finds (included_fault resolved.now (top_at resolved.now.interfaces.files place) include.now) result }
 {
     check_stability(alloc, &include.attributes)?;
     let path = path_id(&include.from);
-    let id = match included_world(worlds, place, &include.from) {
+    let id = match included_world(resolved, place, &include.from) {
         Some(id) => id,
         None => return Err(refuse_in(11, path.span, not_a_world(alloc, path.name))),
     };
@@ -116,18 +115,18 @@ fn include_count(world: &tree::World<'_>) -> usize {
 /// The includes of a declared world.
 pub fn resolve_includes<'f, 'a>(
     alloc: Global,
-    worlds: &Worlds<'f, 'a, '_, '_, '_>,
+    resolved: &Resolved<'f, 'a, '_, '_>,
     world: &'f tree::World<'a>,
     place: usize,
 ) -> ParseResult<Row<WorldInclude>>
-    requires item { HasItem worlds.now.interfaces.now.files place (TheWorld world.now) }
-    ensures are { IfOk result (AreIncludes (addresses_of worlds.now) (item_in worlds.now.interfaces.now.files place (TheWorld world.now))) }
-    ensures first { Finds (includes_fault worlds.now (item_in worlds.now.interfaces.now.files place (TheWorld world.now))) result }
+    requires item { HasItem resolved.now.interfaces.files place (TheWorld world.now) }
+    ensures are { IfOk result (AreIncludes (addresses_of resolved.now) (item_in resolved.now.interfaces.files place (TheWorld world.now))) }
+    ensures first { Finds (includes_fault resolved.now (item_in resolved.now.interfaces.files place (TheWorld world.now))) result }
 {
     let mut includes = Vec::with_capacity(alloc, include_count(world))?;
     for part in world_items(world) {
         if let tree::WorldItem::Include(include) = part {
-            let include = resolve_include(alloc, worlds, place, include)?;
+            let include = resolve_include(alloc, resolved, place, include)?;
             includes.push(include)?;
         }
     }

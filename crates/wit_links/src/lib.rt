@@ -4,4 +4,4 @@
 pub mod includes;
 pub mod inside;
 pub mod links;
-pub mod worlds;
+pub mod resolved;

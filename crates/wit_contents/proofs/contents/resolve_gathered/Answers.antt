@@ -1,11 +1,11 @@
-use Rattle.std.proofs.Common.{List, ◌∙◌, inl, inr, sym}
+use Rattle.std.proofs.Common.{List, inl, inr, sym}
 use Rattle.wit_contents.proofs.Names.{PackageFile, err_from_is_err_and, finds_same}
 use Rattle.wit_files.proofs.Gathering.{names_agree}
 use Rattle.wit_contents.proofs.FileFaults.{names_first, names_none}
 use Rattle.wit_contents.proofs.contents.resolve_gathered.Goals as goal
 
 pub resolve_named-requires : goal.resolve_named-requires
-resolve_named-requires c = record { empty = c.reserve.ensures ∙ c.requires.empty; gathered = c.in_ok-names.ensures.files; unbroken = rw c.in_ok-names.ensures.files ((names_agree c.args.files.now).unbroken c.in_ok-names.ensures.first) }
+resolve_named-requires c = record { gathered = c.in_ok-names.ensures.files; unbroken = rw c.in_ok-names.ensures.files ((names_agree c.args.files.now).unbroken c.in_ok-names.ensures.first) }
 
 pub returns-in_err-names-clause-first : goal.returns-in_err-names-clause-first
 returns-in_err-names-clause-first c =

@@ -1,13 +1,12 @@
-use Rattle.std.proofs.Common.{length, map, ap, ◌∙◌, inl}
-use Rattle.wit_contents.proofs.Names.{IfOk-at_ok, err_from_is_err_and, found_none, item_view, prefix_of, Interface}
+use Rattle.std.proofs.Common.{map, ap, ◌∙◌, inl}
+use Rattle.wit_contents.proofs.Names.{IfOk-at_ok, err_from_is_err_and, item_view}
 use Rattle.wit_foreign.specs.Growing.{AreDepsOf, AreDepSpansOf}
-use Rattle.wit_front.specs.ForeignPrefix.{IsPrefix}
-use Rattle.wit_contents.proofs.Files.{interfaces_enough, prefix_entries, prefix_started, prefix_used}
+use Rattle.wit_contents.proofs.Files.{prefix_entries, prefix_started, prefix_used}
 use Rattle.wit_contents.proofs.FileFaults.{memory_found, uses_reported}
 use Rattle.wit_contents.proofs.contents.resolve_named.Goals as goal
 
 pub of-gathered-requires : goal.of-gathered-requires
-of-gathered-requires c = rw c.deref.ensures.value (prefix_entries c.args.names.now c.foreign.result.now c.args.types.now c.in_ok-prefix.prefix c.foreign.ensures c.requires.empty c.in_ok-prefix.ensures)
+of-gathered-requires c = rw c.deref.ensures.value (prefix_entries c.args.names.now _ _ _ c.foreign.ensures (c.reserve.ensures ∙ c.new-types.ensures) c.in_ok-prefix.ensures)
 
 pub declared_items-requires : goal.declared_items-requires
 declared_items-requires c = record { files = c.of-gathered.ensures ∙ c.requires.gathered }
@@ -15,45 +14,43 @@ declared_items-requires c = record { files = c.of-gathered.ensures ∙ c.require
 pub of-named-requires : goal.of-named-requires
 of-named-requires c =
     let e = rw c.of-gathered.ensures at c.in_ok-items.ensures in
-    let prefix : IsPrefix c.args.names.now c.add_used_by_items.new.types c.add_used_by_items.new.arenas = prefix_used c.args.names.now c.foreign.result.now c.args.types.now c.in_ok-prefix.prefix c.foreign.ensures c.requires.empty c.in_ok-prefix.ensures c.in_ok-items.items.items c.deref_mut-lent.result.now c.deref_mut-lent.ensures.value e.each c.add_used_by_items.new.types c.add_used_by_items.new.arenas e.items c.in_ok-add_used_by_items.ensures in
+    let prefix = prefix_used c.args.names.now _ _ _ c.foreign.ensures (c.reserve.ensures ∙ c.new-types.ensures) c.in_ok-prefix.ensures _ _ c.deref_mut-lent.ensures.value e.each _ _ e.items c.in_ok-add_used_by_items.ensures in
     rw c.deref-2.ensures.value prefix.entries
 
 pub add_used_by_items-requires : goal.add_used_by_items-requires
 add_used_by_items-requires c =
     let e = rw c.of-gathered.ensures at c.in_ok-items.ensures in
-    prefix_started c.args.names.now c.foreign.result.now c.args.types.now c.in_ok-prefix.prefix c.foreign.ensures c.requires.empty c.in_ok-prefix.ensures c.in_ok-items.items.items c.deref_mut-lent.result.now c.deref_mut-lent.ensures.value e.each
+    prefix_started c.args.names.now _ _ _ c.foreign.ensures (c.reserve.ensures ∙ c.new-types.ensures) c.in_ok-prefix.ensures _ _ c.deref_mut-lent.ensures.value e.each
+
+pub begun-making-requires-clause-foreign : goal.begun-making-requires-clause-foreign
+begun-making-requires-clause-foreign c =
+    let e = rw c.of-gathered.ensures at c.in_ok-items.ensures in
+    let prefix = prefix_used c.args.names.now _ _ _ c.foreign.ensures (c.reserve.ensures ∙ c.new-types.ensures) c.in_ok-prefix.ensures _ _ c.deref_mut-lent.ensures.value e.each _ _ e.items c.in_ok-add_used_by_items.ensures in
+    rw (c.of-named.ensures, c.make_room.ensures.worlds) prefix.adds
+
+pub begun-making-requires-clause-bare : goal.begun-making-requires-clause-bare
+begun-making-requires-clause-bare c = record { inside = c.make_room.ensures.inside ∙ c.new-inside.ensures; required = c.new-required.ensures.items }
 
 pub resolve_items-requires-clause-ready : goal.resolve_items-requires-clause-ready
 resolve_items-requires-clause-ready c =
     let e = rw c.of-gathered.ensures at c.in_ok-items.ensures in
-    let prefix : IsPrefix c.args.names.now c.add_used_by_items.new.types c.add_used_by_items.new.arenas = prefix_used c.args.names.now c.foreign.result.now c.args.types.now c.in_ok-prefix.prefix c.foreign.ensures c.requires.empty c.in_ok-prefix.ensures c.in_ok-items.items.items c.deref_mut-lent.result.now c.deref_mut-lent.ensures.value e.each c.add_used_by_items.new.types c.add_used_by_items.new.arenas e.items c.in_ok-add_used_by_items.ensures in
-    rw c.of-named.ensures (record {
+    rw (c.begun-making.ensures.files, c.of-named.ensures) (record {
       order = c.item_order-order.ensures;
       unbroken = c.requires.unbroken;
       uses = e.first;
       all = ap (map item_view) c.deref_mut-lent.ensures.value ∙ e.items;
       each = rw c.deref_mut-lent.ensures.value e.each;
-      foreign = prefix.adds;
     })
-
-pub invariant_of-interfaces : goal.invariant_of-interfaces
-invariant_of-interfaces c =
-    let e = rw c.of-gathered.ensures at c.in_ok-items.ensures in
-    let prefix : IsPrefix c.args.names.now c.add_used_by_items.new.types c.add_used_by_items.new.arenas = prefix_used c.args.names.now c.foreign.result.now c.args.types.now c.in_ok-prefix.prefix c.foreign.ensures c.requires.empty c.in_ok-prefix.ensures c.in_ok-items.items.items c.deref_mut-lent.result.now c.deref_mut-lent.ensures.value e.each c.add_used_by_items.new.types c.add_used_by_items.new.arenas e.items c.in_ok-add_used_by_items.ensures in
-    record {
-      prefix = rw c.of-named.ensures (interfaces_enough _ _ _ _ prefix.adds);
-      found = found_none (λ (i : Interface). i.name) (length (prefix_of c.of-named.result)) c.add_used_by_items.new.arenas.interfaces c.new.result c.new.ensures;
-    }
 
 pub returns-clause-made : goal.returns-clause-made
 returns-clause-made c =
     let e = rw c.of-gathered.ensures at c.in_ok-items.ensures in
-    let prefix : IsPrefix c.args.names.now c.add_used_by_items.new.types c.add_used_by_items.new.arenas = prefix_used c.args.names.now c.foreign.result.now c.args.types.now c.in_ok-prefix.prefix c.foreign.ensures c.requires.empty c.in_ok-prefix.ensures c.in_ok-items.items.items c.deref_mut-lent.result.now c.deref_mut-lent.ensures.value e.each c.add_used_by_items.new.types c.add_used_by_items.new.arenas e.items c.in_ok-add_used_by_items.ensures in
-    let parts = c.in_ok-all.ensures in
-    let deps = IfOk-at_ok (λ found. AreDepsOf c.foreign_visits.result.now found.0) parts.deps c.foreign_deps-named.ensures.deps in
-    let spans = IfOk-at_ok (λ found. AreDepSpansOf c.foreign_visits.result.now found.1) parts.deps c.foreign_deps-named.ensures.spans in
-    let made = rw c.of-named.ensures at c.in_ok-made.ensures.made in
-    rw (parts.interfaces, parts.worlds) (made c.in_ok-all.all.foreign (record {
+    let prefix = prefix_used c.args.names.now _ _ _ c.foreign.ensures (c.reserve.ensures ∙ c.new-types.ensures) c.in_ok-prefix.ensures _ _ c.deref_mut-lent.ensures.value e.each _ _ e.items c.in_ok-add_used_by_items.ensures in
+    let parts = c.in_ok-contents.ensures in
+    let deps = IfOk-at_ok (λ found. AreDepsOf c.foreign_visits.result.now found.0) parts.deps c.foreign_deps-deps.ensures.deps in
+    let spans = IfOk-at_ok (λ found. AreDepSpansOf c.foreign_visits.result.now found.1) parts.deps c.foreign_deps-deps.ensures.spans in
+    let made = rw (c.begun-making.ensures.files, c.of-named.ensures) at c.in_ok-resolve_items.ensures.made in
+    rw parts.is (made c.in_ok-contents.contents.foreign (record {
       deps = deps c.args.names.now c.foreign_visits.ensures;
       spans = spans c.args.names.now c.foreign_visits.ensures;
       unknown = parts.unknown ∙ prefix.spans;
@@ -61,7 +58,7 @@ returns-clause-made c =
     }))
 
 pub returns-in_err-prefix-clause-first : goal.returns-in_err-prefix-clause-first
-returns-in_err-prefix-clause-first c = λ known is. memory_found _ c.from_residual.result c.from_residual.ensures.1
+returns-in_err-prefix-clause-first c = λ known is. memory_found _ c.from_residual-in_err-prefix.result c.from_residual-in_err-prefix.ensures.1
 
 pub returns-in_err-items-clause-first : goal.returns-in_err-items-clause-first
 returns-in_err-items-clause-first c =
@@ -72,15 +69,21 @@ returns-in_err-items-clause-first c =
 pub returns-in_err-add_used_by_items-clause-first : goal.returns-in_err-add_used_by_items-clause-first
 returns-in_err-add_used_by_items-clause-first c = λ known is. memory_found _ c.from_residual-in_err-add_used_by_items.result c.from_residual-in_err-add_used_by_items.ensures.1
 
-pub returns-in_err-made-clause-first : goal.returns-in_err-made-clause-first
-returns-in_err-made-clause-first c =
-    let p = err_from_is_err_and c.from_residual-in_err-made.result c.from_residual-in_err-made.ensures.1 in
-    rw (p.1, p.2) (rw c.of-named.ensures at c.in_err-made.ensures.first)
+pub returns-in_err-resolve_items-clause-first : goal.returns-in_err-resolve_items-clause-first
+returns-in_err-resolve_items-clause-first c =
+    let p = err_from_is_err_and c.from_residual-in_err-resolve_items.result c.from_residual-in_err-resolve_items.ensures.1 in
+    rw (p.1, p.2) (rw (c.begun-making.ensures.files, c.of-named.ensures) at c.in_err-resolve_items.ensures.first)
 
 pub returns-clause-first : goal.returns-clause-first
-returns-clause-first c = rw c.of-named.ensures at c.in_ok-made.ensures.first
+returns-clause-first c = rw (c.begun-making.ensures.files, c.of-named.ensures) at c.in_ok-resolve_items.ensures.first
 
-pub returns-in_err-all-clause-first : goal.returns-in_err-all-clause-first
-returns-in_err-all-clause-first c =
-    let p = err_from_is_err_and c.from_residual-in_err-all.result c.from_residual-in_err-all.ensures.1 in
-    rw (p.1, p.2) (λ known is. inl c.in_err-all.ensures.refused)
+pub returns-in_err-contents-clause-first : goal.returns-in_err-contents-clause-first
+returns-in_err-contents-clause-first c =
+    let p = err_from_is_err_and c.from_residual-in_err-contents.result c.from_residual-in_err-contents.ensures.1 in
+    rw (p.1, p.2) (λ known is. inl c.in_err-contents.ensures.refused)
+
+pub returns-in_err-reserve-clause-first : goal.returns-in_err-reserve-clause-first
+returns-in_err-reserve-clause-first c = λ known is. memory_found _ c.from_residual.result c.from_residual.ensures.1
+
+pub returns-in_err-make_room-clause-first : goal.returns-in_err-make_room-clause-first
+returns-in_err-make_room-clause-first c = λ known is. memory_found _ c.from_residual-in_err-make_room.result c.from_residual-in_err-make_room.ensures.1

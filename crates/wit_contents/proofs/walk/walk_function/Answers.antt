@@ -1,10 +1,9 @@
-use Rattle.std.proofs.Common.{sym, ◌∙◌}
-use Rattle.wit_contents.proofs.Names.{env_of, err_from_is_err_and, none_both, reports_back, reports_prefix, reports_same, scope_names, stage, walk_of, item_view}
+use Rattle.wit_contents.proofs.Names.{err_from_is_err_and, none_both, reports_back, reports_prefix, stage, walk_of}
 use Rattle.wit_item_entries.proofs.ReachedFaults.{done, failed}
 use Rattle.wit_rules.specs.Signatures.{function_view}
 use Rattle.wit_externs.proofs.DoneFunctions.{same_name}
 use Rattle.wit_contents.proofs.FileFaults.{memory_found}
-use Rattle.wit_contents.proofs.MemberFaults.{function_ends, function_found, function_is, function_next, function_owners, function_scoped, function_within}
+use Rattle.wit_contents.proofs.MemberFaults.{function_found, function_next, function_owners, function_scoped, function_within}
 use Rattle.wit_contents.proofs.Members.{member_function}
 use Rattle.wit_contents.proofs.walk.walk_function.Goals as goal
 
@@ -26,32 +25,25 @@ pub returns-clause-adds : goal.returns-clause-adds
 returns-clause-adds c = λ n.
     let there = function_next n in
     let says = rw c.deref.ensures.value at c.in_ok-function.ensures in
-    member_function (walk_of c.args.item.now c.args.walk.now) n.prefix (stage c.args.growing.now c.args.walked.now) (function_view c.args.borrowed) c.in_ok-function.function c.resolve_function.new.types _ (says.adds.adds _ there) (says.adds.handled _ there) says.finds.extended (c.in_ok-put_function.ensures.puts n.keyed) (λ ys seen. c.in_ok-seen.ensures ys _ seen)
+    member_function (walk_of c.args.item.now c.args.walk.now) n.prefix (stage c.args.growing.now c.args.walked.now) (function_view c.args.borrowed) c.in_ok-function.function c.resolve_function.new.types c.resolve_function.new.required _ (says.adds.adds _ there) (says.adds.handled _ there) says.finds.extended (c.in_ok-put_function.ensures.puts n.keyed) (λ ys seen. c.in_ok-seen.ensures ys _ seen)
 
 pub returns-in_err-function-clause-first : goal.returns-in_err-function-clause-first
 returns-in_err-function-clause-first c =
     let p = err_from_is_err_and c.from_residual.result c.from_residual.ensures.1 in
-    let w = walk_of c.args.item.now c.args.walk.now in
     let e = rw c.deref.ensures.value at c.in_err-function.ensures in
-    rw (p.1, p.2) (λ n. function_found (failed _) w (function_view c.args.borrowed) (stage c.args.growing.now c.args.walked.now) n (λ handle from.
-    reports_prefix _ (reports_same (function_is n c.resolve_function.new.types handle (function_ends (env_of w.scope.names.types) c.args.growing.now.types c.resolve_function.new.types handle from e.finds.extended)) (e.finds.first (scope_names (item_view w.item)) (record { names = function_scoped n; results = n.walk.results }) _ (function_next n)))))
+    rw (p.1, p.2) (λ n. function_found n (failed _) (failed _) c.args.growing.now c.resolve_function.new.types e.finds.extended (e.finds.first _ (record { names = function_scoped n; results = n.walk.results }) _ (function_next n)) (λ o. reports_prefix _))
 
 pub returns-in_err-put_function-clause-first : goal.returns-in_err-put_function-clause-first
 returns-in_err-put_function-clause-first c =
     let p = err_from_is_err_and c.from_residual-in_err-put_function.result c.from_residual-in_err-put_function.ensures.1 in
-    let w = walk_of c.args.item.now c.args.walk.now in
     let e = rw c.deref.ensures.value at c.in_ok-function.ensures in
-    rw (p.1, p.2) (λ n. function_found (failed _) w (function_view c.args.borrowed) (stage c.args.growing.now c.args.walked.now) n (λ handle from. (
-    let is = function_is n c.resolve_function.new.types handle (function_ends (env_of w.scope.names.types) c.args.growing.now.types c.resolve_function.new.types handle from e.finds.extended) in
-    reports_back (sym is ∙ e.finds.first (scope_names (item_view w.item)) (record { names = function_scoped n; results = n.walk.results }) _ (function_next n)) c.in_err-put_function.ensures.first)))
+    rw (p.1, p.2) (λ n. function_found n (done c.in_ok-function.function) (failed _) c.args.growing.now c.resolve_function.new.types e.finds.extended (e.finds.first _ (record { names = function_scoped n; results = n.walk.results }) _ (function_next n)) (λ o none. reports_back none c.in_err-put_function.ensures.first))
 
 pub returns-in_err-seen-clause-first : goal.returns-in_err-seen-clause-first
 returns-in_err-seen-clause-first c = λ n test right. memory_found _ c.from_residual-in_err-seen.result c.from_residual-in_err-seen.ensures.1
 
 pub returns-clause-first : goal.returns-clause-first
 returns-clause-first c = λ n.
-    let w = walk_of c.args.item.now c.args.walk.now in
     let e = rw c.deref.ensures.value at c.in_ok-function.ensures in
-    function_found (done c.in_ok-function.function) w (function_view c.args.borrowed) (stage c.args.growing.now c.args.walked.now) n (λ handle from. (
-    let is = function_is n c.resolve_function.new.types handle (function_ends (env_of w.scope.names.types) c.args.growing.now.types c.resolve_function.new.types handle from e.finds.extended) in
-    none_both (sym is ∙ e.finds.first (scope_names (item_view w.item)) (record { names = function_scoped n; results = n.walk.results }) _ (function_next n)) c.in_ok-put_function.ensures.first))
+    let f = done c.in_ok-function.function in
+    function_found n f f c.args.growing.now c.resolve_function.new.types e.finds.extended (e.finds.first _ (record { names = function_scoped n; results = n.walk.results }) _ (function_next n)) (λ o none. none_both none c.in_ok-put_function.ensures.first)

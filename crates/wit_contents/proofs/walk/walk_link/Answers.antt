@@ -1,10 +1,10 @@
-use Rattle.std.proofs.Common.{◌≡◌, List, None, Some, length, refl, ap, ◌∙◌}
-use Rattle.wit_contents.proofs.Names.{SideItem, SideLink, declared_view, err_from_is_err_and, filed_item, metadata_fault, path_link, path_scope, prefix_of, side_items, slice_get, stage, walk_of, item_view}
+use Rattle.std.proofs.Common.{◌≡◌, List, Some, length, refl, ap, ◌∙◌}
+use Rattle.wit_contents.proofs.Names.{SideItem, SideLink, declared_view, err_from_is_err_and, filed_item, none_both, path_link, path_scope, prefix_of, side_items, reports_back, reports_prefix, slice_get, stage, walk_of, item_view}
 use Rattle.wit_externs.proofs.Steps.{at_middle}
 use Rattle.wit_item_entries.proofs.ReachedFaults.{done, failed}
 use Rattle.wit_links.proofs.Leading.{called_at}
-use Rattle.wit_contents.proofs.FileFaults.{memory_found, or_found}
-use Rattle.wit_contents.proofs.MemberFaults.{link_leads, link_lost, link_noted, link_put, link_found}
+use Rattle.wit_contents.proofs.FileFaults.{memory_found}
+use Rattle.wit_contents.proofs.MemberFaults.{link_found, link_leads, link_put, link_reached}
 use Rattle.wit_contents.proofs.Members.{member_link}
 use Rattle.wit_contents.proofs.walk.walk_link.Goals as goal
 use Rattle.wit_walk.proofs.MemberFaults.{path_among}
@@ -25,30 +25,32 @@ returns-clause-adds c = λ g n.
     let id = c.in_ok-id.id in
     let leads = link_leads n id c.in_ok-id.ensures.leads in
     let present = called_at (prefix_of is.files) is.arena is.by_name (path_scope (item_view w.item).top link.path) id is.prefix is.found leads.1 in
-    member_link w n.prefix (stage g c.args.walked.now) link id _ leads.1 present refl (c.in_ok-put_link.ensures.puts n.keyed) (λ ys seen. c.in_ok-seen.ensures ys (SideLink link) (refl, refl, refl) seen)
+    member_link w n.prefix (stage g c.args.walked.now) link id _ leads.1 present (c.in_ok-put_link.ensures.puts n.keyed) (λ ys seen. c.in_ok-seen.ensures ys (SideLink link) (refl, refl, refl) seen)
 
 pub returns-in_err-check_metadata-clause-first : goal.returns-in_err-check_metadata-clause-first
 returns-in_err-check_metadata-clause-first c =
     let p = err_from_is_err_and c.from_residual.result c.from_residual.ensures.1 in
     let said = rw c.deref.ensures.value at c.in_err-check_metadata.ensures in
-    rw (p.1, p.2) (λ g n. link_found (failed _) (walk_of c.args.item.now c.args.walk.now) (path_link c.args.link) (stage g c.args.walked.now) n (or_found said (link_noted n _)))
+    rw (p.1, p.2) (λ g n. link_found n (failed _) g (reports_prefix _ said))
 
 pub returns-in_err-id-clause-first : goal.returns-in_err-id-clause-first
 returns-in_err-id-clause-first c =
     let p = err_from_is_err_and c.from_residual-in_err-id.result c.from_residual-in_err-id.ensures.1 in
-    let noted : metadata_fault (path_link c.args.link).attributes ≡ None = rw c.deref.ensures.value at c.in_ok-check_metadata.ensures in
-    rw (p.1, p.2) (λ g n. link_found (failed _) (walk_of c.args.item.now c.args.walk.now) (path_link c.args.link) (stage g c.args.walked.now) n (or_found c.in_err-id.ensures.first (link_lost n _ noted)))
+    let noted = rw c.deref.ensures.value at c.in_ok-check_metadata.ensures in
+    rw (p.1, p.2) (λ g n. link_found n (failed _) g (reports_back noted (reports_prefix _ (link_reached n (failed _) c.in_err-id.ensures.first))))
 
 pub returns-in_err-put_link-clause-first : goal.returns-in_err-put_link-clause-first
 returns-in_err-put_link-clause-first c =
     let p = err_from_is_err_and c.from_residual-in_err-put_link.result c.from_residual-in_err-put_link.ensures.1 in
-    let noted : metadata_fault (path_link c.args.link).attributes ≡ None = rw c.deref.ensures.value at c.in_ok-check_metadata.ensures in
-    rw (p.1, p.2) (λ g n. link_found (failed _) (walk_of c.args.item.now c.args.walk.now) (path_link c.args.link) (stage g c.args.walked.now) n (or_found c.in_err-put_link.ensures.first (link_put n c.in_ok-id.id _ noted c.in_ok-id.ensures.first (link_leads n c.in_ok-id.id c.in_ok-id.ensures.leads).1)))
+    let noted = rw c.deref.ensures.value at c.in_ok-check_metadata.ensures in
+    let id = c.in_ok-id.id in
+    rw (p.1, p.2) (λ g n. link_found n (failed _) g (reports_back noted (reports_back (link_reached n (done id) c.in_ok-id.ensures.first) (link_put n (failed _) id c.in_ok-id.ensures.leads c.in_err-put_link.ensures.first))))
 
 pub returns-in_err-seen-clause-first : goal.returns-in_err-seen-clause-first
 returns-in_err-seen-clause-first c = λ g n test right. memory_found _ c.from_residual-in_err-seen.result c.from_residual-in_err-seen.ensures.1
 
 pub returns-clause-first : goal.returns-clause-first
 returns-clause-first c = λ g n.
-    let noted : metadata_fault (path_link c.args.link).attributes ≡ None = rw c.deref.ensures.value at c.in_ok-check_metadata.ensures in
-    link_found (done c.in_ok-id.id) (walk_of c.args.item.now c.args.walk.now) (path_link c.args.link) (stage g c.args.walked.now) n (link_put n c.in_ok-id.id _ noted c.in_ok-id.ensures.first (link_leads n c.in_ok-id.id c.in_ok-id.ensures.leads).1 c.in_ok-put_link.ensures.first)
+    let noted = rw c.deref.ensures.value at c.in_ok-check_metadata.ensures in
+    let id = c.in_ok-id.id in
+    link_found n (done id) g (none_both noted (none_both (link_reached n (done id) c.in_ok-id.ensures.first) (link_put n (done id) id c.in_ok-id.ensures.leads c.in_ok-put_link.ensures.first)))

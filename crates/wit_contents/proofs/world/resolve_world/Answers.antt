@@ -1,17 +1,17 @@
-use Rattle.std.proofs.Common.{◌≡◌, ◌++◌, ◌∷◌, [], sym, ap, ◌∙◌, subst}
-use Rattle.wit_contents.proofs.Names.{AddsTo, Id, List, World, err_from_is_err_and, finds_memory, item_view, on_ok_weaker}
+use Rattle.std.proofs.Common.{sym, ap, ◌∙◌}
+use Rattle.wit_contents.proofs.Names.{Id, err_from_is_err_and, finds_memory, item_view, on_ok_weaker}
 use Rattle.wit_contents.proofs.world.resolve_world.Goals as goal
 
 pub world_of-requires : goal.world_of-requires
-world_of-requires c = c.requires.item
+world_of-requires c = c.requires
 
 pub add_world-requires : goal.add_world-requires
-add_world-requires c = record { index = c.requires.index; named = c.in_ok-world.ensures.named ∙ ap (λ (id : Id). id.name.now) (sym c.declared_name-id.ensures) }
+add_world-requires c = c.in_ok-world.ensures.named ∙ ap (λ (id : Id). id.name.now) (sym c.declared_name-id.ensures)
 
 pub returns-clause-adds : goal.returns-clause-adds
 returns-clause-adds c =
-    let put : c.add_world.new.worlds.arena ≡ c.args.worlds.now.arena ++ c.in_ok-world.world ∷ [] → AddsTo c.args.worlds.now c.add_world.new.worlds.arena c.args.item.now c.args.resolving.now c.world_of.new.resolving = λ is. subst (λ (arena : List World). AddsTo c.args.worlds.now arena c.args.item.now c.args.resolving.now c.world_of.new.resolving) (sym is) c.in_ok-world.ensures.adds in
-    on_ok_weaker c.add_world.result put c.add_world.ensures.added
+    let added = c.in_ok-world.world in
+    on_ok_weaker c.add_world.result (λ puts. record { added = added; puts = puts; adds = c.in_ok-world.ensures.adds }) c.add_world.ensures.puts
 
 pub returns-in_err-world-clause-first : goal.returns-in_err-world-clause-first
 returns-in_err-world-clause-first c =

@@ -1,12 +1,10 @@
-use Rattle.std.proofs.Common.{◌++◌, Bool, List, length, map, sym, ap, ◌∙◌, subst, inl}
-use Rattle.wit_contents.proofs.Names.{AllDiffer, AreIncludes, Exported, HasItem, Id, Imported, IsTurn, addresses_of, err_from_is_err_and, filed_item, in_turn, includes as written_includes, includes_fault, is_ascii_uppercase, item_view, list_any, local_name, name_view, others_of, reports_same, scope_names}
-use Rattle.wit_contents.specs.declared.walk.Growing.{Growing}
-use Rattle.wit_contents.specs.declared.walk.WorldScope.{WorldScope}
+use Rattle.std.proofs.Common.{◌++◌, Bool, List, refl, map, sym, ap, ◌∙◌, subst}
+use Rattle.wit_contents.proofs.Names.{AllDiffer, AreIncludes, Growing, HasItem, Id, IsTurn, Required, addresses_of, err_from_is_err_and, filed_item, in_turn, includes_fault, is_ascii_uppercase, item_view, list_any, local_name, name_view, reports_same, scope_names}
 use Rattle.wit_arena.proofs.Common.{Item}
 use Rattle.wit_item_entries.proofs.ScopeFunctions.{turn_added}
 use Rattle.wit_item_entries.proofs.ReachedFaults.{done, failed}
 use Rattle.wit_contents.proofs.FileFaults.{memory_found}
-use Rattle.wit_contents.proofs.WorldFaults.{alone_adds, alone_none, content_adds, none_there, walk_there, includes_first, item_here, names_first, world_alone, world_found}
+use Rattle.wit_contents.proofs.WorldFaults.{alone_adds, alone_none, content_adds, none_there, walk_there, includes_first, item_here, names_first, texts_differ, world_alone, world_found}
 use Rattle.wit_contents.proofs.world.world_content.Goals as goal
 
 -- whether a name has a letter in upper case
@@ -18,38 +16,37 @@ world_names-requires c = c.requires.item
 
 pub resolve_includes-requires : goal.resolve_includes-requires
 resolve_includes-requires c =
-    let files = c.args.worlds.now.interfaces.now.files in
+    let files = c.args.resolved.now.interfaces.files in
     record { item = subst (HasItem files c.args.item.now.place) c.declared_world-world.ensures (filed_item files c.args.item.now c.requires.item) }
 
 -- nothing comes after its names
-pub sides_of_names-requires : goal.sides_of_names-requires
-sides_of_names-requires c = record { turn = (scope_names (item_view c.args.item.now), turn_added _ _ _ _ _ _ _ _ c.in_ok-names.ensures.adds) }
+pub named_sides-requires : goal.named_sides-requires
+named_sides-requires c =
+    let turn : IsTurn (scope_names (item_view c.args.item.now)) c.in_ok-names.names.turn.items = turn_added _ _ _ _ _ _ _ _ c.in_ok-names.ensures.adds in
+    record { distinct = subst (λ (l : List Id). AllDiffer (map (λ id. id.name.now) l)) (sym c.deref-then-not-have_upper_case.ensures.value) (texts_differ _ _ turn) }
 
 pub returns-then-not-have_upper_case-clause-adds : goal.returns-then-not-have_upper_case-clause-adds
 returns-then-not-have_upper_case-clause-adds c =
-    let ws = c.args.worlds.now in
-    let is = ws.interfaces.now in
-    let item = item_view c.args.item.now in
-    let names = c.in_ok-names.names in
+    let i = c.args.item.now in
+    let world = c.declared_world-world.result.now in
     let n = c.in_ok-names.ensures.adds in
-    let empty = none_there c.args.item.now c.declared_world-world.result.now c.declared_world-world.ensures (sym c.has_nothing.ensures ∙ c.if-has_nothing.true) in
-    let are = subst (λ (w : Item). AreIncludes (addresses_of c.args.worlds.now) w c.in_ok-includes.includes) (item_here c.args.item.now c.declared_world-world.result.now c.requires.item c.declared_world-world.ensures) c.in_ok-includes.ensures.are in
-    let alone = c.in_ok-sides.ensures in
-    λ world has. record {
-      own = names.required.items;
-      list = alone.required;
-      holds = alone_adds item empty is (others_of is.files) ws.arena c.args.resolving.now.growing.types c.world_names.new.types c.args.resolving.now.growing.inside names.types names.turn.items names.required.items n world _ _ _ has (alone.imports (in_turn (scope_names item) n.adds.order) n.turn) alone.exports are;
-    }
+    let sides = c.in_ok-sides.ensures in
+    let empty = none_there i world c.declared_world-world.ensures (sym c.has_nothing.ensures ∙ c.if-has_nothing.true) in
+    let are = subst (λ (w : Item). AreIncludes (addresses_of c.args.resolved.now) w c.in_ok-includes.includes) (item_here i world c.requires.item c.declared_world-world.ensures) c.in_ok-includes.ensures.are in
+    let mid : Growing = record { types = c.world_names.new.types; inside = c.args.growing.now.inside; required = c.add_required.new.required } in
+    let required = c.in_ok-add_required.ensures ∙ ap (λ (l : List Required). c.args.growing.now.required.items ++ l) c.deref.ensures.value in
+    alone_adds i empty c.args.resolved.now c.args.growing.now mid c.in_ok-names.names n required refl (record { sides = c.in_ok-sides.sides; includes = c.in_ok-includes.includes }) (sides.imports (in_turn (scope_names (item_view i)) n.adds.order) (c.deref-then-not-have_upper_case.ensures.value ∙ n.turn)) sides.exports are
 
 pub returns-then-not-have_upper_case-clause-first : goal.returns-then-not-have_upper_case-clause-first
 returns-then-not-have_upper_case-clause-first c = λ stable wrong right.
     let i = c.args.item.now in
+    let world = c.declared_world-world.result.now in
     let names = c.in_ok-names.names in
-    let n = c.in_ok-names.ensures.adds in
-    let empty = none_there i c.declared_world-world.result.now c.declared_world-world.ensures (sym c.has_nothing.ensures ∙ c.if-has_nothing.true) in
-    let lower = ap has_upper (sym c.deref.ensures.value) ∙ sym c.have_upper_case.ensures ∙ c.if-not-have_upper_case.true in
-    let included = sym (ap (includes_fault c.args.worlds.now) (item_here c.args.item.now c.declared_world-world.result.now c.requires.item c.declared_world-world.ensures)) ∙ c.in_ok-includes.ensures.first in
-    world_alone c.args.worlds.now i c.args.resolving.now.growing wrong right c.requires.item.named stable names c.world_names.new.types n c.in_ok-names.ensures.first included (done names) (alone_none (item_view i) empty names.turn.items (turn_added _ _ _ _ _ _ _ _ n) lower right.member)
+    let e = c.in_ok-names.ensures in
+    let empty = none_there i world c.declared_world-world.ensures (sym c.has_nothing.ensures ∙ c.if-has_nothing.true) in
+    let lower = ap has_upper (sym c.deref-then-has_nothing.ensures.value) ∙ sym c.have_upper_case.ensures ∙ c.if-not-have_upper_case.true in
+    let included = sym (ap (includes_fault c.args.resolved.now) (item_here i world c.requires.item c.declared_world-world.ensures)) ∙ c.in_ok-includes.ensures.first in
+    world_alone c.args.resolved.now i c.args.growing.now wrong right c.requires.item.named stable names c.world_names.new.types e.adds e.first included (done names) (alone_none i empty names.turn.items (turn_added _ _ _ _ _ _ _ _ e.adds) lower right.member)
 
 -- or something may
 pub written_functions-requires : goal.written_functions-requires
@@ -59,82 +56,65 @@ written_functions-requires c =
 
 pub walk_sides-requires : goal.walk_sides-requires
 walk_sides-requires c =
-    let are = subst (λ (w : Item). AreIncludes (addresses_of c.args.worlds.now) w c.in_ok-includes.includes) (item_here c.args.item.now c.declared_world-world.result.now c.requires.item c.declared_world-world.ensures) c.in_ok-includes.ensures.are in
-    let scope : WorldScope = record { names = c.in_ok-names.names; results = c.in_ok-written.written.results; functions = c.in_ok-written.written.functions; interfaces = c.args.worlds.now.interfaces; closed = c.is_closed-closed.result } in
-    let closed = c.is_closed-closed.ensures (written_includes (item_view c.args.item.now)) (ap length c.as_slice.ensures ∙ are.0) in
-    let walks = walk_there c.args.worlds.now.interfaces.now c.args.item.now scope _ _ c.requires c.declared_world-world.ensures (turn_added _ _ _ _ _ _ _ _ c.in_ok-names.ensures.adds) c.in_ok-written.ensures.functions c.deref-2.ensures.value c.in_ok-written.ensures.results closed in
-    walks
+    walk_there c.args.resolved.now c.args.item.now _ c.declared_world-world.result.now _ _ _ c.requires c.declared_world-world.ensures (turn_added _ _ _ _ _ _ _ _ c.in_ok-names.ensures.adds) c.in_ok-written.ensures.functions c.deref-2.ensures.value c.in_ok-written.ensures.results c.in_ok-includes.ensures.are c.as_slice.ensures c.is_closed-closed.ensures
 
-pub settled_content-requires : goal.settled_content-requires
-settled_content-requires c = c.in_ok-walked.ensures.adds.2.keyed
+pub settle-requires : goal.settle-requires
+settle-requires c = c.in_ok-walked.ensures.adds.2.keyed
 
 pub returns-clause-adds : goal.returns-clause-adds
 returns-clause-adds c =
-    let ws = c.args.worlds.now in
-    let is = ws.interfaces.now in
-    let item = item_view c.args.item.now in
-    let required = c.in_ok-names.names.required.items in
-    let m = c.in_ok-walked.walked in
+    let i = c.args.item.now in
+    let world = c.declared_world-world.result.now in
+    let n = c.in_ok-names.ensures.adds in
     let h = c.in_ok-walked.ensures.adds in
-    let are = subst (λ (w : Item). AreIncludes (addresses_of c.args.worlds.now) w c.in_ok-includes.includes) (item_here c.args.item.now c.declared_world-world.result.now c.requires.item c.declared_world-world.ensures) c.in_ok-includes.ensures.are in
-    let scope : WorldScope = record { names = c.in_ok-names.names; results = c.in_ok-written.written.results; functions = c.in_ok-written.written.functions; interfaces = c.args.worlds.now.interfaces; closed = c.is_closed-closed.result } in
-    let closed = c.is_closed-closed.ensures (written_includes (item_view c.args.item.now)) (ap length c.as_slice.ensures ∙ are.0) in
-    let walks = walk_there c.args.worlds.now.interfaces.now c.args.item.now scope _ _ c.requires c.declared_world-world.ensures (turn_added _ _ _ _ _ _ _ _ c.in_ok-names.ensures.adds) c.in_ok-written.ensures.functions c.deref-2.ensures.value c.in_ok-written.ensures.results closed in
-    let made = c.in_ok-content.ensures in
-    let middle : Growing = record { types = c.world_names.new.types; inside = c.args.resolving.now.growing.inside } in
-    let new = c.walk_sides.new.growing in
-    λ world has. record {
-      own = required ++ m.required.items;
-      list = made.required;
-      holds = content_adds (record { item = c.args.item.now; scope = scope; interfaces = is }) (others_of is.files) ws.arena c.args.resolving.now.growing.types middle new required m walks c.in_ok-names.ensures.adds h.0 h.1 h.2 world _ _ _ has (made.sides Imported (written_includes item) closed) (made.sides Exported (written_includes item) closed) (rw made.includes are);
-    }
+    let are = subst (λ (w : Item). AreIncludes (addresses_of c.args.resolved.now) w c.in_ok-includes.includes) (item_here i world c.requires.item c.declared_world-world.ensures) c.in_ok-includes.ensures.are in
+    let walks = walk_there c.args.resolved.now i _ world _ _ _ c.requires c.declared_world-world.ensures (turn_added _ _ _ _ _ _ _ _ n) c.in_ok-written.ensures.functions c.deref-2.ensures.value c.in_ok-written.ensures.results c.in_ok-includes.ensures.are c.as_slice.ensures c.is_closed-closed.ensures in
+    let mid : Growing = record { types = c.world_names.new.types; inside = c.args.growing.now.inside; required = c.add_required.new.required } in
+    let required = c.in_ok-add_required.ensures ∙ ap (λ (l : List Required). c.args.growing.now.required.items ++ l) c.deref.ensures.value in
+    content_adds c.args.resolved.now i _ c.args.growing.now mid c.walk_sides.new.growing n required refl c.in_ok-walked.walked h.0 h.1 h.2 walks (record { sides = c.in_ok-sides-2.sides; includes = c.in_ok-includes.includes }) c.in_ok-sides-2.ensures are
 
 -- the first fault: of its names, of its includes, or of what is on its sides
 pub returns-in_err-names-clause-first : goal.returns-in_err-names-clause-first
 returns-in_err-names-clause-first c =
     let p = err_from_is_err_and c.from_residual.result c.from_residual.ensures.1 in
-    let ws = c.args.worlds.now in
-    let i = c.args.item.now in
-    rw (p.1, p.2) (λ stable wrong right. names_first ws i c.args.resolving.now.growing wrong right c.requires.item.named stable _ c.in_err-names.ensures.first)
+    rw (p.1, p.2) (λ stable wrong right. names_first c.args.resolved.now c.args.item.now c.args.growing.now wrong right c.requires.item.named stable _ c.in_err-names.ensures.first)
 
 pub returns-in_err-includes-clause-first : goal.returns-in_err-includes-clause-first
 returns-in_err-includes-clause-first c =
     let p = err_from_is_err_and c.from_residual-in_err-includes.result c.from_residual-in_err-includes.ensures.1 in
-    let ws = c.args.worlds.now in
     let i = c.args.item.now in
     let e = c.in_ok-names.ensures in
-    let found = reports_same (ap (includes_fault c.args.worlds.now) (item_here c.args.item.now c.declared_world-world.result.now c.requires.item c.declared_world-world.ensures)) c.in_err-includes.ensures.first in
-    rw (p.1, p.2) (λ stable wrong right. includes_first ws i c.args.resolving.now.growing wrong right c.requires.item.named stable c.in_ok-names.names c.world_names.new.types e.adds e.first _ found)
+    let found = reports_same (ap (includes_fault c.args.resolved.now) (item_here i c.declared_world-world.result.now c.requires.item c.declared_world-world.ensures)) c.in_err-includes.ensures.first in
+    rw (p.1, p.2) (λ stable wrong right. includes_first c.args.resolved.now i c.args.growing.now wrong right c.requires.item.named stable c.in_ok-names.names c.world_names.new.types e.adds e.first _ found)
 
 pub returns-in_err-walked-clause-first : goal.returns-in_err-walked-clause-first
 returns-in_err-walked-clause-first c =
     let p = err_from_is_err_and c.from_residual-in_err-walked.result c.from_residual-in_err-walked.ensures.1 in
+    let i = c.args.item.now in
+    let world = c.declared_world-world.result.now in
     let e = c.in_ok-names.ensures in
-    let included = sym (ap (includes_fault c.args.worlds.now) (item_here c.args.item.now c.declared_world-world.result.now c.requires.item c.declared_world-world.ensures)) ∙ c.in_ok-includes.ensures.first in
-    let are = subst (λ (w : Item). AreIncludes (addresses_of c.args.worlds.now) w c.in_ok-includes.includes) (item_here c.args.item.now c.declared_world-world.result.now c.requires.item c.declared_world-world.ensures) c.in_ok-includes.ensures.are in
-    let scope : WorldScope = record { names = c.in_ok-names.names; results = c.in_ok-written.written.results; functions = c.in_ok-written.written.functions; interfaces = c.args.worlds.now.interfaces; closed = c.is_closed-closed.result } in
-    let closed = c.is_closed-closed.ensures (written_includes (item_view c.args.item.now)) (ap length c.as_slice.ensures ∙ are.0) in
-    let walks = walk_there c.args.worlds.now.interfaces.now c.args.item.now scope _ _ c.requires c.declared_world-world.ensures (turn_added _ _ _ _ _ _ _ _ c.in_ok-names.ensures.adds) c.in_ok-written.ensures.functions c.deref-2.ensures.value c.in_ok-written.ensures.results closed in
-    rw (p.1, p.2) (λ stable wrong right. world_found c.args.worlds.now c.args.item.now c.args.resolving.now.growing wrong right c.requires.item.named stable scope c.world_names.new.types e.adds e.first included (failed _) walks c.in_err-walked.ensures.first)
+    let included = sym (ap (includes_fault c.args.resolved.now) (item_here i world c.requires.item c.declared_world-world.ensures)) ∙ c.in_ok-includes.ensures.first in
+    let walks = walk_there c.args.resolved.now i _ world _ _ _ c.requires c.declared_world-world.ensures (turn_added _ _ _ _ _ _ _ _ e.adds) c.in_ok-written.ensures.functions c.deref-2.ensures.value c.in_ok-written.ensures.results c.in_ok-includes.ensures.are c.as_slice.ensures c.is_closed-closed.ensures in
+    rw (p.1, p.2) (λ stable wrong right. world_found c.args.resolved.now i c.args.growing.now wrong right c.requires.item.named stable _ _ refl e.adds e.first included (failed _) walks c.in_err-walked.ensures.first)
 
 pub returns-clause-first : goal.returns-clause-first
 returns-clause-first c = λ stable wrong right.
+    let i = c.args.item.now in
+    let world = c.declared_world-world.result.now in
     let e = c.in_ok-names.ensures in
-    let included = sym (ap (includes_fault c.args.worlds.now) (item_here c.args.item.now c.declared_world-world.result.now c.requires.item c.declared_world-world.ensures)) ∙ c.in_ok-includes.ensures.first in
-    let are = subst (λ (w : Item). AreIncludes (addresses_of c.args.worlds.now) w c.in_ok-includes.includes) (item_here c.args.item.now c.declared_world-world.result.now c.requires.item c.declared_world-world.ensures) c.in_ok-includes.ensures.are in
-    let scope : WorldScope = record { names = c.in_ok-names.names; results = c.in_ok-written.written.results; functions = c.in_ok-written.written.functions; interfaces = c.args.worlds.now.interfaces; closed = c.is_closed-closed.result } in
-    let closed = c.is_closed-closed.ensures (written_includes (item_view c.args.item.now)) (ap length c.as_slice.ensures ∙ are.0) in
-    let walks = walk_there c.args.worlds.now.interfaces.now c.args.item.now scope _ _ c.requires c.declared_world-world.ensures (turn_added _ _ _ _ _ _ _ _ c.in_ok-names.ensures.adds) c.in_ok-written.ensures.functions c.deref-2.ensures.value c.in_ok-written.ensures.results closed in
-    world_found c.args.worlds.now c.args.item.now c.args.resolving.now.growing wrong right c.requires.item.named stable scope c.world_names.new.types e.adds e.first included (done c.in_ok-walked.walked) walks c.in_ok-walked.ensures.first
+    let included = sym (ap (includes_fault c.args.resolved.now) (item_here i world c.requires.item c.declared_world-world.ensures)) ∙ c.in_ok-includes.ensures.first in
+    let walks = walk_there c.args.resolved.now i _ world _ _ _ c.requires c.declared_world-world.ensures (turn_added _ _ _ _ _ _ _ _ e.adds) c.in_ok-written.ensures.functions c.deref-2.ensures.value c.in_ok-written.ensures.results c.in_ok-includes.ensures.are c.as_slice.ensures c.is_closed-closed.ensures in
+    world_found c.args.resolved.now i c.args.growing.now wrong right c.requires.item.named stable _ _ refl e.adds e.first included (done c.in_ok-walked.walked) walks c.in_ok-walked.ensures.first
 
 -- or memory failed
+pub returns-in_err-add_required-clause-first : goal.returns-in_err-add_required-clause-first
+returns-in_err-add_required-clause-first c = λ stable wrong right. memory_found _ c.from_residual-in_err-add_required.result c.from_residual-in_err-add_required.ensures.1
+
 pub returns-in_err-sides-clause-first : goal.returns-in_err-sides-clause-first
 returns-in_err-sides-clause-first c = λ stable wrong right. memory_found _ c.from_residual-in_err-sides.result c.from_residual-in_err-sides.ensures.1
 
 pub returns-in_err-written-clause-first : goal.returns-in_err-written-clause-first
 returns-in_err-written-clause-first c = λ stable wrong right. memory_found _ c.from_residual-in_err-written.result c.from_residual-in_err-written.ensures.1
 
-pub returns-in_err-content-clause-first : goal.returns-in_err-content-clause-first
-returns-in_err-content-clause-first c =
-    let p = err_from_is_err_and c.from_residual-in_err-content.result c.from_residual-in_err-content.ensures.1 in
-    rw (p.1, p.2) (λ stable wrong right. inl c.in_err-content.ensures.refused)
+pub returns-in_err-sides-2-clause-first : goal.returns-in_err-sides-2-clause-first
+returns-in_err-sides-2-clause-first c = λ stable wrong right. memory_found _ c.from_residual-in_err-sides-2.result c.from_residual-in_err-sides-2.ensures.1

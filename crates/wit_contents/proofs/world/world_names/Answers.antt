@@ -4,7 +4,7 @@ use Rattle.wit_contents.proofs.world.world_names.Goals as goal
 
 pub resolve_names-requires : goal.resolve_names-requires
 resolve_names-requires c =
-    record { placed = subst (AreNamesPlaced (prefix_of c.args.worlds.now.interfaces.now.files)) (sym c.deref.ensures.value) c.requires.placed.own }
+    record { placed = subst (AreNamesPlaced (prefix_of c.args.resolved.now.interfaces.files)) (sym c.deref.ensures.value) c.requires.placed.own }
 
 pub returns-clause-adds : goal.returns-clause-adds
 returns-clause-adds c =

@@ -21,9 +21,9 @@ returns-clause-adds c =
 pub returns-in_err-as_stated-clause-first : goal.returns-in_err-as_stated-clause-first
 returns-in_err-as_stated-clause-first c =
     let p = err_from_is_err_and c.from_residual.result c.from_residual.ensures.1 in
-    let ws = c.args.worlds.now in
+    let ws = c.args.resolved.now in
     let i = c.args.item.now in
-    rw (p.1, p.2) (λ wrong right. unstable_first ws i c.args.resolving.now.growing wrong right _ c.in_err-as_stated.ensures.first)
+    rw (p.1, p.2) (λ wrong right. unstable_first ws i c.args.growing.now wrong right _ c.in_err-as_stated.ensures.first)
 
 pub returns-in_err-metadata-clause-first : goal.returns-in_err-metadata-clause-first
 returns-in_err-metadata-clause-first c =

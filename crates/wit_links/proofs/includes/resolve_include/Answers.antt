@@ -5,8 +5,8 @@ use Rattle.wit_links.proofs.includes.resolve_include.Goals as goal
 
 pub returns-in-None-clause-first : goal.returns-in-None-clause-first
 returns-in-None-clause-first c =
-    let files = c.args.worlds.now.interfaces.now.files in
-    let by_name = c.args.worlds.now.by_name in
+    let files = c.args.resolved.now.interfaces.files in
+    let by_name = c.args.resolved.now.world_names in
     let n = c.args.include.now in
     let none : world_at files by_name (leads (top_at files c.args.place) n.from) ≡ None = sym c.included_world.ensures ∙ c.in-None.is in
     let stable : stability_fault n.attributes.items ≡ None = rw c.deref.ensures.value at c.in_ok-check_stability.ensures in
@@ -18,12 +18,12 @@ returns-in-None-clause-first c =
 pub returns-clause-is : goal.returns-clause-is
 returns-clause-is c ws gives =
     let n = c.args.include.now in
-    let files = c.args.worlds.now.interfaces.now.files in
-    let by_name = c.args.worlds.now.by_name in
+    let files = c.args.resolved.now.interfaces.files in
+    let by_name = c.args.resolved.now.world_names in
     let top = top_at files c.args.place in
-    let arena = c.args.worlds.now.arena in
+    let arena = c.args.resolved.now.worlds in
     let found = sym c.included_world.ensures ∙ c.in-Some.is in
-    let there = world_found files by_name arena (leads top n.from) c.in-Some.id (worlds_found files arena by_name c.args.worlds.now.found) c.args.worlds.now.prefix found in
+    let there = world_found files by_name arena (leads top n.from) c.in-Some.id (worlds_found files arena by_name c.args.resolved.now.found) c.args.resolved.now.prefix found in
     include_from ws top n _ (rw c.deref-3.ensures.value at c.in_ok-stability.ensures) (gives.at c.in-Some.id _ there) (c.in_ok-names.ensures ∙ ap (map renamed) c.deref-2.ensures.value) (ap (λ (id : Id). id.span) c.path_id-path.ensures)
 
 pub returns-in_err-check_stability-clause-first : goal.returns-in_err-check_stability-clause-first

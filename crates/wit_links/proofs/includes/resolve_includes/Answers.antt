@@ -3,7 +3,7 @@ use Rattle.wit_items.proofs.Common.{Include, IncludePart, TheWorld, TopName, con
 use Rattle.wit_syntax.proofs.Common.{WorldItem}
 use Rattle.wit_tree.specs.declared.tree.WorldItem.TheVariants as world_item
 use Rattle.wit_links.specs.Links.{included_fault}
-use Rattle.wit_links.specs.declared.worlds.Worlds.{Worlds}
+use Rattle.wit_links.specs.declared.resolved.Resolved.{Resolved}
 use Rattle.wit_links.proofs.Leading.{part_fault, parts_fault, included, AreIncluded, included_next, no_include, included_past, included_more, includes_are}
 use Rattle.wit_links.proofs.includes.resolve_includes.Goals.{in-Include+in_ok-include+in_ok-push, in_default}
 use Rattle.wit_links.proofs.includes.resolve_includes.Goals as goal
@@ -28,13 +28,13 @@ resolve_include-requires c =
     record { part = record { declared = TheWorld w; item = c.requires.item; among = contains_at (map world_part w.items.items) k (IncludePart i) there } }
 
 -- the fault of a part that is an include
-include_fault : (ws : Worlds) (top : List TopName) (x : WorldItem) (n : Include) → x ≡ world_item.Include n → part_fault ws top x ≡ included_fault ws top n
+include_fault : (ws : Resolved) (top : List TopName) (x : WorldItem) (n : Include) → x ≡ world_item.Include n → part_fault ws top x ≡ included_fault ws top n
 include_fault ws top x n is = ap (part_fault ws top) is ∙ or_none (included_fault ws top n)
 
 pub returns-in_err-include-clause-first : goal.returns-in_err-include-clause-first
 returns-in_err-include-clause-first c =
-    let ws = c.args.worlds.now in
-    let top = top_at ws.interfaces.now.files c.args.place in
+    let ws = c.args.resolved.now in
+    let top = top_at ws.interfaces.files c.args.place in
     let p = err_from_is_err_and c.from_residual-in_err-include.result c.from_residual-in_err-include.ensures.1 in
     let w = c.args.world.now in
     let k = c.loop-part.part-index in
@@ -45,9 +45,9 @@ returns-in_err-include-clause-first c =
 
 pub loop-part-preserved : goal.loop-part-preserved
 loop-part-preserved c =
-    let ws = c.args.worlds.now in
-    let top = top_at ws.interfaces.now.files c.args.place in
-    let worlds = worlds_at (others_of ws.interfaces.now.files) ws.arena in
+    let ws = c.args.resolved.now in
+    let top = top_at ws.interfaces.files c.args.place in
+    let worlds = worlds_at (others_of ws.interfaces.files) ws.worlds in
     let items = c.args.world.now.items.items in
     let k = c.loop-part.part-index in
     let x = c.part-item.result in
@@ -71,9 +71,9 @@ loop-part-preserved c =
 
 pub returns-clause-are : goal.returns-clause-are
 returns-clause-are c =
-    let files = c.args.worlds.now.interfaces.now.files in
+    let files = c.args.resolved.now.interfaces.files in
     let top = top_at files c.args.place in
-    let worlds = worlds_at (others_of files) c.args.worlds.now.arena in
+    let worlds = worlds_at (others_of files) c.args.resolved.now.worlds in
     let w = c.args.world.now in
     let xs = c.world_items-part-items.result.now in
     let k = c.loop-part.part-index in
@@ -82,9 +82,9 @@ returns-clause-are c =
 
 pub returns-clause-first : goal.returns-clause-first
 returns-clause-first c =
-    let ws = c.args.worlds.now in
+    let ws = c.args.resolved.now in
     let w = c.args.world.now in
     let xs = c.world_items-part-items.result.now in
     let k = c.loop-part.part-index in
     let all : take k w.items.items ≡ w.items.items = ap (take k) (sym c.world_items-part-items.ensures) ∙ take_all k xs (omega arith) ∙ c.world_items-part-items.ensures in
-    sym (parts_fault ws c.args.place w) ∙ ap (first_in (part_fault ws (top_at ws.interfaces.now.files c.args.place))) (sym all) ∙ c.loop-part.invariant.first
+    sym (parts_fault ws c.args.place w) ∙ ap (first_in (part_fault ws (top_at ws.interfaces.files c.args.place))) (sym all) ∙ c.loop-part.invariant.first

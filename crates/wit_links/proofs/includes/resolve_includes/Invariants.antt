@@ -5,6 +5,6 @@ use Rattle.wit_links.proofs.includes.resolve_includes.Given as goal
 
 abbrev pub invariant-loop-part : goal.invariant-loop-part
 invariant-loop-part l = record {
-  are : AreIncluded (worlds_at (others_of l.worlds.interfaces.now.files) l.worlds.arena) (top_at l.worlds.interfaces.now.files l.place) (included (take l.part-index l.world.items.items)) l.includes.items;
-  first : first_in (part_fault l.worlds (top_at l.worlds.interfaces.now.files l.place)) (take l.part-index l.world.items.items) ≡ None;
+  are : AreIncluded (worlds_at (others_of l.resolved.interfaces.files) l.resolved.worlds) (top_at l.resolved.interfaces.files l.place) (included (take l.part-index l.world.items.items)) l.includes.items;
+  first : first_in (part_fault l.resolved (top_at l.resolved.interfaces.files l.place)) (take l.part-index l.world.items.items) ≡ None;
 }
