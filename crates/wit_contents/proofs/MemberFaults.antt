@@ -1,7 +1,7 @@
 -- The first fault of an interface: of its names, or, once they are resolved, of what comes after them.
-use Rattle.std.proofs.Common.{◌≡◌, ℕ, List, [], length, map, Option, None, sym, ap, ◌∙◌, subst, arith, ◌∷◌, ◌++◌, take, Some, refl, append_assoc, ◌<◌, ◌≤◌, ◌+◌, drop, get_or}
-use Rattle.wit_contents.proofs.Names.{Item as BorrowedItem, AddsTurn, Defines, EndsInTurn, Env, Err, Fault, Finds, FindsInterface, Id, InOrder, Interfaces, IsLent, IsOutcome, IsRightOf, ItemScope, Names, Ok, Outcome, ParseError, Required, ResolvedScope, Result, ScopeName, TypeDef, TypeOwner, env_of, finds_same, in_turn, interface_fault, local_id, names_of, option_or, order_of, outcome_one, resolved_scopes_of, rest_fault, rows_of, scope_item, scope_names, take_all, AddsMembers, AreKeyed, AreRightMembers, Declared, IsLinkedTo, IsNext, IsRightMember, ItemWalk, Link, Reports, ResourceFunc, SideFunction, SideItem, SideLink, SourceFunction, Stage, TheInline, TheWorld, TopName, TypeBody, about, after-append, append-nil, declared_view, definition_functions, first_after, flat_map, flat_map-append, function_fault, inline_item, inline_of, inline_side, inside_of, inside_view, item_function, item_inline, item_name, items_on, lead, length-map, linked_fault, lost_word, meaning, metadata_fault, name_view, names_at_top, next_place, none_both, option_map, option_map_or, or_none, part_items, prefix_of, put_link_fault, reports_prefix, reports_same, resource_function, seen_on, side_items, slice_get, slice_get_read, slice_get_within, stage, take_next, take_seam, top_at, word_fault, world_part, item_stability, names_fault, item_view, put_fault}
-use Rattle.wit_arena.proofs.Common.{Item}
+use Rattle.std.proofs.Common.{◌≡◌, ℕ, Bor, List, [], length, map, Option, None, sym, ap, ◌∙◌, subst, arith, ◌∷◌, ◌++◌, take, Some, refl, append_assoc, ◌<◌, ◌≤◌, ◌+◌, drop, get_or}
+use Rattle.wit_contents.proofs.Names.{Item as BorrowedItem, AddsTurn, AreNamesPlaced, Borrowed, Extern, InterfaceItem, IsInsideNext, WorldSide, inline_after, interfaces_on, item_side, slice_get-get_or, with_names, Defines, EndsInTurn, Env, Err, Fault, Finds, FindsInterface, Id, InOrder, Interfaces, IsLent, IsOutcome, IsRightOf, ItemScope, Names, Ok, Outcome, ParseError, Required, ResolvedScope, Result, ScopeName, TypeDef, TypeOwner, env_of, finds_same, in_turn, interface_fault, local_id, names_of, option_or, order_of, outcome_one, resolved_scopes_of, rest_fault, rows_of, scope_item, scope_names, take_all, AddsMembers, AreKeyed, AreRightMembers, Declared, IsLinkedTo, IsNext, IsRightMember, ItemWalk, Link, Reports, ResourceFunc, SideFunction, SideInline, SideItem, SideLink, SourceFunction, Stage, TheWorld, TopName, TypeBody, about, after-append, append-nil, declared_view, definition_functions, first_after, flat_map, flat_map-append, function_fault, inline_side, inside_of, inside_view, item_function, item_inline, items_on, lead, length-map, linked_fault, lost_word, meaning, metadata_fault, name_view, names_at_top, next_place, none_both, option_map_or, or_none, part_items, prefix_of, put_link_fault, reports_prefix, reports_same, resource_function, seen_on, side_items, slice_get, slice_get_read, slice_get_within, stage, take_next, take_seam, top_at, word_fault, world_part, item_stability, names_fault, item_view, put_fault}
+use Rattle.wit_arena.proofs.Common.{Item, get_or_from_slice_get}
 use Rattle.wit_entries.specs.EntryFaults.{IsExtended, written_fault}
 use Rattle.wit_externs.specs.Clash.{EndsIn, FindsIn, signed_by}
 use Rattle.wit_externs.proofs.AloneFaults.{safe_of, function_same, words_in}
@@ -13,11 +13,13 @@ use Rattle.wit_contents.specs.declared.walk.Walked.{Walked}
 use Rattle.wit_walk.proofs.Common.{World, WorldItem}
 use Rattle.wit_rules.specs.Signatures.{function_view, HaveOwners}
 use Rattle.wit_items.specs.declared.items.InlineInterface.{InlineInterface}
-use Rattle.wit_links.specs.declared.inside.Counts.{Counts}
-use Rattle.wit_links.proofs.Inlined.{names_own, lent_named, lent_placed}
+use Rattle.wit_items.specs.declared.items.Declared.TheVariants as borrowed
+use Rattle.wit_items.specs.BorrowedItems.{AreInside, Inside}
+use Rattle.wit_items.proofs.Inlined.{inside_next, inside_within}
+use Rattle.wit_syntax.proofs.Inline.{inlined}
 use Rattle.wit_item_entries.proofs.ReachedFaults.{words_same, all_names}
 use Rattle.wit_item_entries.proofs.ScopeFunctions.{owners, turn_has}
-use Rattle.wit_contents.proofs.Members.{function_there, inline_here, members_none, members_then, next_then}
+use Rattle.wit_contents.proofs.Members.{function_there, members_none, members_then, next_then}
 use Rattle.wit_externs.proofs.Steps.{split_at}
 use Rattle.wit_syntax.proofs.JoinedLists.{flat_map-map}
 use Rattle.wit_types.specs.declared.types.TypeOwner.TheVariants as owner
@@ -201,32 +203,61 @@ module _ {w : ItemWalk} {link : Link} {m : Walked} (n : IsNext w (SideLink link 
   pub link_found : {T : Type 0} (r : Result T ParseError) (g : Growing) → Finds (option_or (metadata_fault link.attributes) (option_or (link_lost (item_view w.item).top) link_named)) r → (wrong : List SideItem → SideItem → Option Fault) → AreRightMembers wrong w n.prefix (SideLink link ∷ []) (stage g m) → Finds (first_after wrong n.prefix (SideLink link ∷ [])) r
   link_found r g found = one_found w r (SideLink link) (stage g m) n (λ wrong right. finds_same r (sym right) found)
 
--- an inline interface that comes next, as it is lent
-module _ {w : ItemWalk} {m : Walked} (x : InlineInterface) (n : IsNext w (inline_side x ∷ []) m) (world : x.world.now ≡ item_name (item_view w.item)) (place : x.place ≡ (seen_on x.written.now.side m.seen).interfaces) (s : ItemScope) (counts : Counts) (count : counts ≡ seen_on x.written.now.side m.seen) (item : scope_item s ≡ inline_of (item_view w.item) x) (own : option_map (λ ns. ns.items) (slice_get (inside_of x.written.now.side w.item) counts.inline) ≡ Some s.names.now) where
-  abbrev u : Item
-  u = inline_of (item_view w.item) x
+-- an inline interface that comes next is the next of its side that is borrowed
+module _ {w : ItemWalk} {m : Walked} {x : Extern} {name : Id} {items : List InterfaceItem} (n : IsNext w (SideInline x name items ∷ []) m) (ns : List Inside) (k : ℕ) (all : ns ≡ inside_of x.side w.item) (next : k ≡ seen_on x.side m.seen) where
+  are : AreInside x.side (item_view w.item) ns
+  are = subst (AreInside x.side (item_view w.item)) (sym all) (n.walk.world.item.written x.side)
 
-  lent : IsLent s w.interfaces.files u
-  lent =
-      let side = x.written.now.side in
-      let i = item_view w.item in
-      let number : counts.inline ≡ length (flat_map item_inline (items_on side n.prefix)) = ap (λ (k : Counts). k.inline) count ∙ n.seen.inline side in
-      let here : inline_item i x.place (inline_side x) ≡ u ∷ [] = ap (λ (world : List _). record { top = i.top; declared = TheInline world x.place x.written.now x.name x.items.now } ∷ []) (sym world) in
-      record {
-        sort = refl;
-        item = item;
-        named = names_own (inside_view side w.item) i u n.prefix n.rest x.written.now x.name x.items.now counts.inline x.place (map name_view s.names.now) (n.walk.world.item.written side) n.sides number here (lent_named (inside_of side w.item) counts.inline s.names.now own);
-        placed = lent_placed (prefix_of w.interfaces.files) (inside_of side w.item) counts.inline s.names.now own (n.walk.world.item.placed.inside side);
-      }
+  count : k ≡ length (flat_map item_inline (items_on x.side n.prefix))
+  count = next ∙ n.seen.inline x.side
+
+  pub next_within : k < length ns
+  next_within = inside_within (item_view w.item) ns n.prefix n.rest x name items k are n.sides count
+
+  module _ (v : Inside) (is : v ≡ get_or ns k v) where
+    at : slice_get ns k ≡ Some v
+    at = slice_get-get_or ns k v next_within ∙ ap Some (sym is)
+
+    pub next_side : SideInline x name items ≡ inline_side v.inline
+    next_side =
+        let same = ap (λ (p : Item × List ScopeName). p.0.declared) (inside_next (item_view w.item) ns n.prefix n.rest x name items k are n.sides count v at) in
+        let both : declared_view (borrowed.Inline v.inline) ≡ (inlined (item_view w.item) (length (interfaces_on x.side n.prefix)) x name items).declared = same in
+        cc
+
+    pub next_there : IsInsideNext w.item v m
+    next_there = subst (λ (s : WorldSide). slice_get (inside_of s w.item) (seen_on s m.seen) ≡ Some v) (ap item_side next_side) (ap (λ (l : List Inside). slice_get l (seen_on x.side m.seen)) (sym all) ∙ ap (slice_get ns) (sym next) ∙ at)
+
+-- as it is lent
+module _ {w : ItemWalk} {m : Walked} (v : Inside) (n : IsNext w (inline_side v.inline ∷ []) m) (there : IsInsideNext w.item v m) (names : Bor (List Borrowed)) (own : names.now ≡ v.names.items) where
+  abbrev x : InlineInterface
+  x = v.inline
+
+  abbrev side : WorldSide
+  side = x.written.now.side
+
+  abbrev s : ItemScope
+  s = record { file = w.item.file; declared = borrowed.Inline x; names = names }
+
+  is : inside_view (item_view w.item) v ≡ with_names (inlined (item_view w.item) (length (interfaces_on side n.prefix)) x.written.now x.name x.items.now)
+  is = inside_next (item_view w.item) (inside_of side w.item) n.prefix n.rest x.written.now x.name x.items.now (seen_on side m.seen) (n.walk.world.item.written side) n.sides (n.seen.inline side) v there
 
   pub inside_lent : IsLent s w.interfaces.files (scope_item s)
-  inside_lent = subst (IsLent s w.interfaces.files) (sym item) lent
+  inside_lent = record {
+    sort = refl;
+    item = refl;
+    named = ap (map name_view) own ∙ ap (λ (p : Item × List ScopeName). p.1) is;
+    placed = subst (AreNamesPlaced (prefix_of w.interfaces.files)) (ap (λ (y : Inside). y.names.items) (get_or_from_slice_get (inside_of side w.item) (seen_on side m.seen) v v there) ∙ sym own) (n.walk.world.item.placed.inside side (seen_on side m.seen) v (slice_get_within (inside_of side w.item) (seen_on side m.seen) v there));
+  }
+
+  -- it is where the item is that it is on its side
+  pub inline_here : inline_after (item_view w.item) n.prefix (inline_side x ∷ []) ≡ scope_item s ∷ []
+  inline_here = ap (λ (p : Item × List ScopeName). p.0 ∷ []) (sym is)
 
   -- what is found in it is what a test that is right of it says, and then its attributes and its name
   pub inline_found : {U T : Type 0} (q : Result U ParseError) (r : Result T ParseError) (old : Growing) → FindsInterface w.interfaces (next_place w.interfaces old.inside) old.types s q → ((o : Option Fault) → Finds o q → Finds (option_or o (option_or (metadata_fault x.written.now.attributes.items) (put_fault m.members (inline_side x)))) r) → (wrong : List SideItem → SideItem → Option Fault) → AreRightMembers wrong w n.prefix (inline_side x ∷ []) (stage old m) → Finds (first_after wrong n.prefix (inline_side x ∷ [])) r
   inline_found q r old found next = one_found w r (inline_side x) (stage old m) n (λ wrong right. (
-      let it = right.1 u (inline_here (item_view w.item) n.prefix x world (place ∙ n.seen.interfaces x.written.now.side)) in
-      finds_same r (sym it.1) (next (right.0 u) (finds_right q right.0 w.interfaces old.types (next_place w.interfaces old.inside) u s lent it.0 found))))
+      let it = right.1 (scope_item s) inline_here in
+      finds_same r (sym it.1) (next (right.0 (scope_item s)) (finds_right q right.0 w.interfaces old.types (next_place w.interfaces old.inside) (scope_item s) s inside_lent it.0 found))))
 
 -- what parts of a world are on its sides
 abbrev pub world_sides : List WorldItem → List SideItem

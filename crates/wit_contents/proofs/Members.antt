@@ -1,6 +1,6 @@
 -- What is on the sides of a world, resolved one after another: nothing, more after some, and a function, an interface by its path, or an inline one.
 use Rattle.std.proofs.Common.{◌≡◌, ℕ, ◌+◌, List, [], ◌∷◌, ◌++◌, length, refl, sym, ap, ◌∙◌, subst, append_assoc, arith, Bool, true, false, if◌then◌else◌, map, Some, inl, inr, add-zero, Option, suc, None, get_or, Vec}
-use Rattle.wit_contents.proofs.Names.{Address, AddsFunctions, AddsInside, AddsInterface, AddsMembers, AddsSides, AreEnded, AreKeyed, Contains-append_cases, Entry, Extern, Function, Growing, HavePlaces, Id, Interface, InterfaceItem, IsNext, IsSeen, ItemWalk, Link, Name, Names, Puts, Required, ResolvedScope, SideFunction, SideInline, SideItem, SideLink, Sorted, SourceFunction, Stage, TheInline, TypeDef, WorldSide, address, all_handles, append-nil, at_back, at_prefix, contains_one, entry_sorted, env_of, filter-append, flat_map, flat_map-append, function_item, functions, inline_after, inline_after-append, inline_entry, inline_of, inline_side, interfaces_at, interfaces_on, item_function, item_inline, item_name, item_side, item_sorted, items_on, lead, length-append, length-inline_after, length-map, link_item, map-append, next_place, option_map_or, option_to_list, path_scope, prefix_of, put_on, resolved_scopes_of, role_side, same_side, side_items, slice_get, sorted_on, stage, written_types, item_view, Key, filter, filter_map-append, inline_item, is_interface}
+use Rattle.wit_contents.proofs.Names.{Address, AddsFunctions, AddsInside, AddsInterface, AddsMembers, AddsSides, AreEnded, AreKeyed, Contains-append_cases, Entry, Extern, Function, Growing, HavePlaces, Id, Interface, InterfaceItem, IsNext, IsSeen, ItemWalk, Link, Name, Names, Puts, Required, ResolvedScope, SideFunction, SideInline, SideItem, SideLink, Sorted, SourceFunction, Stage, TypeDef, WorldSide, address, all_handles, append-nil, at_back, at_prefix, contains_one, entry_sorted, env_of, filter-append, flat_map, flat_map-append, function_item, functions, inline_after, inline_after-append, inline_entry, inline_side, interfaces_at, item_function, item_inline, item_side, item_sorted, items_on, lead, length-append, length-inline_after, length-map, link_item, map-append, next_place, option_map_or, option_to_list, path_scope, prefix_of, put_on, resolved_scopes_of, role_side, same_side, side_items, slice_get, sorted_on, stage, written_types, item_view, Key, filter, filter_map-append, inline_item, is_interface}
 use Rattle.wit_contents.specs.declared.walk.Walked.{Walked}
 use Rattle.wit_arena.proofs.Common.{Global, Item, function_in, entries_on, scope_place, link_key}
 use Rattle.wit_entries.proofs.Requiring.{extended_then}
@@ -244,12 +244,6 @@ function_there i prefix rest fn place sides count =
     let rest_after = flat_map item_function rest in
     let all : functions i ≡ before ++ (fn ∷ rest_after) = ap (flat_map item_function) sides ∙ flat_map-append item_function prefix (SideFunction fn ∷ rest) in
     ap (slice_get (functions i)) count ∙ ap (λ (l : List SourceFunction). slice_get l (length before)) all ∙ at_middle before fn rest_after
-
--- where an inline interface is is the address of its item
-pub inline_here : (i : Item) (prefix : List SideItem) (x : InlineInterface) → x.world.now ≡ item_name i → x.place ≡ length (interfaces_on x.written.now.side prefix) → inline_after i prefix (inline_side x ∷ []) ≡ inline_of i x ∷ []
-inline_here i prefix x world place =
-    ap (λ (n : ℕ). record { top = i.top; declared = TheInline (item_name i) n x.written.now x.name x.items.now } ∷ []) (sym place)
-    ∙ ap (λ (n : List ℕ). record { top = i.top; declared = TheInline n x.place x.written.now x.name x.items.now } ∷ []) (sym world)
 
 module _ (w : ItemWalk) (prefix : List SideItem) (a : Stage) where
   -- a function

@@ -1,5 +1,5 @@
 -- The names that specs of this crate cite most, passed on from one place. Declares nothing.
-pub use Rattle.wit_arena.specs.Common.{Address, AddsInterface, AddsScope, AddsSides, AddsWorld, EndsAt, Fault, Function, Id, Interface, InterfaceNamed, IsLegal, IsNameIndex, Item, Link, Makes, Metadata, PackageFile, ParseError, Required, ResolvedScope, Row, ScopeName, SideFunction, SideInline, SideItem, SideLink, TypeDef, TypeOwner, UsePath, Word, World, WorldNamed, WorldSide, about, address, declared_metadata, env_of, first_docs, flat_map, functions, headers, in_turn, includes, inline_after, interfaces_at, is_world, item_function, item_rows, items_on, last_header, local_id, names_on, option_map_or, option_or, package_of, part_items, rows_of, scope_names, shape_end, side_items, type_imports, world_part, worlds_at}
+pub use Rattle.wit_arena.specs.Common.{Address, AddsInterface, AddsScope, AddsSides, AddsWorld, Declared, EndsAt, Fault, Function, Id, Interface, InterfaceNamed, IsLegal, IsNameIndex, Item, Link, Makes, PackageFile, ParseError, Required, ResolvedScope, Row, ScopeName, SideFunction, SideInline, SideItem, SideLink, TypeDef, TypeOwner, UsePath, Word, World, WorldInclude, WorldNamed, WorldSide, about, address, declared_metadata, env_of, first_docs, flat_map, functions, headers, in_turn, includes, inline_after, interfaces_at, is_world, item_function, item_rows, items_on, last_header, local_id, names_on, option_map_or, option_or, package_of, part_items, rows_of, scope_names, shape_end, side_items, type_imports, world_part, worlds_at}
 pub use Rattle.wit_entries.specs.EntryFaults.{IsExtended}
 pub use Rattle.wit_signatures.specs.FunctionsOfScope.{name_of_id}
 pub use Rattle.wit_externs.specs.Clash.{EndsIn, defined_fault, lone_setters, signed_by}

@@ -11,7 +11,8 @@ use Rattle.wit_sides.specs.SideNames.{defined_on}
 use Rattle.wit_rules.specs.Signatures.{function_view, AreResults}
 use Rattle.wit_externs.specs.Clash.{linked_on, bare_place, item_names}
 use Rattle.wit_world_sides.specs.Members.{AreKeyed, Entry, sorted_on, put_fault, put_link_fault}
-use Rattle.wit_links.specs.Links.{IsSeen}
+use Rattle.wit_links.specs.Links.{IsSeen, seen_on}
+use Rattle.wit_items.specs.BorrowedItems.{Inside, inside_of}
 use Rattle.wit_item_entries.specs.AddedNames.{IsTurn}
 use Rattle.wit_contents.specs.Making.{IsItemIn}
 use Rattle.wit_contents.specs.Interfaces.{AddsAt, IsRightOf}
@@ -66,6 +67,10 @@ pub record IsNext (w : ItemWalk) (xs : List SideItem) (m : Walked) : Type 0 wher
   pub sides : side_items (item_view w.item) ≡ prefix ++ (xs ++ rest)
   pub seen : IsSeen prefix m.seen
   pub keyed : AreKeyed m.members
+
+-- an inline interface of an item is the next of its side
+abbrev pub IsInsideNext : BorrowedItem → Inside → Walked → Type 0
+IsInsideNext i x m = slice_get (inside_of x.inline.written.now.side i) (seen_on x.inline.written.now.side m.seen) ≡ Some x
 
 -- the interfaces that are resolved have their places, and these inline ones come from the next place on
 pub record HavePlaces (w : ItemWalk) (inside : List Interface) (us : List Item) (ss : List Address) : Type 0 where

@@ -2,21 +2,21 @@
 ghost use Rattle.std.specs.Prelude.{◌≡◌, ◌+◌, ◌∷◌, [], IfOk, OnOk, length, map};
 ghost use Rattle.wit_syntax.specs.Function.{side_function, resource_function};
 ghost use Rattle.wit_syntax.specs.Sides.{extern_items, side_items, SideFunction, SideLink, part_items};
-ghost use Rattle.wit_syntax.specs.Source.{DefinitionPart, item_name};
+ghost use Rattle.wit_syntax.specs.Source.{DefinitionPart};
 ghost use Rattle.wit_rules.specs.Signatures.{function_view};
 ghost use Rattle.wit_items.specs.BorrowedItems.{item_view, scope_item};
 ghost use Rattle.wit_world_sides.specs.Members.{path_link};
-ghost use Rattle.wit_links.specs.Links.{inline_side, seen_on};
+ghost use Rattle.wit_links.specs.Links.{inline_side};
 ghost use Rattle.wit_contents.specs.Interfaces.{FindsInterface, IsLent};
-ghost use Rattle.wit_contents.specs.Walk.{FindsMembers, AddsItems, IsNext, next_place, stage, walk_of, AddsInside};
+ghost use Rattle.wit_contents.specs.Walk.{FindsMembers, AddsItems, IsInsideNext, IsNext, next_place, stage, walk_of, AddsInside};
 
 use crate::interface::interface_of;
 use crate::making::Growing;
 use std::alloc::AllocError;
 use wit_item_entries::names::ResolvedNames;
 use wit_items::interfaces::Interfaces;
-use wit_items::items::{InlineInterface, Item, ItemScope};
-use wit_links::inside::{Seen, declared_world, inside_scope};
+use wit_items::items::{Declared, Inside, Item, ItemScope};
+use wit_links::inside::{Seen, declared_world};
 use wit_links::links::linked_id;
 use wit_links::resolved::Resolved;
 use wit_maps::TextTable;
@@ -49,7 +49,7 @@ pub struct WorldScope<'f, 'a, 'i, 'n, 'e> {
 #[derive(Drop)]
 pub struct Walked {
     pub members: Members,
-    /// How many functions and interfaces there are.
+    /// How many functions and inline interfaces there are.
     pub seen: Seen,
 }
 
@@ -133,10 +133,7 @@ fn walk_link<'f, 'a>(
     let alloc = *walk.resolved.interfaces.by_name.allocator();
     check_metadata(alloc, &link.written.attributes)?;
     let id = linked_id(alloc, &walk.resolved.interfaces, item.place, link.path)?;
-    put_link(alloc, &mut walked.members, link, id)?;
-    let seen = walked.seen.with_interface(link.written.side, 0)?;
-    walked.seen = seen;
-    Ok(())
+    put_link(alloc, &mut walked.members, link, id)
 }
 
 /// Resolves the next inline interface, and puts it on its side, under its name.
@@ -146,24 +143,26 @@ fn walk_link<'f, 'a>(
 fn walk_inline<'f, 'a>(
     item: &Item<'f, 'a>,
     walk: &WorldScope<'f, 'a, '_, '_, '_>,
-    inline: InlineInterface<'f, 'a>,
+    inside: &Inside<'f, 'a>,
     growing: &mut Growing,
     walked: &mut Walked,
 ) -> ParseResult<()>
-    requires next { IsNext (walk_of item.now walk.now) (inline_side inline ∷ []) walked.old }
-    requires world { inline.world.now ≡ item_name (item_view item.now) }
-    requires place { inline.place ≡ (seen_on inline.written.now.side walked.old.seen).interfaces }
-    ensures adds { OnOk result (AddsItems item.now walk.now (inline_side inline.entry ∷ []) growing.old walked.old growing.new walked.new) }
-    ensures first { FindsMembers (walk_of item.now walk.now) (inline_side inline.entry ∷ []) (stage growing.old walked.old) result }
+    requires next { IsNext (walk_of item.now walk.now) (inline_side inside.now.inline ∷ []) walked.old }
+    requires there { IsInsideNext item.now inside.now walked.old }
+    ensures adds { OnOk result (AddsItems item.now walk.now (inline_side inside.now.inline ∷ []) growing.old walked.old growing.new walked.new) }
+    ensures first { FindsMembers (walk_of item.now walk.now) (inline_side inside.now.inline ∷ []) (stage growing.old walked.old) result }
 {
     let alloc = *walk.resolved.interfaces.by_name.allocator();
-    let side = inline.written.side;
-    let counts = walked.seen.on(side);
-    let scope = inside_scope(item, inline, counts.inline);
+    let inline = inside.inline;
+    let scope = ItemScope {
+        file: item.file,
+        declared: Declared::Inline(inline),
+        names: &inside.names,
+    };
     let id = resolve_inline(&scope, growing, walk.resolved)?;
     check_metadata(alloc, &inline.written.attributes)?;
     put_inline(alloc, &mut walked.members, inline.written, inline.name, id)?;
-    let seen = walked.seen.with_interface(side, 1)?;
+    let seen = walked.seen.with_inline(inline.written.side)?;
     walked.seen = seen;
     Ok(())
 }
@@ -192,17 +191,10 @@ fn walk_extern<'f, 'a>(
     ensures first { FindsMembers (walk_of item.now walk.now) (extern_items written.now written.now.kind) (stage growing.old walked.old) result }
 {
     match &written.kind {
-        ExternKind::Interface(name, items) => {
-            let counts = walked.seen.on(written.side);
-            let world = declared_world(&item.declared);
-            let inline = InlineInterface {
-                world: world.name.name,
-                place: counts.interfaces,
-                written,
-                name: *name,
-                items,
-            };
-            walk_inline(item, walk, inline, growing, walked)
+        ExternKind::Interface(_, _) => {
+            let there = item.inside(written.side);
+            let next = walked.seen.on(written.side);
+            walk_inline(item, walk, &there[next], growing, walked)
         }
         ExternKind::Func(name, func) => {
             let borrowed = extern_part_function(written, *name, func);

@@ -1,11 +1,13 @@
 -- The names that items use from other packages are those among their names, and among those of what is written in them.
-use Rattle.std.proofs.Common.{◌≡◌, suc, List, [], ◌∷◌, ◌++◌, refl, sym, ap, ◌∙◌}
-use Rattle.wit_items.proofs.Common.{Address, All, AreItemsOf, Attribute, DefinitionPart, Exported, ExternPart, ForeignUse, FunctionPart, Imported, IncludePart, InterfaceItem, IsItemOf, IsItemPlaced, PackageFile, Part, ScopeName, TopName, UseName, UsePart, Used, WorldSide, all_items, filter, filter-append, flat_map, flat_map-append, foreign_uses, get_or, inside_view, interface_part, is_foreign, item_foreign_uses, item_view, map, names_written, part_names, parts, path_scope, prefix_of, scope_names, side_uses, slice_get-get_or, use_foreign_uses, use_of_foreign, written_items}
+use Rattle.std.proofs.Common.{◌≡◌, ℕ, suc, List, [], ◌∷◌, ◌++◌, refl, sym, ap, ◌∙◌}
+use Rattle.wit_items.proofs.Common.{Address, All, AreItemsOf, Attribute, DefinitionPart, Exported, ExternPart, ForeignUse, FunctionPart, Imported, IncludePart, IsItemOf, IsItemPlaced, PackageFile, Part, ScopeName, SideFunction, SideInline, SideItem, SideLink, TopName, UseName, UsePart, Used, WorldSide, all_items, filter, filter-append, flat_map, flat_map-append, foreign_uses, flat_map-map, get_or, inline_on, inside_view, interface_part, interfaces_on, is_foreign, item_foreign_uses, item_view, map, part_names, parts, path_scope, prefix_of, scope_names, side_items, side_uses, slice_get-get_or, use_foreign_uses, use_of_foreign, with_names}
 use Rattle.wit_items.specs.declared.items.Item.{Item as BorrowedItem}
 use Rattle.wit_arena.proofs.Common.{Item}
 use Rattle.wit_syntax.proofs.Common.{Use, append-nil, foreign_uses-filtered, own_uses}
-use Rattle.wit_items.proofs.Written.{items_names, items_uses, uses_written, names_written_in}
-use Rattle.wit_front.specs.ForeignPrefix.{name_foreign_uses, borrowed_foreign_uses}
+use Rattle.wit_items.specs.BorrowedItems.{Inside, AreInside}
+use Rattle.wit_items.proofs.Inlined.{inline_from, numbered}
+use Rattle.wit_items.proofs.Written.{part_on, parts_on, uses_written, written_uses}
+use Rattle.wit_front.specs.ForeignPrefix.{borrowed_foreign_uses, inside_uses, name_foreign_uses}
 
 -- those from other packages
 abbrev foreign : List ForeignUse → List ForeignUse
@@ -38,35 +40,39 @@ parts-foreign_uses top [] = refl
 parts-foreign_uses top (p ∷ ps) = flat_map-append name_foreign_uses (part_names top p) (flat_map (part_names top) ps) ∙ ap (λ (l : List ForeignUse). l ++ flat_map name_foreign_uses (flat_map (part_names top) ps)) (part-foreign_uses top p) ∙ ap (λ (l : List ForeignUse). foreign_of top (own_uses p) ++ l) (parts-foreign_uses top ps) ∙ sym (foreign_of-append top (own_uses p) (flat_map own_uses ps))
 
 -- the names of interfaces are used by their uses
-interfaces_used : (top : List TopName) (ls : List (List InterfaceItem)) → flat_map (flat_map name_foreign_uses) (map (items_names top) ls) ≡ foreign_of top (flat_map items_uses ls)
-interfaces_used top [] = refl
-interfaces_used top (xs ∷ ls) =
-    ap (λ (l : List ForeignUse). l ++ flat_map (flat_map name_foreign_uses) (map (items_names top) ls)) (parts-foreign_uses top (map interface_part xs)) ∙ ap (λ (l : List ForeignUse). foreign_of top (items_uses xs) ++ l) (interfaces_used top ls) ∙ sym (foreign_of-append top (items_uses xs) (flat_map items_uses ls))
+interfaces_used : (i : Item) (n : ℕ) (xs : List SideItem) → flat_map (λ (u : Item). flat_map name_foreign_uses (scope_names u)) (inline_from i n xs) ≡ foreign_of i.top (flat_map written_uses xs)
+interfaces_used i n [] = refl
+interfaces_used i n (SideFunction fn ∷ xs) = interfaces_used i (suc n) xs
+interfaces_used i n (SideLink link ∷ xs) = interfaces_used i (suc n) xs
+interfaces_used i n (SideInline x name items ∷ xs) =
+    let ps = map interface_part items in
+    ap (λ (l : List ForeignUse). l ++ flat_map (λ (u : Item). flat_map name_foreign_uses (scope_names u)) (inline_from i (suc n) xs)) (parts-foreign_uses i.top ps) ∙ ap (λ (l : List ForeignUse). foreign_of i.top (flat_map own_uses ps) ++ l) (interfaces_used i (suc n) xs) ∙ sym (foreign_of-append i.top (flat_map own_uses ps) (flat_map written_uses xs))
 
 -- those of a side are those of the uses that are written there
-side_parts : (side : WorldSide) (ps : List Part) → flat_map (side_uses side) ps ≡ flat_map items_uses (flat_map (written_items side) ps)
+side_parts : (side : WorldSide) (ps : List Part) → flat_map (side_uses side) ps ≡ flat_map written_uses (flat_map (part_on side) ps)
 side_parts side [] = refl
-side_parts side (p ∷ ps) = ap (λ (l : List Use). l ++ flat_map (side_uses side) ps) (uses_written side p) ∙ ap (λ (l : List Use). flat_map items_uses (written_items side p) ++ l) (side_parts side ps) ∙ sym (flat_map-append items_uses (written_items side p) (flat_map (written_items side) ps))
+side_parts side (p ∷ ps) = ap (λ (l : List Use). l ++ flat_map (side_uses side) ps) (uses_written side p) ∙ ap (λ (l : List Use). flat_map written_uses (part_on side p) ++ l) (side_parts side ps) ∙ sym (flat_map-append written_uses (part_on side p) (flat_map (part_on side) ps))
 
-written_foreign_uses : (w : Item) (side : WorldSide) → flat_map (flat_map name_foreign_uses) (names_written side w) ≡ foreign_of w.top (flat_map (side_uses side) (parts w))
-written_foreign_uses w side = ap (flat_map (flat_map name_foreign_uses)) (names_written_in w.top side (parts w)) ∙ interfaces_used w.top (flat_map (written_items side) (parts w)) ∙ ap (foreign_of w.top) (sym (side_parts side (parts w)))
+-- so are the names of those that are borrowed
+inside_used : (w : Item) (side : WorldSide) (ns : List Inside) → AreInside side w ns → inside_uses ns ≡ foreign_of w.top (flat_map (side_uses side) (parts w))
+inside_used w side ns are =
+    let of : Item × List ScopeName → List ForeignUse = λ p. flat_map name_foreign_uses p.1 in
+    sym (flat_map-map of (inside_view w) ns)
+    ∙ ap (flat_map of) are
+    ∙ flat_map-map of with_names (inline_on side w)
+    ∙ ap (flat_map (λ (u : Item). flat_map name_foreign_uses (scope_names u))) (numbered side w)
+    ∙ interfaces_used w 0 (interfaces_on side (side_items w))
+    ∙ ap (foreign_of w.top) (ap (flat_map written_uses) (parts_on side (parts w)) ∙ sym (side_parts side (parts w)))
 
--- those of an item
-item-foreign_uses : (w : Item) → flat_map name_foreign_uses (scope_names w) ++ (flat_map (flat_map name_foreign_uses) (names_written Imported w) ++ flat_map (flat_map name_foreign_uses) (names_written Exported w)) ≡ item_foreign_uses w
-item-foreign_uses w =
-    let own = flat_map own_uses (parts w) in
-    let on : WorldSide → List Use = λ side. flat_map (side_uses side) (parts w) in
-    let exported = flat_map (flat_map name_foreign_uses) (names_written Exported w) in
-    let sides = ap (λ (l : List ForeignUse). l ++ exported) (written_foreign_uses w Imported) ∙ ap (λ (l : List ForeignUse). foreign_of w.top (on Imported) ++ l) (written_foreign_uses w Exported) ∙ sym (foreign_of-append w.top (on Imported) (on Exported)) in
-    ap (λ (l : List ForeignUse). l ++ (flat_map (flat_map name_foreign_uses) (names_written Imported w) ++ exported)) (parts-foreign_uses w.top (parts w)) ∙ ap (λ (l : List ForeignUse). foreign_of w.top own ++ l) sides ∙ sym (foreign_of-append w.top own (on Imported ++ on Exported))
-
--- those of one that is borrowed with the right names
+-- those of an item that is borrowed with the right names, and with those of what is written in it
 borrowed-foreign_uses : (files : List PackageFile) (x : BorrowedItem) → IsItemOf files x → borrowed_foreign_uses x ≡ item_foreign_uses (item_view x)
 borrowed-foreign_uses files x is =
     let w = item_view x in
-    let exported = flat_map (flat_map name_foreign_uses) (inside_view Exported x) in
-    let sides = ap (λ (l : List (List ScopeName)). flat_map (flat_map name_foreign_uses) l ++ exported) (is.written Imported) ∙ ap (λ (l : List (List ScopeName)). flat_map (flat_map name_foreign_uses) (names_written Imported w) ++ flat_map (flat_map name_foreign_uses) l) (is.written Exported) in
-    ap (λ (l : List ScopeName). flat_map name_foreign_uses l ++ (flat_map (flat_map name_foreign_uses) (inside_view Imported x) ++ exported)) is.named ∙ ap (λ (l : List ForeignUse). flat_map name_foreign_uses (scope_names w) ++ l) sides ∙ item-foreign_uses w
+    let own = flat_map own_uses (parts w) in
+    let on : WorldSide → List Use = λ side. flat_map (side_uses side) (parts w) in
+    let inside = inside_uses x.imported.items ++ inside_uses x.exported.items in
+    let sides : inside ≡ foreign_of w.top (on Imported ++ on Exported) = ap (λ (l : List ForeignUse). l ++ inside_uses x.exported.items) (inside_used w Imported x.imported.items (is.written Imported)) ∙ ap (λ (l : List ForeignUse). foreign_of w.top (on Imported) ++ l) (inside_used w Exported x.exported.items (is.written Exported)) ∙ sym (foreign_of-append w.top (on Imported) (on Exported)) in
+    ap (λ (l : List ScopeName). flat_map name_foreign_uses l ++ inside) is.named ∙ ap (λ (l : List ForeignUse). l ++ inside) (parts-foreign_uses w.top (parts w)) ∙ ap (λ (l : List ForeignUse). foreign_of w.top own ++ l) sides ∙ sym (foreign_of-append w.top own (on Imported ++ on Exported))
 
 items-foreign_uses : (files : List PackageFile) (xs : List BorrowedItem) → AreItemsOf files xs → flat_map borrowed_foreign_uses xs ≡ flat_map item_foreign_uses (map item_view xs)
 items-foreign_uses files [] are = refl

@@ -1,11 +1,11 @@
 -- What comes before the arenas, while it is made.
-use Rattle.std.specs.Prelude.{◌≡◌, ℕ, suc, List, [], ◌∷◌, ◌++◌, not, None, Vec, map, if◌then◌else◌}
-use Rattle.wit_arena.specs.Common.{Address, AddsForeign, AllDiffer, AstItem, Exported, ForeignUse, ForeignVisit, Global, Imported, Interface, Names, PackageFile, ScopeName, Span, TypeDef, Unknown, Used, World, all_items, filter, first_foreign_uses, firsts, flat_map, foreign_entry, foreign_items, is_foreign, metadata, named, no_docs, owner_at, same_address, same_foreign_use, use_of_foreign, visited}
+use Rattle.std.specs.Prelude.{◌≡◌, ℕ, suc, List, [], ◌∷◌, ◌++◌, not, None, map, if◌then◌else◌}
+use Rattle.wit_arena.specs.Common.{Address, AddsForeign, AllDiffer, AstItem, ForeignUse, ForeignVisit, Interface, Names, PackageFile, ScopeName, Span, TypeDef, Unknown, Used, World, all_items, filter, first_foreign_uses, firsts, flat_map, foreign_entry, foreign_items, is_foreign, metadata, named, no_docs, owner_at, same_address, same_foreign_use, use_of_foreign, visited}
 use Rattle.wit_types.specs.declared.types.TypeDefKind.TheVariants as kind
 use Rattle.wit_model.specs.declared.ast_item.AstItem.TheVariants as entry
 use Rattle.wit_items.specs.declared.items.Item.{Item as BorrowedItem}
 use Rattle.wit_scopes.specs.BorrowedNames.{Borrowed, name_view}
-use Rattle.wit_items.specs.BorrowedItems.{item_view, AreItemsOf, inside_view}
+use Rattle.wit_items.specs.BorrowedItems.{item_view, AreItemsOf, Inside}
 use Rattle.wit_front.specs.declared.foreign.ForeignArenas.{ForeignArenas}
 
 -- an interface of another package with these types
@@ -65,9 +65,12 @@ name_foreign_uses _ = []
 abbrev pub names_foreign_uses : List Borrowed → List ForeignUse
 names_foreign_uses names = flat_map name_foreign_uses (map name_view names)
 
+abbrev pub inside_uses : List Inside → List ForeignUse
+inside_uses inside = flat_map (λ n. names_foreign_uses n.names.items) inside
+
 -- those among the names of an item, and then among those of what is written in it, on the imported side and on the exported one
 abbrev pub borrowed_foreign_uses : BorrowedItem → List ForeignUse
-borrowed_foreign_uses i = names_foreign_uses i.names.items ++ (flat_map (flat_map name_foreign_uses) (inside_view Imported i) ++ flat_map (flat_map name_foreign_uses) (inside_view Exported i))
+borrowed_foreign_uses i = names_foreign_uses i.names.items ++ (inside_uses i.imported.items ++ inside_uses i.exported.items)
 
 -- some names were used from some items, at which what is at hand is placed
 pub record HasUsed (types : List TypeDef) (a : ForeignArenas) (Placed : List Address → Type 0) : Type 0 where
@@ -76,10 +79,6 @@ pub record HasUsed (types : List TypeDef) (a : ForeignArenas) (Placed : List Add
   pub apart : AllDiffer (addresses_among vs)
   pub in_use : AreAdded vs ts types a
   pub placed : Placed (addresses_among vs)
-
--- what names of what is written in items use of other packages
-abbrev pub inside_uses : List (Vec Borrowed Global) → List ForeignUse
-inside_uses inside = flat_map (flat_map name_foreign_uses) (map (λ ns. map name_view ns.items) inside)
 
 -- these names are added to those that were used from some items, which are apart, where what is at hand is placed
 abbrev pub AddsUsed : (old : List TypeDef) (before : ForeignArenas) (new : List TypeDef) (after : ForeignArenas) → (List Address → Type 0) → List ForeignUse → Type 0

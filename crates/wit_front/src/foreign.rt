@@ -11,7 +11,7 @@ ghost use Rattle.wit_front.specs.ForeignPrefix.{AddsPrefix, AddsUsed, AddsVisit,
 use std::alloc::{AllocError, Global};
 use wit_entries::entries::Entries;
 use wit_files::ForeignVisit;
-use wit_items::items::Item;
+use wit_items::items::{Inside, Item};
 use wit_maps::{Table, TextTable};
 use wit_model::{AstItem, Interface, World};
 use wit_notes::stated_metadata;
@@ -223,15 +223,15 @@ impl ForeignArenas {
     /// The error is a failed allocation.
     fn add_used_inside(
         alloc: Global,
-        inside: &[Vec<ScopeName<'_, '_>>],
+        inside: &[Inside<'_, '_>],
         arenas: &mut ForeignArenas,
         types: &mut Entries,
     ) -> Result<(), AllocError>
         requires { HasUsed types.old arenas.old (λ p. ArePlacedInside p inside.now) }
         ensures { OnOk result (AddsUsed types.old arenas.old types.new arenas.new (λ p. ArePlacedInside p inside.now) (inside_uses inside.now)) }
     {
-        for names in inside {
-            ForeignArenas::add_used_by_names(alloc, names, arenas, types)?;
+        for interface in inside {
+            ForeignArenas::add_used_by_names(alloc, &interface.names, arenas, types)?;
         }
         Ok(())
     }

@@ -2,10 +2,8 @@
 use Rattle.std.proofs.Common.{ℕ, List, ◌∙◌, ◌≡◌, zero, suc, map, Some, IsSome, refl, ap, subst, arith, true, false, cond, [], ◌∷◌, ◌++◌, Option, None, inl, inr, nat_eq, take, sym}
 use Rattle.std.specs.List.{find}
 use denote.Ref.{Bor}
-use Rattle.wit_items.proofs.Common.{Metadata, Span, World, Defined, DefinitionPart, Env, ExternPart, FunctionPart, Id, IncludePart, Names, Part, ResourceFunc, ScopeName, SourceFunction, TypeBody, UsePart, definition_functions, env_of, extern_at, flat_map_has, free_function, functions, in_turn, in_turn_has, local_name, local_names, lookup-listed, map_at, names_in, option_map, part_functions, part_names, parts, resource_function, scope_names, slice_get, slice_get-map, AreDistinct, body_ok, bytes_eq, differ_at, differ_by, find-append, insert_entry, lookup, meaning, meant_ok, name_cases, name_itself, option_or, or_none, pointwise, «Type» as Written, Address, AddsFunctions, AllDiffer, AreEnded, Function, Imported, Name, Required, ResolvedScope, SideFunction, SideItem, TypeDef, TypeOwner, address, all_handles, all_handles-append, ended_append, ended_more, flat_map, function_name, is_ascii_uppercase, is_world, list_any, made_name, map_map, name_types, on_side, side_items, side_items_functions, written_types, part_of_function, option_and_then, WorldSide, names_on, items_on}
-use Rattle.wit_items.specs.declared.metadata.ItemMetadata.{ItemMetadata}
-use Rattle.wit_items.specs.BorrowedItems.{metadata_view, AreOf}
-use Rattle.wit_arena.proofs.Common.{Item, WorldInclude, WorldItem, WorldKey, world}
+use Rattle.wit_items.proofs.Common.{Defined, DefinitionPart, Env, ExternPart, FunctionPart, Id, IncludePart, Names, Part, ResourceFunc, ScopeName, SourceFunction, TypeBody, UsePart, definition_functions, env_of, extern_at, flat_map_has, free_function, functions, in_turn, in_turn_has, local_name, local_names, lookup-listed, map_at, names_in, option_map, part_functions, part_names, parts, resource_function, scope_names, slice_get, slice_get-map, AreDistinct, body_ok, bytes_eq, differ_at, differ_by, find-append, insert_entry, lookup, meaning, meant_ok, name_cases, name_itself, option_or, or_none, pointwise, «Type» as Written, Address, AddsFunctions, AllDiffer, AreEnded, Function, Imported, Name, Required, ResolvedScope, SideFunction, SideItem, TypeDef, TypeOwner, address, all_handles, all_handles-append, ended_append, ended_more, flat_map, function_name, is_ascii_uppercase, is_world, list_any, made_name, map_map, name_types, on_side, side_items, side_items_functions, written_types, part_of_function, option_and_then, WorldSide, names_on, items_on}
+use Rattle.wit_arena.proofs.Common.{Item}
 use Rattle.wit_rules.specs.Signatures.{owner_of, HasOwner, HaveOwners, AreResults}
 use Rattle.wit_item_entries.specs.AddedNames.{IsTurn, AddsTurn}
 use Rattle.wit_item_entries.proofs.ReachedFaults.{turn_texts}
@@ -22,10 +20,6 @@ use Rattle.wit_entries.proofs.Resolves.{extended_same}
 use Rattle.wit_type_tree.specs.declared.types.TypeBody.TheVariants as body
 use Rattle.wit_type_tree.specs.declared.types.ResourceFunc.TheVariants as resource
 use Rattle.wit_syntax.specs.SignatureRules.{ok_of}
-
--- an item is what is stated of it
-pub world_stated : (name : List ℕ) (span : Span) (n : Metadata) (borrowed : ItemMetadata) (w : World) (imports exports : List (WorldKey × WorldItem)) (includes : List WorldInclude) → AreOf n borrowed → w ≡ world name imports exports includes (metadata_view borrowed) span → w ≡ world name imports exports includes n span
-world_stated name span n borrowed w imports exports includes are says = (let docs = are.docs in let stability = are.stability in says ∙ cc (docs, stability))
 
 -- The resource of a function of an item is a name of its scope.
 resource_owner : (env : Env) (r : Id) (f : ResourceFunc) → IsSome (env r.name.now) → HasOwner env (owner_of (resource_function r f).role)

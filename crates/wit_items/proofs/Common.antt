@@ -12,6 +12,6 @@ pub use Rattle.wit_items.proofs.Documented.{docs_agree, headers-append}
 pub use Rattle.wit_items.proofs.Found.{found_none, found_put, found_resolved_scope, found_wider, named_within, prefix_wider, source_within, worlds_found}
 pub use Rattle.wit_items.proofs.Others.{IsNoWorld, part_visited, used_visited, world_found, world_missing}
 pub use Rattle.wit_items.proofs.Written.{filed_item, uses_usable, wanted_usable, contains_one, parts_more}
-pub use Rattle.wit_items.specs.BorrowedItems.{declared_view, item_view, others_of, scope_item, AreItemsOf, IsItemOf, inline_names, inside_of, inside_view, names_written, side_uses, written_items, ArePlacedInside, IsItemPlaced}
+pub use Rattle.wit_items.specs.BorrowedItems.{declared_view, item_view, others_of, scope_item, AreItemsOf, IsItemOf, inline_of, inline_on, inside_of, inside_view, side_uses, with_names, ArePlacedInside, IsItemPlaced}
 pub use Rattle.wit_items.specs.ItemPaths.{prefix_of, AreFound, HasItem, entry_at, item_in, source_target, world_at, world_entry, HasAmong}
 pub use Rattle.wit_items.specs.ResolvedInterfaces.{resolved_scopes_of, source_place, unresolved_fault}

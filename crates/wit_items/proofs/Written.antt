@@ -1,14 +1,14 @@
 -- The paths of uses, part by part.
-use Rattle.std.proofs.Common.{◌≡◌, ℕ, zero, suc, List, [], ◌∷◌, ◌++◌, Some, sym, ap, ◌∙◌, arith, Contains, Bool, cond, inl, inr, refl, None, true, false, Option, subst}
-use Rattle.wit_arena.proofs.Common.{Declared, DefinitionPart, ExternPart, FunctionPart, IncludePart, PackageFile, Part, UsePart, UsePath, about, at_contains, at_prefix, contains_at, extern_paths, flat_map, flat_map_at, flat_map_has, inline_uses, map, map-append, option_map, part_uses, parts, slice_get, slice_get-map, use_path, ExternKind, InterfaceItem, ScopeName, SideFunction, SideItem, SourceFunction, TopName, WorldSide, append-nil, cases_Bool, definition_functions, extern_items, filter-append, flat_map-append, free_function, interface_part, item_side, items_on, own_uses, part_items, part_names, same_side, Exported, Extern, Imported, Item, TheInterface, option_or, side_itself, walk, AreUsableUses, Foreign, ForeignNamed, ForeignVisit, Id, Local, PackageName, Target, all_items, declared_items, file_items, foreign_at, is_world, is_world_at, item_named, item_word, leads, missing_at, path_id, slice_get_within, top_names}
+use Rattle.std.proofs.Common.{◌≡◌, ℕ, zero, suc, List, [], ◌∷◌, ◌++◌, Some, sym, ap, ◌∙◌, arith, Contains, Bool, inl, inr, refl, None, true, false, Option, subst}
+use Rattle.wit_arena.proofs.Common.{Declared, DefinitionPart, ExternPart, FunctionPart, IncludePart, PackageFile, Part, UsePart, UsePath, about, at_contains, at_prefix, contains_at, extern_paths, flat_map, flat_map_at, flat_map_has, inline_uses, map, map-append, option_map, part_uses, parts, slice_get, slice_get-map, use_path, ExternKind, InterfaceItem, SideFunction, SideInline, SideItem, SideLink, TopName, WorldSide, interfaces_on, interfaces_on-append, append-nil, cases_Bool, definition_functions, extern_items, filter, free_function, is_interface, interface_part, own_uses, part_items, same_side, Exported, Extern, Imported, Item, TheInterface, option_or, side_itself, walk, AreUsableUses, Foreign, ForeignNamed, ForeignVisit, Id, Local, PackageName, Target, all_items, declared_items, file_items, foreign_at, is_world, is_world_at, item_named, item_word, leads, missing_at, path_id, slice_get_within, top_names}
 use Rattle.wit_syntax.proofs.Common.{Use as WrittenUse, Interface, AstItem}
 use Rattle.wit_top_names.proofs.Lost.{flat_more}
 use Rattle.wit_items.specs.ItemPaths.{HasItem, HasPath}
-use Rattle.wit_items.specs.BorrowedItems.{inline_names, kind_items, written_items, side_uses, names_written, inside_view, declared_view, IsItemOf}
+use Rattle.wit_items.specs.BorrowedItems.{AreInside, IsItemOf, declared_view, inside_of, side_uses}
+use Rattle.wit_items.proofs.Inlined.{extern_on, no_interfaces}
 use Rattle.wit_first.specs.UseFaults.{item_uses_fault, use_fault, all_uses_fault, path_fault, reached_fault}
 use Rattle.wit_first.proofs.Bridge.{in_only, or_none_both}
 use Rattle.wit_first.proofs.First.{in-append}
-use Rattle.wit_scopes.specs.BorrowedNames.{name_view}
 use Rattle.wit_items.specs.declared.items.Item.{Item as Borrowed}
 use Rattle.wit_first.specs.First.{first_in}
 use Rattle.wit_first.specs.AttributeFaults.{metadata_fault}
@@ -56,11 +56,7 @@ path_of_use ps u among =
 pub use_has_path : (files : List PackageFile) (place : ℕ) (d : Declared) (u : WrittenUse) → HasItem files place d → Contains (flat_map part_uses (about d).parts) u → HasPath files place u.from
 use_has_path files place d u item among = record { declared = d; item = item; among = path_of_use (about d).parts u among }
 
--- The uses and the names of interfaces that are written in a world: those of its parts on each side.
--- the uses of an interface of these items
-abbrev pub items_uses : List InterfaceItem → List WrittenUse
-items_uses items = flat_map own_uses (map interface_part items)
-
+-- The uses of interfaces that are written in a world: those of its parts on each side.
 -- those of a part are its own, or those of the interface that is written in it
 pub own_among : (p : Part) (u : WrittenUse) → Contains (own_uses p) u → Contains (part_uses p) u
 own_among (DefinitionPart d) u among = among
@@ -82,76 +78,44 @@ side_among side (ExternPart x) u among = elim (cases_Bool (same_side side x.side
       absurd (let f : ⊥ = cc in f))
 ]
 
--- the uses of the interface that is written in a part are those of its items
-pub uses_written : (side : WorldSide) (p : Part) → side_uses side p ≡ flat_map items_uses (written_items side p)
-uses_written side (DefinitionPart d) = refl
+-- the uses of what is on a side: those of an interface that is written there
+abbrev pub written_uses : SideItem → List WrittenUse
+written_uses (SideInline x name items) = flat_map own_uses (map interface_part items)
+written_uses _ = []
+
+-- the interfaces that a part is on a side
+abbrev pub part_on : WorldSide → Part → List SideItem
+part_on side p = interfaces_on side (part_items p)
+
+pub extern_uses : (x : Extern) (kind : ExternKind) → flat_map written_uses (extern_items x kind) ≡ inline_uses kind
+extern_uses x (extern.Interface name items) = append-nil (flat_map own_uses (map interface_part items.items))
+extern_uses x (extern.Path path) = refl
+extern_uses x (extern.Func name f) = refl
+extern_uses x (extern.NamedPath name path) = refl
+
+-- functions have none
+uses_kept : (xs : List SideItem) → flat_map written_uses (filter is_interface xs) ≡ flat_map written_uses xs
+uses_kept [] = refl
+uses_kept (SideFunction fn ∷ xs) = uses_kept xs
+uses_kept (SideLink link ∷ xs) = uses_kept xs
+uses_kept (SideInline x name items ∷ xs) = ap (λ (l : List WrittenUse). written_uses (SideInline x name items) ++ l) (uses_kept xs)
+
+-- those of a part are those of its interfaces
+pub uses_written : (side : WorldSide) (p : Part) → side_uses side p ≡ flat_map written_uses (part_on side p)
+uses_written side (DefinitionPart d) = ap (flat_map written_uses) (sym (no_interfaces side (definition_functions d.name d.body)))
 uses_written side (UsePart u) = refl
 uses_written side (IncludePart i) = refl
-uses_written side (FunctionPart f) = refl
+uses_written side (FunctionPart f) = ap (flat_map written_uses) (sym (no_interfaces side (free_function f ∷ [])))
 uses_written side (ExternPart x) = elim (cases_Bool (same_side side x.side)) [
-  | inl here ↦ rw here (of_kind x.kind)
-  | inr there ↦ rw there refl
-]
-  where
-    of_kind : (kind : ExternKind) → inline_uses kind ≡ flat_map items_uses (kind_items kind)
-    of_kind (extern.Interface name items) = sym (append-nil (items_uses items.items))
-    of_kind (extern.Path path) = refl
-    of_kind (extern.Func name f) = refl
-    of_kind (extern.NamedPath name path) = refl
-
--- the names of an interface of these items
-abbrev pub items_names : List TopName → List InterfaceItem → List ScopeName
-items_names top items = flat_map (part_names top) (map interface_part items)
-
--- a function brings no names of an interface
-functions_none : (top : List TopName) (side : WorldSide) (fns : List SourceFunction) → flat_map (inline_names top) (items_on side (map SideFunction fns)) ≡ []
-functions_none top side [] = refl
-functions_none top side (fn ∷ fns) = elim (cases_Bool (same_side side (item_side (SideFunction fn)))) [
-  | inl here ↦ rw here (functions_none top side fns)
-  | inr there ↦ rw there (functions_none top side fns)
+  | inl here ↦ rw here (sym (ap (flat_map written_uses) (extern_on side x true here) ∙ uses_kept (extern_items x x.kind) ∙ extern_uses x x.kind))
+  | inr there ↦ rw there (sym (ap (flat_map written_uses) (extern_on side x false there)))
 ]
 
--- the names of the interface that is written in a part are those of its items
-part_written : (top : List TopName) (side : WorldSide) (p : Part) → flat_map (inline_names top) (items_on side (part_items p)) ≡ map (items_names top) (written_items side p)
-part_written top side (DefinitionPart d) = functions_none top side (definition_functions d.name d.body)
-part_written top side (UsePart u) = refl
-part_written top side (IncludePart i) = refl
-part_written top side (FunctionPart f) = functions_none top side (free_function f ∷ [])
-part_written top side (ExternPart x) = of_kind x.kind
-  where
-    of_kind : (kind : ExternKind) → flat_map (inline_names top) (items_on side (extern_items x kind)) ≡ map (items_names top) (cond (same_side side x.side) (kind_items kind) [])
-    of_kind (extern.Interface name items) = elim (cases_Bool (same_side side x.side)) [
-      | inl here ↦ rw here refl
-      | inr there ↦ rw there refl
-    ]
-    of_kind (extern.Path path) = elim (cases_Bool (same_side side x.side)) [
-      | inl here ↦ rw here refl
-      | inr there ↦ rw there refl
-    ]
-    of_kind (extern.Func name f) = elim (cases_Bool (same_side side x.side)) [
-      | inl here ↦ rw here refl
-      | inr there ↦ rw there refl
-    ]
-    of_kind (extern.NamedPath name path) = elim (cases_Bool (same_side side x.side)) [
-      | inl here ↦ rw here refl
-      | inr there ↦ rw there refl
-    ]
+-- what parts have on a side, part by part
+pub parts_on : (side : WorldSide) (ps : List Part) → interfaces_on side (flat_map part_items ps) ≡ flat_map (part_on side) ps
+parts_on side [] = refl
+parts_on side (p ∷ ps) = interfaces_on-append side (part_items p) (flat_map part_items ps) ∙ ap (λ (l : List SideItem). part_on side p ++ l) (parts_on side ps)
 
-pub names_written_in : (top : List TopName) (side : WorldSide) (ps : List Part) → flat_map (inline_names top) (items_on side (flat_map part_items ps)) ≡ map (items_names top) (flat_map (written_items side) ps)
-names_written_in top side [] = refl
-names_written_in top side (p ∷ ps) =
-    let rest = flat_map part_items ps in
-    let on : SideItem → Bool = λ x. same_side side (item_side x) in
-    ap (flat_map (inline_names top)) (filter-append on (part_items p) rest) ∙ flat_map-append (inline_names top) (items_on side (part_items p)) (items_on side rest) ∙ ap (λ l. l ++ flat_map (inline_names top) (items_on side rest)) (part_written top side p) ∙ ap (λ l. map (items_names top) (written_items side p) ++ l) (names_written_in top side ps) ∙ sym (map-append (items_names top) (written_items side p) (flat_map (written_items side) ps))
-
--- the uses of the interface that is written in a part, if one is
-pub written_uses : (side : WorldSide) (p : Part) (items : List InterfaceItem) → items ∷ [] ≡ written_items side p → flat_map own_uses (map interface_part items) ≡ side_uses side p
-written_uses side p items written = sym (uses_written side p ∙ ap (flat_map items_uses) (sym written) ∙ append-nil (items_uses items))
-
-pub unwritten_uses : (side : WorldSide) (p : Part) → [] ≡ written_items side p → side_uses side p ≡ []
-unwritten_uses side p none = uses_written side p ∙ ap (flat_map items_uses) (sym none)
-
--- The uses and the names of interfaces that are written in a world: those of its parts on each side.
 -- of an interface, whose parts bring nothing on a side, those of an item are those of its parts
 none_on : (side : WorldSide) (xs : List InterfaceItem) → flat_map (side_uses side) (map interface_part xs) ≡ []
 none_on side [] = refl
@@ -201,19 +165,8 @@ module _ (files : List PackageFile) (top : List TopName) (ps : List Part) (none 
       by_part m (FunctionPart f) at among = nothing among
       by_part m (ExternPart x) at among = right_in (flat_map (side_uses x.side) ps) u (on_side x.side) (among_flat (side_uses x.side) ps m (ExternPart x) u at (rw (side_itself x.side) among))
 
--- none is written in an interface
-pub interface_unwritten : (side : WorldSide) (xs : List InterfaceItem) → flat_map (written_items side) (map interface_part xs) ≡ []
-interface_unwritten side [] = refl
-interface_unwritten side (interface_item.TypeDef d ∷ xs) = interface_unwritten side xs
-interface_unwritten side (interface_item.Use u ∷ xs) = interface_unwritten side xs
-interface_unwritten side (interface_item.Func f ∷ xs) = interface_unwritten side xs
-
--- so an interface has no names of such
-pub interface_inside : (side : WorldSide) (top : List TopName) (i : Interface) → names_written side (record { top = top; declared = TheInterface i }) ≡ []
-interface_inside side top i = names_written_in top side (map interface_part i.items.items) ∙ ap (map (items_names top)) (interface_unwritten side i.items.items)
-
--- names that are borrowed are those that are written, where both sides are
-pub inside_is : (i : Borrowed) (w : Item) → map (λ ns. map name_view ns.items) i.imported.items ≡ names_written Imported w → map (λ ns. map name_view ns.items) i.exported.items ≡ names_written Exported w → (side : WorldSide) → inside_view side i ≡ names_written side w
+-- the interfaces that are borrowed are those that are written, where both sides are
+pub inside_is : (i : Borrowed) (w : Item) → AreInside Imported w i.imported.items → AreInside Exported w i.exported.items → (side : WorldSide) → AreInside side w (inside_of side i)
 inside_is i w imported exported Imported = imported
 inside_is i w imported exported Exported = exported
 

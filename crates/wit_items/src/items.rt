@@ -3,7 +3,7 @@ ghost use Rattle.std.specs.Prelude.{◌≡◌, ◌++◌, Some, map, slice_get, I
 ghost use Rattle.wit_syntax.specs.Source.{TheWorld, file_items, all_items};
 ghost use Rattle.wit_first.specs.First.{Finds, first_in};
 ghost use Rattle.wit_first.specs.UseFaults.{all_uses_fault, item_uses_fault};
-ghost use Rattle.wit_items.specs.BorrowedItems.{item_view, scope_item, AreItemsOf, AreWorldNames};
+ghost use Rattle.wit_items.specs.BorrowedItems.{inside_of, item_view, scope_item, AreItemsOf, AreWorldNames};
 ghost use Rattle.wit_items.specs.ItemPaths.{HasItem, item_in};
 
 use crate::files::Files;
@@ -39,17 +39,29 @@ pub enum Declared<'f, 'a> {
     Inline(InlineInterface<'f, 'a>),
 }
 
-/// A declared item with the names of its scope, and of each that is written in it.
+/// What is written in a world, with the names of its scope.
+#[derive(Drop)]
+pub struct Scoped<I: Drop, N: Drop> {
+    pub inline: I,
+    pub names: Vec<N>,
+}
+
+/// An interface that is written in a world, with the names of its scope.
+///
+/// A list of them is one of [`Scoped`]s, which know nothing of the trees that they borrow from.
+pub type Inside<'f, 'a> = Scoped<InlineInterface<'f, 'a>, ScopeName<'f, 'a>>;
+
+/// A declared item with the names of its scope, and the interfaces that are written in it.
 pub struct Item<'f, 'a> {
     /// The place of the file that declares it.
     pub place: usize,
     pub file: &'f PackageFile<'a>,
     pub declared: Declared<'f, 'a>,
     pub names: Vec<ScopeName<'f, 'a>>,
-    /// Those of each interface that is written where it imports it, in source order.
-    pub imported: Vec<Vec<ScopeName<'f, 'a>>>,
-    /// Those of each that is written where it exports it.
-    pub exported: Vec<Vec<ScopeName<'f, 'a>>>,
+    /// The interfaces that are written where it imports them, in source order.
+    pub imported: Vec<Inside<'f, 'a>>,
+    /// Those that are written where it exports them.
+    pub exported: Vec<Inside<'f, 'a>>,
 }
 
 impl Drop for Item<'_, '_> {
@@ -81,7 +93,7 @@ fn copied<'f, 'a>(declared: &Declared<'f, 'a>) -> Declared<'f, 'a>
 }
 
 impl<'f, 'a> Item<'f, 'a> {
-    /// The item with its names, but for those of what is written in it.
+    /// The item with its names, but for what is written in it.
     pub fn scope(&self) -> ItemScope<'f, 'a, '_>
         ensures item { scope_item result ≡ item_view self.now }
         ensures borrowed { result.names.now ≡ self.now.names.items }
@@ -92,14 +104,24 @@ impl<'f, 'a> Item<'f, 'a> {
             names: &self.names,
         }
     }
+
+    /// The interfaces that are written on a side of it.
+    pub fn inside(&self, side: WorldSide) -> &[Inside<'f, 'a>]
+        ensures { result.now ≡ inside_of side self.now }
+    {
+        match side {
+            WorldSide::Imported => &self.imported,
+            WorldSide::Exported => &self.exported,
+        }
+    }
 }
 
-/// The names of the scope of a world, and those of each interface that is written in it, by its side.
+/// The names of the scope of a world, and the interfaces that are written in it, by their sides.
 #[derive(Drop)]
 struct WorldNames<'f, 'a> {
     own: Vec<ScopeName<'f, 'a>>,
-    imported: Vec<Vec<ScopeName<'f, 'a>>>,
-    exported: Vec<Vec<ScopeName<'f, 'a>>>,
+    imported: Vec<Inside<'f, 'a>>,
+    exported: Vec<Inside<'f, 'a>>,
 }
 
 /// Those of a world that the file at a place declares.

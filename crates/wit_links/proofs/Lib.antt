@@ -1,3 +1,2 @@
-mod Counted
-pub mod Inlined
+pub mod Counted
 pub mod Leading

@@ -1,18 +1,16 @@
--- Where includes and the paths of a world lead, once all interfaces are resolved, and their first fault: E30 to E34 and E11; and how many are on its sides.
-use Rattle.std.specs.Prelude.{if◌then◌else◌, List, Option, None, Some, is_none, ◌≡◌, ℕ, false, true, length}
-use Rattle.wit_arena.specs.Common.{Address, Exported, Fault, ForeignNamed, Imported, Include, InterfaceNamed, Item, Names, PackageFile, SideInline, SideItem, TheInline, TopName, UsePath, WorldInclude, WorldSide, env_of, filter, flat_map, includes, interface_there, is_interface, is_world_at, item_function, item_inline, item_side, items_on, leads, option_or, path_id, path_scope, place_at, worlds_at}
+-- Where includes and the paths of a world lead, once all interfaces are resolved, and their first fault: E30 to E34 and E11; and what occurred on its sides.
+use Rattle.std.specs.Prelude.{if◌then◌else◌, List, Option, None, Some, is_none, ◌≡◌, ℕ, false, length}
+use Rattle.wit_arena.specs.Common.{Address, Exported, Fault, ForeignNamed, Imported, Include, InterfaceNamed, Item, Names, PackageFile, SideInline, SideItem, TopName, UsePath, WorldInclude, WorldSide, env_of, flat_map, includes, interface_there, is_world_at, item_function, item_inline, items_on, leads, option_or, path_id, path_scope, place_at, worlds_at}
 use Rattle.wit_arena.specs.Made.{include_in, scope_place}
 use Rattle.wit_arena.specs.Resolving.{GivesPlaces}
 use Rattle.wit_first.specs.AttributeFaults.{stability_fault}
 use Rattle.wit_first.specs.First.{first_in}
-use Rattle.wit_items.specs.ItemPaths.{world_at}
+use Rattle.wit_items.specs.ItemPaths.{world_at, prefix_of}
 use Rattle.wit_items.specs.BorrowedItems.{others_of}
 use Rattle.wit_links.specs.declared.resolved.Resolved.{Resolved}
 use Rattle.wit_first.specs.UseFaults.{path_fault}
-use Rattle.wit_items.specs.ItemPaths.{prefix_of}
 use Rattle.wit_items.specs.ResolvedInterfaces.{unresolved_fault}
 use Rattle.wit_items.specs.declared.items.InlineInterface.{InlineInterface}
-use Rattle.wit_links.specs.declared.inside.Counts.{Counts}
 use Rattle.wit_links.specs.declared.inside.Seen.{Seen}
 
 -- the addresses of the worlds that are resolved
@@ -49,25 +47,16 @@ IsLinkedTo files by_name top path id = (is_world_at files (leads top path) ≡ S
 abbrev pub linked_fault : List PackageFile → Names → List TopName → UsePath → Option Fault
 linked_fault files by_name top path = option_or (path_fault files top path None) (unresolved_fault by_name (leads top path))
 
--- what occurred on a side
-abbrev pub seen_on : WorldSide → Seen → Counts
-seen_on Imported m = m.imports
-seen_on Exported m = m.exports
+-- how many of the interfaces that are written on a side occurred
+abbrev pub seen_on : WorldSide → Seen → ℕ
+seen_on Imported m = m.imported
+seen_on Exported m = m.exported
 
--- how many interfaces are among these on each side, how many of them are written there, and how many functions are among them
+-- how many interfaces are written among these on each side, and how many functions are among them
 pub record IsSeen (xs : List SideItem) (m : Seen) : Type 0 where
-  pub interfaces : (side : WorldSide) → (seen_on side m).interfaces ≡ length (filter is_interface (items_on side xs))
-  pub inline : (side : WorldSide) → (seen_on side m).inline ≡ length (flat_map item_inline (items_on side xs))
+  pub inline : (side : WorldSide) → seen_on side m ≡ length (flat_map item_inline (items_on side xs))
   pub functions : m.functions ≡ length (flat_map item_function xs)
 
--- it is an interface on a side, of which so many are written there
-abbrev pub IsInterfaceOn : WorldSide → ℕ → SideItem → Type 0
-IsInterfaceOn side inline x = (is_interface x ≡ true) × (item_side x ≡ side) × (length (item_inline x) ≡ inline)
-
--- the item that an interface is which is written in another one
-abbrev pub inline_of : Item → InlineInterface → Item
-inline_of i x = record { top = i.top; declared = TheInline x.world.now x.place x.written.now x.name x.items.now }
-
--- and what it is on its side
+-- what an interface that is written in an item is on its side
 abbrev pub inline_side : InlineInterface → SideItem
 inline_side x = SideInline x.written.now x.name x.items.now

@@ -1,19 +1,23 @@
-use Rattle.std.proofs.Common.{sym, ap}
-use Rattle.wit_contents.proofs.Names.{Declared, about, on_ok_weaker}
-use Rattle.wit_links.specs.declared.inside.Counts.{Counts}
+use Rattle.std.proofs.Common.{[], ◌∷◌, subst, arith}
+use Rattle.wit_contents.proofs.Names.{IsNext, SideItem, on_ok_weaker, walk_of}
+use Rattle.wit_contents.proofs.MemberFaults.{next_side, next_there, next_within}
 use Rattle.wit_contents.proofs.walk.walk_extern.Goals as goal
 
-pub declared_world-world-requires : goal.declared_world-world-requires
-declared_world-world-requires c = c.requires.walk.world.sort
+pub bounds-there-next : goal.bounds-there-next
+bounds-there-next c = next_within (rw c.in-Interface.is at c.requires) c.inside-there.result.now c.on-next.result c.inside-there.ensures c.on-next.ensures
+
+pub offset_bounds-there-next : goal.offset_bounds-there-next
+offset_bounds-there-next c =
+    let within = next_within (rw c.in-Interface.is at c.requires) c.inside-there.result.now c.on-next.result c.inside-there.ensures c.on-next.ensures in
+    omega arith
 
 pub walk_inline-requires-clause-next : goal.walk_inline-requires-clause-next
-walk_inline-requires-clause-next c = rw (c.in-Interface.is, ← c.deref.ensures.value) at c.requires
+walk_inline-requires-clause-next c =
+    let n = rw c.in-Interface.is at c.requires in
+    subst (λ (x : SideItem). IsNext (walk_of c.args.item.now c.args.walk.now) (x ∷ []) c.args.walked.now) (next_side n c.inside-there.result.now c.on-next.result c.inside-there.ensures c.on-next.ensures c.index-there-next.result c.index-there-next.is) n
 
-pub walk_inline-requires-clause-world : goal.walk_inline-requires-clause-world
-walk_inline-requires-clause-world c = ap (λ (d : Declared). (about d).id.name.now) (sym c.declared_world-world.ensures)
-
-pub walk_inline-requires-clause-place : goal.walk_inline-requires-clause-place
-walk_inline-requires-clause-place c = ap (λ (k : Counts). k.interfaces) c.on-counts.ensures
+pub walk_inline-requires-clause-there : goal.walk_inline-requires-clause-there
+walk_inline-requires-clause-there c = next_there (rw c.in-Interface.is at c.requires) c.inside-there.result.now c.on-next.result c.inside-there.ensures c.on-next.ensures c.index-there-next.result c.index-there-next.is
 
 pub walk_function-requires : goal.walk_function-requires
 walk_function-requires c = rw (c.in-Func.is, ← c.extern_part_function-borrowed.ensures) at c.requires
@@ -25,7 +29,9 @@ pub walk_link-requires-in-NamedPath : goal.walk_link-requires-in-NamedPath
 walk_link-requires-in-NamedPath c = rw c.in-NamedPath.is at c.requires
 
 pub returns-in-Interface-clause-adds : goal.returns-in-Interface-clause-adds
-returns-in-Interface-clause-adds c = rw (c.in-Interface.is, ← c.deref.ensures.value) c.walk_inline.ensures.adds
+returns-in-Interface-clause-adds c =
+    let same = next_side (rw c.in-Interface.is at c.requires) c.inside-there.result.now c.on-next.result c.inside-there.ensures c.on-next.ensures c.index-there-next.result c.index-there-next.is in
+    rw (c.in-Interface.is, same) c.walk_inline.ensures.adds
 
 pub returns-in-Func-clause-adds : goal.returns-in-Func-clause-adds
 returns-in-Func-clause-adds c = rw (c.in-Func.is, ← c.extern_part_function-borrowed.ensures) c.walk_function.ensures.adds
@@ -37,7 +43,9 @@ pub returns-in-NamedPath-clause-adds : goal.returns-in-NamedPath-clause-adds
 returns-in-NamedPath-clause-adds c = rw c.in-NamedPath.is (on_ok_weaker c.walk_link-in-NamedPath.result (λ adds. adds c.args.growing.now) c.walk_link-in-NamedPath.ensures.adds)
 
 pub returns-in-Interface-clause-first : goal.returns-in-Interface-clause-first
-returns-in-Interface-clause-first c = rw (c.in-Interface.is, ← c.deref.ensures.value) c.walk_inline.ensures.first
+returns-in-Interface-clause-first c =
+    let same = next_side (rw c.in-Interface.is at c.requires) c.inside-there.result.now c.on-next.result c.inside-there.ensures c.on-next.ensures c.index-there-next.result c.index-there-next.is in
+    rw (c.in-Interface.is, same) c.walk_inline.ensures.first
 
 pub returns-in-Func-clause-first : goal.returns-in-Func-clause-first
 returns-in-Func-clause-first c = rw (c.in-Func.is, ← c.extern_part_function-borrowed.ensures) c.walk_function.ensures.first

@@ -1,9 +1,9 @@
-use Rattle.std.proofs.Common.{◌≡◌, List, Some, length, refl, ap, ◌∙◌}
-use Rattle.wit_contents.proofs.Names.{SideItem, SideLink, declared_view, err_from_is_err_and, filed_item, none_both, path_link, path_scope, prefix_of, side_items, reports_back, reports_prefix, slice_get, stage, walk_of, item_view}
+use Rattle.std.proofs.Common.{◌≡◌, List, Some, length, ap, ◌∙◌}
+use Rattle.wit_contents.proofs.Names.{SideItem, SideLink, declared_view, err_from_is_err_and, filed_item, finds_back, on_ok_weaker, path_link, path_scope, prefix_of, side_items, reports_back, reports_prefix, slice_get, stage, walk_of, item_view}
 use Rattle.wit_externs.proofs.Steps.{at_middle}
 use Rattle.wit_item_entries.proofs.ReachedFaults.{done, failed}
 use Rattle.wit_links.proofs.Leading.{called_at}
-use Rattle.wit_contents.proofs.FileFaults.{memory_found}
+use Rattle.wit_links.proofs.Counted.{seen_link}
 use Rattle.wit_contents.proofs.MemberFaults.{link_found, link_leads, link_put, link_reached}
 use Rattle.wit_contents.proofs.Members.{member_link}
 use Rattle.wit_contents.proofs.walk.walk_link.Goals as goal
@@ -18,14 +18,14 @@ linked_id-requires c =
     record { path = record { declared = declared_view w.item.declared; item = filed_item w.interfaces.files w.item n.walk.world.item; among = path_among (item_view w.item) (length n.prefix) link at } }
 
 pub returns-clause-adds : goal.returns-clause-adds
-returns-clause-adds c = λ g n.
+returns-clause-adds c = on_ok_weaker c.put_link.result (λ puts g n. (
     let w = walk_of c.args.item.now c.args.walk.now in
     let is = w.interfaces in
     let link = path_link c.args.link in
     let id = c.in_ok-id.id in
     let leads = link_leads n id c.in_ok-id.ensures.leads in
     let present = called_at (prefix_of is.files) is.arena is.by_name (path_scope (item_view w.item).top link.path) id is.prefix is.found leads.1 in
-    member_link w n.prefix (stage g c.args.walked.now) link id _ leads.1 present (c.in_ok-put_link.ensures.puts n.keyed) (λ ys seen. c.in_ok-seen.ensures ys (SideLink link) (refl, refl, refl) seen)
+    member_link w n.prefix (stage g c.args.walked.now) link id _ leads.1 present (puts n.keyed) (λ ys seen. seen_link ys link _ seen))) c.put_link.ensures.puts
 
 pub returns-in_err-check_metadata-clause-first : goal.returns-in_err-check_metadata-clause-first
 returns-in_err-check_metadata-clause-first c =
@@ -39,18 +39,9 @@ returns-in_err-id-clause-first c =
     let noted = rw c.deref.ensures.value at c.in_ok-check_metadata.ensures in
     rw (p.1, p.2) (λ g n. link_found n (failed _) g (reports_back noted (reports_prefix _ (link_reached n (failed _) c.in_err-id.ensures.first))))
 
-pub returns-in_err-put_link-clause-first : goal.returns-in_err-put_link-clause-first
-returns-in_err-put_link-clause-first c =
-    let p = err_from_is_err_and c.from_residual-in_err-put_link.result c.from_residual-in_err-put_link.ensures.1 in
-    let noted = rw c.deref.ensures.value at c.in_ok-check_metadata.ensures in
-    let id = c.in_ok-id.id in
-    rw (p.1, p.2) (λ g n. link_found n (failed _) g (reports_back noted (reports_back (link_reached n (done id) c.in_ok-id.ensures.first) (link_put n (failed _) id c.in_ok-id.ensures.leads c.in_err-put_link.ensures.first))))
-
-pub returns-in_err-seen-clause-first : goal.returns-in_err-seen-clause-first
-returns-in_err-seen-clause-first c = λ g n test right. memory_found _ c.from_residual-in_err-seen.result c.from_residual-in_err-seen.ensures.1
-
 pub returns-clause-first : goal.returns-clause-first
 returns-clause-first c = λ g n.
     let noted = rw c.deref.ensures.value at c.in_ok-check_metadata.ensures in
     let id = c.in_ok-id.id in
-    link_found n (done id) g (none_both noted (none_both (link_reached n (done id) c.in_ok-id.ensures.first) (link_put n (done id) id c.in_ok-id.ensures.leads c.in_ok-put_link.ensures.first)))
+    let r = c.put_link.result in
+    link_found n r g (finds_back _ r noted (finds_back _ r (link_reached n (done id) c.in_ok-id.ensures.first) (link_put n r id c.in_ok-id.ensures.leads c.put_link.ensures.first)))

@@ -9,9 +9,10 @@ use Rattle.wit_files.specs.FileNames.{names_at_top}
 use Rattle.wit_top_names.proofs.Lost.{flat_more}
 use Rattle.wit_scopes.specs.BorrowedNames.{AreNamesPlaced}
 use Rattle.wit_scopes.proofs.Placed.{one_more}
-use Rattle.wit_items.specs.BorrowedItems.{item_view}
+use Rattle.wit_items.specs.BorrowedItems.{inside_view, item_view, Inside}
+use Rattle.wit_items.proofs.Inlined.{interface_inside}
 use Rattle.wit_items.proofs.PlacedNames.{items_more, none_all, placed_inside}
-use Rattle.wit_items.proofs.Written.{use_has_path, declared_among, item_among, item_declared, interface_uses, interface_inside, inside_is}
+use Rattle.wit_items.proofs.Written.{use_has_path, declared_among, item_among, item_declared, interface_uses, inside_is}
 use Rattle.wit_items.proofs.items.add_items.Goals.{in-Interface+in_ok-interface_names-in-Interface+in_ok-push-in-Interface, in-World+in_ok-names-in-World+in_ok-push-in-World, in-Use}
 use Rattle.wit_items.proofs.items.add_items.Goals as goal
 
@@ -94,8 +95,8 @@ loop-item-preserved c =
               file = c.requires.file;
               among = item_among files c.args.place file w c.requires.file among;
               named = e.view;
-              written = inside_is _ w (ap (map _) b.new.ensures.items ∙ sym (interface_inside Imported top b.in-Interface.interface)) (ap (map _) b.new-in-Interface.ensures.items ∙ sym (interface_inside Exported top b.in-Interface.interface));
-              placed = record { own = e.placed; inside = placed_inside prefix _ (none_all (λ ns. AreNamesPlaced prefix ns.items) _ b.new.ensures.items) (none_all (λ ns. AreNamesPlaced prefix ns.items) _ b.new-in-Interface.ensures.items) };
+              written = inside_is _ w (ap (map (inside_view w)) b.new.ensures.items ∙ interface_inside Imported w refl) (ap (map (inside_view w)) b.new-in-Interface.ensures.items ∙ interface_inside Exported w refl);
+              placed = record { own = e.placed; inside = placed_inside prefix _ (none_all (λ (n : Inside). AreNamesPlaced prefix n.names.items) _ b.new.ensures.items) (none_all (λ (n : Inside). AreNamesPlaced prefix n.names.items) _ b.new-in-Interface.ensures.items) };
             });
             none = in-following (wrong files top) xs i x here was.none (ap (wrong files top) b.in-Interface.is ∙ or_none (item_uses_fault files w) ∙ interface_uses files top b.in-Interface.interface ∙ e.first);
           }))

@@ -13,8 +13,8 @@ use Rattle.wit_items.proofs.items.names_of_world.Goals as goal
 pub returns-clause-names : goal.returns-clause-names
 returns-clause-names c = record {
   own = c.in_ok-world_names.ensures.view;
-  imported = c.in_ok-names_inside.ensures.names;
-  exported = c.in_ok-names_inside-2.ensures.names;
+  imported = c.in_ok-names_inside.ensures.are;
+  exported = c.in_ok-names_inside-2.ensures.are;
   own_placed = c.in_ok-world_names.ensures.placed;
   imported_placed = c.in_ok-names_inside.ensures.placed;
   exported_placed = c.in_ok-names_inside-2.ensures.placed;

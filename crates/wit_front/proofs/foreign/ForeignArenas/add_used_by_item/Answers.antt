@@ -1,6 +1,6 @@
 use Rattle.std.proofs.Common.{◌++◌, List, ◌∙◌, subst, append_assoc}
-use Rattle.wit_items.proofs.Common.{Exported, ForeignUse, Imported, flat_map, inside_view, map, name_view, on_ok_weaker}
-use Rattle.wit_front.specs.ForeignPrefix.{AreAdded, name_foreign_uses}
+use Rattle.wit_items.proofs.Common.{Exported, ForeignUse, Imported, on_ok_weaker}
+use Rattle.wit_front.specs.ForeignPrefix.{AreAdded, inside_uses, names_foreign_uses}
 use Rattle.wit_front.proofs.foreign.ForeignArenas.add_used_by_item.Goals as goal
 
 pub add_used_by_names-requires : goal.add_used_by_names-requires
@@ -13,23 +13,23 @@ add_used_inside-requires c =
     let had = c.requires in
     let x = c.args.item.now in
     let first = (rw c.deref.ensures.value at c.in_ok-add_used_by_names.ensures) had.vs had.ts had.apart had.placed.own had.in_use in
-    record { vs = had.vs; ts = had.ts ++ flat_map name_foreign_uses (map name_view x.names.items); apart = had.apart; in_use = first; placed = rw c.deref-2.ensures.value (had.placed.inside Imported) }
+    record { vs = had.vs; ts = had.ts ++ names_foreign_uses x.names.items; apart = had.apart; in_use = first; placed = rw c.deref-2.ensures.value (had.placed.inside Imported) }
 
 pub add_used_inside-requires-2 : goal.add_used_inside-requires-2
 add_used_inside-requires-2 c =
     let had = c.requires in
     let x = c.args.item.now in
-    let own = had.ts ++ flat_map name_foreign_uses (map name_view x.names.items) in
+    let own = had.ts ++ names_foreign_uses x.names.items in
     let first = (rw c.deref.ensures.value at c.in_ok-add_used_by_names.ensures) had.vs had.ts had.apart had.placed.own had.in_use in
     let second = (rw c.deref-2.ensures.value at c.in_ok-add_used_inside.ensures) had.vs own had.apart (had.placed.inside Imported) first in
-    record { vs = had.vs; ts = own ++ flat_map (flat_map name_foreign_uses) (inside_view Imported x); apart = had.apart; in_use = second; placed = rw c.deref-3.ensures.value (had.placed.inside Exported) }
+    record { vs = had.vs; ts = own ++ inside_uses x.imported.items; apart = had.apart; in_use = second; placed = rw c.deref-3.ensures.value (had.placed.inside Exported) }
 
 pub returns : goal.returns
 returns c =
     let x = c.args.item.now in
-    let own = flat_map name_foreign_uses (map name_view x.names.items) in
-    let imported = flat_map (flat_map name_foreign_uses) (inside_view Imported x) in
-    let exported = flat_map (flat_map name_foreign_uses) (inside_view Exported x) in
+    let own = names_foreign_uses x.names.items in
+    let imported = inside_uses x.imported.items in
+    let exported = inside_uses x.exported.items in
     let last = rw c.deref-3.ensures.value at c.add_used_inside-2.ensures in
     on_ok_weaker c.add_used_inside-2.result (λ in_use vs ts apart placed before. (
     let first = (rw c.deref.ensures.value at c.in_ok-add_used_by_names.ensures) vs ts apart placed.own before in
