@@ -1,11 +1,11 @@
 -- The first fault of a world: of its attributes, of its names, of its includes, or of what is on its sides.
 use Rattle.std.proofs.Common.{◌≡◌, ℕ, ◌+◌, Bool, false, true, List, [], ◌∷◌, ◌++◌, drop, length, map, take, Option, Some, None, refl, sym, ap, ◌∙◌, subst, ◌==◌, append_assoc, arith}
-use Rattle.wit_contents.proofs.Names.{AreKeyed, Declared, EndsInTurn, Exported, Fault, Finds, FindsNames, FindsSides, Id, Imported, Include, IsItemOf, IsNext, IsOutcome, IsRightOfWorld, IsSeen, IsWalk, Item as BorrowedItem, ItemWalk, Outcome, PackageFile, ParseError, Reports, ResolvedScope, Result, ScopeName, SourceFunction, TheInline, TheInterface, TheWorld, TopName, TypeDef, TypeOwner, AddsContent, AddsNamesOf, IsItemIn, Resolved, about, all_declared, all_items, append-nil, at_contains, declared_view, eqb-suc-zero, filter, filter-append, filter_map-append, finds_same, first_after, first_in, functions, if◌then◌else◌, in-append, in-more, in_order, in_turn, includes, includes_fault, is_inside, item_in, item_stability, item_view, kept_next, local_id, names_at_top, names_fault, name_view, option_or, order_of, reports_back, reports_prefix, reports_same, resolved_scopes_of, rows_of, scope_names, setters_fault, side_items, side_setters_fault, slice_get, take-append-drop, Address, AddsMembers, AddsSides, AllDiffer, AreIncludes, Borrowed, Entry, HavePlaces, Interface, IsStart, addresses_of, IsTurn, Name, Names, Required, SideItem, World, WorldSide, address, and_parts, at_back, at_prefix, declared_metadata, eqb-true, flat_map, function_of, in_turn_distinct, inline_items, interfaces_at, is_ascii_uppercase, item_function, list_all, list_any, names_on, nil_from_length, no_clashes, none_both, part_functions, part_items, prefix_of, puts_nothing, settled, stage, type_imports, world_part, functions_parts}
-use Rattle.wit_arena.proofs.Common.{Item, world, entries_on, name_imports, WorldInclude}
+use Rattle.wit_contents.proofs.Names.{AreKeyed, Declared, EndsInTurn, Exported, Fault, Finds, FindsNames, FindsSides, Id, Imported, Include, IsItemOf, IsNext, IsOutcome, IsRightOfWorld, IsSeen, IsWalk, Item as BorrowedItem, ItemWalk, Outcome, PackageFile, ParseError, Reports, ResolvedScope, Result, ScopeName, SourceFunction, TheInline, TheInterface, TheWorld, TopName, TypeDef, TypeOwner, AddsNamesOf, AddsTo, HasContent, IsItemIn, Resolved, about, all_declared, all_items, append-nil, at_contains, declared_view, eqb-suc-zero, filter, filter-append, filter_map-append, finds_same, first_after, first_in, functions, if◌then◌else◌, in-append, in-more, in_order, in_turn, includes, includes_fault, is_inside, item_in, item_stability, item_view, kept_next, local_id, names_at_top, names_fault, name_view, option_or, order_of, reports_back, reports_prefix, reports_same, resolved_scopes_of, rows_of, scope_names, setters_fault, side_items, side_setters_fault, slice_get, stability_fault, take-append-drop, Address, AddsMembers, AddsSides, AllDiffer, AreIncludes, Borrowed, Entry, HavePlaces, Interface, IsStart, addresses_of, IsTurn, Name, Names, Required, SideItem, World, WorldSide, address, and_parts, at_back, at_prefix, declared_metadata, eqb-true, flat_map, function_of, in_turn_distinct, inline_items, interfaces_at, is_ascii_uppercase, item_function, list_all, list_any, names_on, nil_from_length, no_clashes, none_both, part_functions, part_items, prefix_of, puts_nothing, settled, stage, type_imports, world_part, functions_parts}
+use Rattle.wit_arena.proofs.Common.{Item, entries_on, name_imports, WorldInclude}
 use Rattle.wit_contents.specs.declared.making.Growing.{Growing}
 use Rattle.wit_contents.specs.declared.walk.Walked.{Walked}
 use Rattle.wit_contents.specs.declared.walk.WorldScope.{WorldScope}
-use Rattle.wit_contents.specs.declared.world.WorldContent.{WorldContent}
+use Rattle.wit_world_sides.specs.declared.sides.WorldSides.{WorldSides}
 use Rattle.wit_walk.proofs.Common.{World as Written, WorldItem}
 use Rattle.wit_externs.specs.Clash.{sides_setters, defined_fault}
 use Rattle.wit_item_entries.proofs.ReachedFaults.{done, failed, turn_texts}
@@ -41,6 +41,10 @@ item_here i world own is =
     ap (λ (top : List TopName). record { top = top; declared = TheWorld world }) (ap names_at_top own.file)
     ∙ ap (λ (d : Declared). record { top = (item_view i).top; declared = d }) (sym is)
 
+-- what is made of the world is made of the item
+says_here : (i : BorrowedItem) (world : Written) → declared_view i.declared ≡ TheWorld world → (sides : WorldSides) (found : List WorldInclude) (w : World) → HasContent (TheWorld world) sides found w → HasContent (item_view i).declared sides found w
+says_here i world is sides found w says = subst (λ (d : Declared). HasContent d sides found w) (sym is) says
+
 -- at first all of what is on the sides comes next
 abbrev pub next_all : (w : ItemWalk) (m : Walked) → IsWalk w → IsSeen [] m.seen → AreKeyed m.members → IsNext w (side_items (item_view w.item)) m
 next_all w m walk seen keyed = record { walk = walk; prefix = []; rest = []; sides = sym (append-nil (side_items (item_view w.item))); seen = seen; keyed = keyed }
@@ -68,25 +72,31 @@ module _ (ws : Resolved) (i : BorrowedItem) (old : Growing) where
   abbrev names_test : Outcome → (Id → Option Fault) → Option Fault
   names_test outcome handle = names_fault ws.interfaces i.names.items outcome handle
 
-  -- what a test that is right of it says of it
-  module _ (wrong : Item → Option Fault) (test : IsRightOfWorld wrong ws old i) where
+  -- what a test that is right of it says of it, where it is a world of the files
+  module _ (wrong : Item → Option Fault) (test : IsRightOfWorld wrong ws old i) (world : Written) (of : IsItemOf ws.interfaces.files i) (is : declared_view i.declared ≡ TheWorld world) where
     abbrev rest : Option Fault
     rest = option_or (first_after test.member [] (side_items w)) (setters_fault w)
 
     abbrev last : Option Fault
     last = after (turned_ids test.outcome)
 
-    -- its own attributes are wrong
-    pub unstable_first : (e : ParseError) → Reports (item_stability w) e → Reports (wrong (item_view i)) e
-    unstable_first e found = reports_same (sym test.says) (reports_prefix rest (reports_prefix (option_or (names_test test.outcome test.handle) last) found))
+    stated : stability_fault world.attributes.items ≡ item_stability w
+    stated = ap (λ (d : Declared). stability_fault (about d).attributes) (sym is)
 
-    module _ (named : map name_view i.names.items ≡ scope_names (item_view i)) (stable : item_stability (item_view i) ≡ None) where
+    included : includes_fault ws (item_in ws.interfaces.files i.place (TheWorld world)) ≡ includes_fault ws w
+    included = ap (includes_fault ws) (item_here i world of is)
+
+    -- its own attributes are wrong
+    pub unstable_first : (e : ParseError) → Reports (stability_fault world.attributes.items) e → Reports (wrong (item_view i)) e
+    unstable_first e found = reports_same (sym test.says) (reports_prefix rest (reports_prefix (option_or (names_test test.outcome test.handle) last) (reports_same stated found)))
+
+    module _ (stable : stability_fault world.attributes.items ≡ None) where
       names_found : {T : Type 0} (r : Result T ParseError) → FindsNames None ws.interfaces o old.types i.names.items r → Finds (names_test test.outcome test.handle) r
-      names_found r found = found test.outcome (subst (λ (ys : List ScopeName). IsOutcome (rows_of ys) test.outcome) (sym named) test.right) test.handle (subst (λ (ys : List ScopeName). EndsInTurn cs o old.types ys test.outcome test.handle) (sym named) test.ends)
+      names_found r found = found test.outcome (subst (λ (ys : List ScopeName). IsOutcome (rows_of ys) test.outcome) (sym of.named) test.right) test.handle (subst (λ (ys : List ScopeName). EndsInTurn cs o old.types ys test.outcome test.handle) (sym of.named) test.ends)
 
       -- its names are
       pub names_first : (e : ParseError) → FindsNames None ws.interfaces o old.types i.names.items (failed e) → Reports (wrong (item_view i)) e
-      names_first e found = reports_same (sym test.says) (reports_prefix rest (reports_back stable (reports_prefix last (names_found (failed e) found))))
+      names_first e found = reports_same (sym test.says) (reports_prefix rest (reports_back (sym stated ∙ stable) (reports_prefix last (names_found (failed e) found))))
 
       -- they are resolved, and in the arena
       module _ (n : ResolvedNames) (mid : List TypeDef) (turn : AddsNamesOf ws i old.types mid n) (head : FindsNames None ws.interfaces o old.types i.names.items (done n)) where
@@ -94,28 +104,28 @@ module _ (ws : Resolved) (i : BorrowedItem) (old : Growing) where
         turned_is = turned old.types mid cs o xs n.types n.turn.items n.required.items turn test.outcome test.right
 
         -- so what comes after them is wrong
-        pub includes_first : (e : ParseError) → Reports (includes_fault ws (item_view i)) e → Reports (wrong (item_view i)) e
-        includes_first e found = reports_same (sym test.says) (reports_prefix rest (reports_back stable (reports_back (names_found (done n) head) (reports_prefix (defined_fault [] (map name_of_id (turned_ids test.outcome))) found))))
+        pub includes_first : (e : ParseError) → Reports (includes_fault ws (item_in ws.interfaces.files i.place (TheWorld world))) e → Reports (wrong (item_view i)) e
+        includes_first e found = reports_same (sym test.says) (reports_prefix rest (reports_back (sym stated ∙ stable) (reports_back (names_found (done n) head) (reports_prefix (defined_fault [] (map name_of_id (turned_ids test.outcome))) (reports_same included found)))))
 
         -- or what is found of its sides is found of it
-        module _ (included : includes_fault ws (item_view i) ≡ None) where
+        module _ (usable : includes_fault ws (item_in ws.interfaces.files i.place (TheWorld world)) ≡ None) where
           head_is : option_or (item_stability (item_view i)) (option_or (names_fault ws.interfaces i.names.items test.outcome test.handle) (option_or (includes_fault ws (item_view i)) (defined_fault [] (map name_of_id (map local_id (in_turn (scope_names (item_view i)) (order_of test.outcome))))))) ≡ defined_fault [] (map name_of_id n.turn.items)
           head_is =
-              ap (λ (x : Option Fault). option_or x (option_or (names_test test.outcome test.handle) last)) stable
+              ap (λ (x : Option Fault). option_or x (option_or (names_test test.outcome test.handle) last)) (sym stated ∙ stable)
               ∙ ap (λ (x : Option Fault). option_or x last) (names_found (done n) head)
-              ∙ ap (λ (x : Option Fault). option_or x (defined_fault [] (map name_of_id (turned_ids test.outcome)))) included
+              ∙ ap (λ (x : Option Fault). option_or x (defined_fault [] (map name_of_id (turned_ids test.outcome)))) (sym included ∙ usable)
               ∙ ap (λ (ids : List Id). defined_fault [] (map name_of_id ids)) (sym turned_is)
 
           pub world_alone : {T : Type 0} (r : Result T ParseError) → Finds (option_or (defined_fault [] (map name_of_id n.turn.items)) (option_or (first_after test.member [] (side_items (item_view i))) (setters_fault (item_view i)))) r → Finds (wrong (item_view i)) r
           world_alone r found = finds_same r (sym (test.says ∙ ap (λ (x : Option Fault). option_or x rest) head_is)) found
 
       -- what is found in its walk, too
-      module _ (s : WorldScope) (mid : Growing) (same : mid.inside ≡ old.inside) (turn : AddsNamesOf ws i old.types mid.types s.names) (head : FindsNames None ws.interfaces o old.types i.names.items (done s.names)) (included : includes_fault ws (item_view i) ≡ None) where
+      module _ (s : WorldScope) (mid : Growing) (same : mid.inside ≡ old.inside) (turn : AddsNamesOf ws i old.types mid.types s.names) (head : FindsNames None ws.interfaces o old.types i.names.items (done s.names)) (usable : includes_fault ws (item_in ws.interfaces.files i.place (TheWorld world)) ≡ None) where
         abbrev walk : ItemWalk
         walk = record { item = i; scope = s; interfaces = ws.interfaces }
 
         pub world_found : {T : Type 0} (r : Result T ParseError) → IsWalk walk → FindsSides walk mid r → Finds (wrong (item_view i)) r
-        world_found r walks found = world_alone s.names mid.types turn head included r (found test.member (test.members s mid walks same turn.adds))
+        world_found r walks found = world_alone s.names mid.types turn head usable r (found test.member (test.members s mid walks same turn.adds))
 
 -- each item of files has a name by which it is found
 pub item_called : (files : List PackageFile) (i : BorrowedItem) → IsItemOf files i → (about (item_view i).declared).called ≡ Some (about (item_view i).declared).id.name.now
@@ -176,8 +186,8 @@ module _ (r : Resolved) (i : BorrowedItem) (s : WorldScope) (a middle b : Growin
   abbrev interfaces : List Interface
   interfaces = r.interfaces.arena
 
-  pub content_adds : IsWalk own_walk → (c : WorldContent) → AreSettled s.closed m.members.sides c.sides → AreIncludes (addresses_of r) (item_view i) c.includes → AddsContent r i a b c
-  content_adds walks c on_sides are = λ added says. record {
+  pub content_adds : IsWalk own_walk → (sides : WorldSides) (found : List WorldInclude) → AreSettled s.closed m.members.sides sides → (world : Written) → declared_view i.declared ≡ TheWorld world → AreIncludes (addresses_of r) (item_in r.interfaces.files i.place (TheWorld world)) found → (added : World) → HasContent (TheWorld world) sides found added → AddsTo r i a b added
+  content_adds walks settled_sides found on_sides world is are added says = record {
     own = s.names.required.items ++ adds.adds.own;
     list = adds.adds.list ∙ ap (λ (l : List Required). l ++ adds.adds.own) required ∙ append_assoc a.required.items s.names.required.items adds.adds.own;
     holds = record {
@@ -202,10 +212,10 @@ module _ (r : Resolved) (i : BorrowedItem) (s : WorldScope) (a middle b : Growin
           let names = in_turn (scope_names item) n.adds.order in
           let on : WorldSide → List Entry = λ s. entries_on s (next_entries id all item [] (side_items item)) in
           let named = begun.imports names n.turn ∙ ap (type_imports names) typed ∙ type_imports-as_stated id (address item) names in
-          world_stated (about item.declared).id.name.now (about item.declared).id.span (declared_metadata item.declared) added c.sides.imports _ c.sides.exports _ c.includes _ says
+          world_stated (about item.declared).id.name.now (about item.declared).id.span (declared_metadata item.declared) added settled_sides.imports _ settled_sides.exports _ found _ (says_here i world is settled_sides found added says)
           (on_sides Imported (includes item) walks.closed ∙ ap (settled (includes item)) (adds.are_present id made all places Imported ∙ ap (λ (l : List Entry). l ++ on Imported) named))
           (on_sides Exported (includes item) walks.closed ∙ ap (settled (includes item)) (adds.are_present id made all places Exported ∙ ap (λ (l : List Entry). l ++ on Exported) begun.exports))
-          (are.1 vs there));
+          ((subst (λ (w : Item). AreIncludes (addresses_of r) w found) (item_here i world walks.world.item is) are).1 vs there));
     };
   }
 
@@ -215,9 +225,6 @@ put_none [] all = refl
 put_none (x ∷ xs) all =
     let both = and_parts (puts_nothing x) (list_all puts_nothing xs) all in
     ap (λ (l : List SideItem). l ++ world_sides xs) (nil_from_length (part_items (world_part x)) (eqb-true (length (part_items (world_part x))) 0 both.0)) ∙ put_none xs both.1
-
-pub none_there : (i : BorrowedItem) (world : Written) → declared_view i.declared ≡ TheWorld world → list_all puts_nothing world.items.items ≡ true → side_items (item_view i) ≡ []
-none_there i world is all = ap (λ (d : Declared). flat_map part_items (about d).parts) is ∙ put_none world.items.items all
 
 -- the names of a world differ
 pub texts_differ : (xs : List ScopeName) (ids : List Id) → IsTurn xs ids → AllDiffer (map (λ id. id.name.now) ids)
@@ -248,14 +255,17 @@ module _ (xs : List ScopeName) (ids : List Id) (turn : IsTurn xs ids) (lower : l
   keys_differ s = subst (λ (l : List Name). AllDiffer (map name_key l)) (append-nil (names_on s (map name_of_id ids))) (names_alone s xs ids [] refl turn lower)
 
 -- a world of the files that has nothing on its sides after its names
-module _ (i : BorrowedItem) (empty : side_items (item_view i) ≡ []) where
+module _ (i : BorrowedItem) (world : Written) (is : declared_view i.declared ≡ TheWorld world) (bare : list_all puts_nothing world.items.items ≡ true) where
+  empty : side_items (item_view i) ≡ []
+  empty = ap (λ (d : Declared). flat_map part_items (about d).parts) is ∙ put_none world.items.items bare
+
   -- nothing has a fault
   pub alone_none : (ids : List Id) → IsTurn (scope_names (item_view i)) ids → list_any (λ (id : Id). list_any is_ascii_uppercase id.name.now) ids ≡ false → (member : List SideItem → SideItem → Option Fault) → option_or (defined_fault [] (map name_of_id ids)) (option_or (first_after member [] (side_items (item_view i))) (setters_fault (item_view i))) ≡ None
   alone_none ids turn lower member = none_both (no_clashes name_key again (map name_of_id ids) (keys_differ (scope_names (item_view i)) ids turn lower Imported)) (none_both (ap (first_after member []) empty) (setters_none (item_view i) empty))
 
   -- and only the names are added
-  pub alone_adds : (r : Resolved) (a b : Growing) (names : ResolvedNames) (n : AddsNamesOf r i a.types b.types names) → b.required.items ≡ a.required.items ++ names.required.items → b.inside ≡ a.inside → (c : WorldContent) → c.sides.imports ≡ type_imports (in_turn (scope_names (item_view i)) n.adds.order) names.types → c.sides.exports ≡ [] → AreIncludes (addresses_of r) (item_view i) c.includes → AddsContent r i a b c
-  alone_adds r a b names n required same c imported exported are = λ added says.
+  pub alone_adds : (r : Resolved) (a b : Growing) (names : ResolvedNames) (n : AddsNamesOf r i a.types b.types names) → b.required.items ≡ a.required.items ++ names.required.items → b.inside ≡ a.inside → (sides : WorldSides) (found : List WorldInclude) → sides.imports ≡ type_imports (in_turn (scope_names (item_view i)) n.adds.order) names.types → sides.exports ≡ [] → IsItemOf r.interfaces.files i → AreIncludes (addresses_of r) (item_in r.interfaces.files i.place (TheWorld world)) found → (added : World) → HasContent (TheWorld world) sides found added → AddsTo r i a b added
+  alone_adds r a b names n required same named found imported exported of are added says =
       let item = item_view i in
       let us = inline_items item in
       let turn = in_turn (scope_names item) n.adds.order in
@@ -277,9 +287,9 @@ module _ (i : BorrowedItem) (empty : side_items (item_view i) ≡ []) where
           sides = subst (λ (l : List Interface). Sides l (side_items item)) same (subst (Sides b.inside) (sym empty) (sides_none (resolved_scopes_of r.interfaces) (length r.interfaces.arena) (address item) names.types b.types b.inside us));
           made = λ id typed made ss known all vs here there. (
               let none = λ (s : WorldSide). ap (λ (xs : List SideItem). entries_on s (next_entries id all item [] xs)) empty in
-              world_stated (about item.declared).id.name.now (about item.declared).id.span (declared_metadata item.declared) added c.sides.imports _ c.sides.exports _ c.includes _ says
+              world_stated (about item.declared).id.name.now (about item.declared).id.span (declared_metadata item.declared) added named.imports _ named.exports _ found _ (says_here i world is named found added says)
               (imported ∙ sym (names_settled (includes item) turn names.types) ∙ ap (settled (includes item)) (ap (type_imports turn) typed ∙ type_imports-as_stated id (address item) turn ∙ sym (append-nil (name_imports id (address item) turn)) ∙ ap (λ (l : List Entry). name_imports id (address item) turn ++ l) (sym (none Imported))))
               (exported ∙ sym (names_settled (includes item) [] names.types) ∙ ap (settled (includes item)) (sym (none Exported)))
-              (are.1 vs there));
+              ((subst (λ (w : Item). AreIncludes (addresses_of r) w found) (item_here i world of is) are).1 vs there));
         };
       }

@@ -1,6 +1,6 @@
 -- What a world adds to the arenas, the walk of what it imports and exports, and its first fault.
 use Rattle.std.specs.Prelude.{◌≡◌, List, ◌∷◌, [], ◌++◌, length, map, Option, Result}
-use Rattle.wit_contents.specs.Names.{AddsScope, AddsWorld, Appends, BorrowedItem, EndsInTurn, Fault, Growing, Id, Item, Metadata, ParseError, Resolved, ResolvedNames, TypeDef, World, about, declared_metadata, defined_fault, in_turn, includes, item_stability, item_view, local_id, name_of_id, names_fault, option_or, others_of, prefix_of, resolved_scopes_of, rows_of, scope_names, side_items, SideItem}
+use Rattle.wit_contents.specs.Names.{AddsScope, AddsWorld, Appends, BorrowedItem, Declared, EndsInTurn, Fault, Growing, Id, Item, ParseError, Resolved, ResolvedNames, TypeDef, World, WorldInclude, about, declared_metadata, defined_fault, in_turn, includes, item_stability, item_view, local_id, name_of_id, names_fault, option_or, others_of, prefix_of, resolved_scopes_of, rows_of, scope_names, side_items, SideItem}
 use Rattle.wit_arena.specs.Made.{world}
 use Rattle.wit_types.specs.declared.types.TypeOwner.TheVariants as owner
 use Rattle.wit_item_entries.specs.AddedNames.{AddsTurn}
@@ -10,7 +10,7 @@ use Rattle.wit_walk.specs.Setters.{setters_fault}
 use Rattle.wit_links.specs.Links.{includes_fault}
 use Rattle.wit_contents.specs.Making.{PutsWorld}
 use Rattle.wit_contents.specs.declared.making.Making.{Making}
-use Rattle.wit_contents.specs.declared.world.WorldContent.{WorldContent}
+use Rattle.wit_world_sides.specs.declared.sides.WorldSides.{WorldSides}
 use Rattle.wit_contents.specs.declared.walk.Walked.{Walked}
 use Rattle.wit_contents.specs.declared.walk.WorldScope.{WorldScope}
 use Rattle.wit_contents.specs.Walk.{IsStart, IsWalk, ItemWalk, stage, AreRightMembers}
@@ -29,13 +29,9 @@ pub record AddsDeclaredWorld (a b : Making) (i : BorrowedItem) : Type 0 where
 abbrev pub AddsNamesOf : Resolved → BorrowedItem → List TypeDef → List TypeDef → ResolvedNames → Type 0
 AddsNamesOf r i old new n = AddsTurn old new (resolved_scopes_of r.interfaces) (owner.World (length r.worlds)) (scope_names (item_view i)) n.types n.turn.items n.required.items
 
--- a world has this name, this is stated of it, and it has this content
-abbrev pub HasContent : Id → Metadata → WorldContent → World → Type 0
-HasContent id stated c w = w ≡ world id.name.now c.sides.imports c.sides.exports c.includes stated id.span
-
--- a world of an item with this content is added
-abbrev pub AddsContent : Resolved → BorrowedItem → Growing → Growing → WorldContent → Type 0
-AddsContent r i a b c = (w : World) → HasContent (about (item_view i).declared).id (declared_metadata (item_view i).declared) c w → AddsTo r i a b w
+-- a world is the one that is declared, with this on its sides and these includes
+abbrev pub HasContent : Declared → WorldSides → List WorldInclude → World → Type 0
+HasContent d sides includes w = w ≡ world (about d).id.name.now sides.imports sides.exports includes (declared_metadata d) (about d).id.span
 
 -- a test is right of the members of a world after its names
 abbrev pub AreRightSides : (List SideItem → SideItem → Option Fault) → ItemWalk → Growing → Type 0

@@ -5,13 +5,13 @@ ghost use Rattle.wit_types.specs.declared.types.TypeOwner.TheVariants.{World as 
 ghost use Rattle.wit_type_tree.specs.RefusalText.{IsAllocationFailure};
 ghost use Rattle.wit_syntax.specs.Function.{part_functions};
 ghost use Rattle.wit_syntax.specs.Repeats.{AllDiffer};
-ghost use Rattle.wit_syntax.specs.Source.{about, local_name, world_part};
+ghost use Rattle.wit_syntax.specs.Source.{TheWorld, about, local_name, world_part};
 ghost use Rattle.wit_rules.specs.Signatures.{function_view, AreResults};
 ghost use Rattle.wit_scopes.specs.BorrowedNames.{name_view};
-ghost use Rattle.wit_items.specs.BorrowedItems.{item_view, metadata_view, IsItemOf};
-ghost use Rattle.wit_item_entries.specs.ReachedFaults.{item_stability, FindsNames};
+ghost use Rattle.wit_items.specs.BorrowedItems.{item_view, IsItemOf};
+ghost use Rattle.wit_item_entries.specs.ReachedFaults.{FindsNames};
 ghost use Rattle.wit_contents.specs.Making.{IsItemIn, PutsWorld};
-ghost use Rattle.wit_contents.specs.Worlds.{AddsContent, AddsNamesOf, AddsTo, AddsDeclaredWorld, HasContent, FindsWorld};
+ghost use Rattle.wit_contents.specs.Worlds.{AddsNamesOf, AddsTo, AddsDeclaredWorld, HasContent, FindsWorld};
 
 use crate::making::{Growing, Making};
 use crate::sides::{has_nothing, walk_sides};
@@ -23,27 +23,21 @@ use wit_item_entries::names::{ResolvedNames, resolve_names};
 use wit_item_entries::own_keys::have_upper_case;
 use wit_item_entries::required::add_required;
 use wit_items::items::Item;
-use wit_items::metadata::{ItemMetadata, item_metadata};
 use wit_links::includes::resolve_includes;
 use wit_links::inside::{declared_name, declared_world};
 use wit_links::resolved::Resolved;
 use wit_maps::TextTable;
 use wit_model::{World, WorldInclude};
+use wit_notes::attributes::check_stability;
+use wit_notes::{docs, stated_stability};
 use wit_rules::borrowed::BorrowedFunction;
 use wit_scopes::scope_name::ScopeName;
 use wit_tree::ParseResult;
-use wit_tree::tree::{self, Id, Type};
+use wit_tree::tree::{self, Type};
 use wit_types::TypeOwner;
-use wit_values::{Row, Text, pair_with};
+use wit_values::{Row, Text};
 use wit_world_sides::sides::{WorldSides, named_sides};
 use wit_world_sides::sides_setters::{is_closed, settle};
-
-/// What a world has on its sides, and its includes.
-#[derive(Drop)]
-pub struct WorldContent {
-    pub sides: WorldSides,
-    pub includes: Row<WorldInclude>,
-}
 
 /// Adds a declared world, under its name.
 fn add_world(resolved: &mut Resolved<'_, '_, '_, '_>, name: &str, world: World) -> ParseResult<()>
@@ -96,63 +90,28 @@ fn written_functions<'f, 'a>(
     Ok(WrittenFunctions { functions, results })
 }
 
-/// What a world has on its sides, after its names, and its includes.
-fn world_content<'f, 'a>(
-    item: &Item<'f, 'a>,
-    growing: &mut Growing,
-    resolved: &Resolved<'f, 'a, '_, '_>,
-) -> ParseResult<WorldContent>
-    requires { IsItemIn resolved.now.interfaces true item.now }
-    ensures adds { IfOk result (AddsContent resolved.now item.now growing.old growing.new) }
-    ensures first { item_stability (item_view item.now) ≡ None → FindsWorld resolved.now growing.old item.now result }
-{
-    let alloc = *resolved.world_names.allocator();
-    let names = world_names(item, &mut growing.types, resolved)?;
-    add_required(&mut growing.required, &names.required)?;
-    let world = declared_world(&item.declared);
-    let includes = resolve_includes(alloc, resolved, world, item.place)?;
-    if has_nothing(world) {
-        if !have_upper_case(&names.turn) {
-            // Types are no setters, so that all stay where they are.
-            let sides = named_sides(alloc, &names.turn, &names.types, 0, 0)?;
-            return Ok(WorldContent { sides, includes });
-        }
-    }
-    let closed = is_closed(includes.as_slice());
-    let written = written_functions(alloc, &item.names, world)?;
-    let scope = WorldScope {
-        names,
-        results: written.results,
-        functions: written.functions,
-        resolved,
-        closed,
-    };
-    let walked = walk_sides(item, &scope, growing)?;
-    let sides = settle(alloc, walked.members, closed)?;
-    Ok(WorldContent { sides, includes })
-}
-
-/// A world of this name, with what is stated of it and what it has.
+/// A world with what is stated of it, what it has on its sides, and these includes.
 fn world_with(
     alloc: Global,
-    id: Id<'_>,
-    metadata: ItemMetadata,
-    content: WorldContent,
-) -> Result<World, AllocError>
-    ensures { IfOk result (HasContent id.entry (metadata_view metadata) content) }
+    written: &tree::World<'_>,
+    sides: WorldSides,
+    includes: Row<WorldInclude>,
+) -> ParseResult<World>
+    ensures is { IfOk result (HasContent (TheWorld written.now) sides includes) }
+    ensures refused { IfErr result IsAllocationFailure }
 {
-    let name = Text::from_str(alloc, id.name);
-    let (parts, name) = pair_with((metadata, content), name)?;
-    let (metadata, content) = parts;
+    let name = Text::from_str(alloc, written.name.name)?;
+    let docs = docs(alloc, &written.docs)?;
+    let stability = stated_stability(alloc, &written.attributes)?;
     Ok(World {
         name,
-        imports: content.sides.imports.shrunk(),
-        exports: content.sides.exports.shrunk(),
+        imports: sides.imports.shrunk(),
+        exports: sides.exports.shrunk(),
         package: None,
-        docs: metadata.docs,
-        stability: metadata.stability,
-        includes: content.includes,
-        span: id.span,
+        docs,
+        stability,
+        includes,
+        span: written.name.span,
     })
 }
 
@@ -169,12 +128,30 @@ fn world_of<'f, 'a>(
     ensures first { FindsWorld resolved.now growing.old item.now result }
 {
     let alloc = *resolved.world_names.allocator();
-    let as_stated = item_metadata(alloc, &item.declared)?;
-    let content = world_content(item, growing, resolved);
-    let (metadata, content) = pair_with(as_stated, content)?;
-    let id = declared_name(&item.declared);
-    let world = world_with(alloc, id, metadata, content)?;
-    Ok(world)
+    let world = declared_world(&item.declared);
+    check_stability(alloc, &world.attributes)?;
+    let names = world_names(item, &mut growing.types, resolved)?;
+    add_required(&mut growing.required, &names.required)?;
+    let includes = resolve_includes(alloc, resolved, world, item.place)?;
+    if has_nothing(world) {
+        if !have_upper_case(&names.turn) {
+            // Types are no setters, so that all stay where they are.
+            let sides = named_sides(alloc, &names.turn, &names.types, 0, 0)?;
+            return world_with(alloc, world, sides, includes);
+        }
+    }
+    let closed = is_closed(includes.as_slice());
+    let written = written_functions(alloc, &item.names, world)?;
+    let scope = WorldScope {
+        names,
+        results: written.results,
+        functions: written.functions,
+        resolved,
+        closed,
+    };
+    let walked = walk_sides(item, &scope, growing)?;
+    let sides = settle(alloc, walked.members, closed)?;
+    world_with(alloc, world, sides, includes)
 }
 
 /// Adds a world with what it has.
