@@ -1,6 +1,6 @@
 -- What files make, and their first fault from a step of the walk on.
 use Rattle.std.specs.Prelude.{◌≡◌, ◌++◌, List, None, Result, Some, ℕ, drop, map}
-use Rattle.wit_contents.specs.Names.{AreItemsOf, BorrowedItem, Fault, Required, item_view, IsLegal, Makes, PackageFile, first_docs, headers, last_header, package_of, Address, EndsAt, Id, ParseError, Row, Word, item_rows, shape_end}
+use Rattle.wit_contents.specs.Names.{AreItemsOf, BorrowedItem, Fault, Growing, Interface, Required, World, item_view, IsLegal, Makes, PackageFile, first_docs, headers, last_header, package_of, Address, EndsAt, Id, ParseError, Row, Word, item_rows, shape_end}
 use Rattle.wit_tree.specs.declared.tree.PackageName.{PackageName as Header}
 use Rattle.wit_model.specs.Packages.{package_of_parts}
 use Rattle.wit_model.specs.declared.foreign.ForeignItems.{ForeignItems}
@@ -42,12 +42,16 @@ pub record NamesForeign (files : List PackageFile) (rs : List Required) (named :
   pub unknown : named.unknown_type_spans ≡ map (λ (t : ForeignUse). t.id.span) (first_foreign_uses files)
   pub required : named.required_resource_types ≡ rs
 
--- what was made, with these items of other packages
-abbrev pub contents_in : Making → ForeignItems → Contents
-contents_in m named = record {
-  arenas = record { types = m.growing.types; interfaces = m.resolved.interfaces.arena ++ m.growing.inside; worlds = m.resolved.worlds };
+-- these declared interfaces, these worlds, and what grew, with these items of other packages
+abbrev pub contents_with : List Interface → List World → Growing → ForeignItems → Contents
+contents_with declared worlds g named = record {
+  arenas = record { types = g.types; interfaces = declared ++ g.inside; worlds = worlds };
   foreign = named;
 }
+
+-- what was made, with these items of other packages
+abbrev pub contents_in : Making → ForeignItems → Contents
+contents_in m named = contents_with m.resolved.interfaces.arena m.resolved.worlds m.growing named
 
 -- it is what files make
 abbrev pub AreMade : List PackageFile → Making → Type 0

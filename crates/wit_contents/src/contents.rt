@@ -2,7 +2,7 @@
 ghost use Rattle.std.specs.Prelude.{◌≡◌, IfOk, IfErr, Ok};
 ghost use Rattle.wit_type_tree.specs.RefusalText.{IsAllocationFailure};
 ghost use Rattle.wit_syntax.specs.Broken.{IsBrokenNames};
-ghost use Rattle.wit_contents.specs.Files.{FindsAfter, MakeContents, contents_in};
+ghost use Rattle.wit_contents.specs.Files.{FindsAfter, MakeContents, contents_with};
 
 use crate::items::resolve_items;
 use crate::making::{Growing, Making, begun, make_room};
@@ -14,10 +14,10 @@ use wit_front::foreign::ForeignArenas;
 use wit_items::files::Files;
 use wit_items::items::{Item, declared_items};
 use wit_links::resolved::Resolved;
-use wit_model::{Arenas, ForeignItems};
+use wit_model::{Arenas, ForeignItems, Interface, World};
 use wit_tree::tree::PackageFile;
 use wit_tree::{ParseResult, Span};
-use wit_types::Arena;
+use wit_types::{Arena, InterfacePlace, WorldPlace};
 use wit_values::Row;
 
 /// What files make in the arenas, and what they name of other packages.
@@ -27,34 +27,49 @@ pub struct Contents {
     pub foreign: ForeignItems,
 }
 
-/// What was made, with the interfaces that are written in worlds after the declared ones, and what is named
-/// of other packages, whose types are first used at these spans.
-///
-/// The error is a failed allocation.
-fn contents_of(
+/// The interfaces and the worlds that were made, and what grew.
+fn made_in(
     making: Making<'_, '_, '_, '_>,
-    unknown_type_spans: Vec<Span>,
-    named: Result<(Packages, Row<Span>), AllocError>,
-) -> ParseResult<Contents>
-    ensures is { IfOk result (λ c. c ≡ contents_in making.entry c.foreign) }
-    ensures deps { IfOk result (λ c. named ≡ Ok (c.foreign.deps, c.foreign.dep_spans)) }
-    ensures unknown { IfOk result (λ c. c.foreign.unknown_type_spans ≡ unknown_type_spans.items) }
-    ensures required { IfOk result (λ c. c.foreign.required_resource_types ≡ making.entry.growing.required.items) }
-    ensures refused { IfErr result IsAllocationFailure }
+) -> (
+    Arena<Interface, InterfacePlace>,
+    Arena<World, WorldPlace>,
+    Growing,
+)
+    ensures { result ≡ (making.entry.resolved.interfaces.arena, making.entry.resolved.worlds, making.entry.growing) }
 {
-    let (deps, dep_spans) = named?;
     let Making { resolved, growing } = making;
     let Resolved {
         interfaces,
         worlds,
         ..
     } = resolved;
+    (interfaces.arena, worlds, growing)
+}
+
+/// What was made, with the interfaces that are written in worlds after the declared ones, and what is named
+/// of other packages, whose types are first used at these spans.
+///
+/// The error is a failed allocation.
+fn contents_of(
+    declared: Arena<Interface, InterfacePlace>,
+    worlds: Arena<World, WorldPlace>,
+    growing: Growing,
+    unknown_type_spans: Vec<Span>,
+    named: Result<(Packages, Row<Span>), AllocError>,
+) -> ParseResult<Contents>
+    ensures is { IfOk result (λ c. c ≡ contents_with declared worlds growing c.foreign) }
+    ensures deps { IfOk result (λ c. named ≡ Ok (c.foreign.deps, c.foreign.dep_spans)) }
+    ensures unknown { IfOk result (λ c. c.foreign.unknown_type_spans ≡ unknown_type_spans.items) }
+    ensures required { IfOk result (λ c. c.foreign.required_resource_types ≡ growing.required.items) }
+    ensures refused { IfErr result IsAllocationFailure }
+{
+    let (deps, dep_spans) = named?;
     let Growing {
         types,
         mut inside,
         required,
     } = growing;
-    let mut interfaces = interfaces.arena;
+    let mut interfaces = declared;
     interfaces.append(&mut inside)?;
     let arenas = Arenas {
         types: types.into_arena(),
@@ -110,7 +125,8 @@ fn resolve_named<'f, 'a>(
     let known: &mut Making<'_, '_, '_, '_> = &mut making;
     resolve_items(lent, order, known)?;
     let deps = foreign_deps(alloc, names.foreign_visits());
-    let contents = contents_of(making, spans, deps)?;
+    let (declared, worlds, growing) = made_in(making);
+    let contents = contents_of(declared, worlds, growing, spans, deps)?;
     Ok(contents)
 }
 

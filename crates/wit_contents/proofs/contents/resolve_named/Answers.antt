@@ -50,11 +50,11 @@ returns-clause-made c =
     let deps = IfOk-at_ok (λ found. AreDepsOf c.foreign_visits.result.now found.0) parts.deps c.foreign_deps-deps.ensures.deps in
     let spans = IfOk-at_ok (λ found. AreDepSpansOf c.foreign_visits.result.now found.1) parts.deps c.foreign_deps-deps.ensures.spans in
     let made = rw (c.begun-making.ensures.files, c.of-named.ensures) at c.in_ok-resolve_items.ensures.made in
-    rw parts.is (made c.in_ok-contents.contents.foreign (record {
+    rw (parts.is, c.made_in-declared.ensures) (made c.in_ok-contents.contents.foreign (record {
       deps = deps c.args.names.now c.foreign_visits.ensures;
       spans = spans c.args.names.now c.foreign_visits.ensures;
       unknown = parts.unknown ∙ prefix.spans;
-      required = parts.required;
+      required = rw c.made_in-declared.ensures at parts.required;
     }))
 
 pub returns-in_err-prefix-clause-first : goal.returns-in_err-prefix-clause-first
