@@ -20,7 +20,7 @@ pub record PutsInterface (a b : Resolved) (added : Interface) : Type 0 where
   pub world_names : b.world_names ≡ a.world_names
   pub index : IsIndexed a.interfaces → IsIndexed b.interfaces
 
--- a world was
+-- a world was put after those before it, under its name
 pub record PutsWorld (a b : Resolved) (added : World) : Type 0 where
   pub interfaces : b.interfaces ≡ a.interfaces
   pub arena : b.worlds ≡ a.worlds ++ added ∷ []
@@ -36,7 +36,7 @@ pub record IsBare (g : Growing) : Type 0 where
   pub inside : g.inside ≡ []
   pub required : g.required.items ≡ []
 
--- what other packages put before is made, and no more
+-- only what files name of other packages is made
 pub record IsBegun (m : Making) : Type 0 where
   pub foreign : AddsForeign m.resolved.interfaces.files m.growing.types m.resolved.interfaces.arena m.resolved.worlds
   pub bare : IsBare m.growing

@@ -10,7 +10,7 @@ use wit_items::items::{Declared, Item};
 use wit_tree::ParseResult;
 
 /// Resolves the interfaces among items, and then the worlds, each in the order of these places, after what
-/// other packages put before.
+/// files name of other packages.
 pub fn resolve_items<'f, 'a>(
     items: &[Item<'f, 'a>],
     places: &[usize],

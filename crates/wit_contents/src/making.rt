@@ -66,7 +66,7 @@ pub(crate) fn make_room(
     worlds.reserve(world_count(items))
 }
 
-/// What is made before any item is resolved: what other packages put before, and no more.
+/// What is made before any item is resolved: only what files name of other packages.
 pub(crate) fn begun<'f, 'a, 'n, 'e>(
     alloc: Global,
     files: Files<'f, 'a, 'n, 'e>,
