@@ -1,7 +1,8 @@
 -- What an index of keys finds.
-use Rattle.std.proofs.Common.{◌≡◌, ◌⊎◌, ℕ, zero, suc, ◌+◌, ◌<◌, Bool, false, cond, not, nat_lt, List, [], ◌∷◌, ◌++◌, length, slice_get, slice_set, option_map, subst, position, Some, None, Option, refl, sym, ap, ◌∙◌, arith, unwrap_or, inl, inr, lt-ltb, le-ltb, true≢false, IsTrue, IfSome, IfNone, Box}
+use Rattle.std.proofs.Common.{◌≡◌, ◌⊎◌, ℕ, zero, suc, ◌+◌, ◌<◌, Bool, true, false, cond, not, nat_lt, List, [], ◌∷◌, ◌++◌, length, slice_get, slice_set, option_map, subst, position, Some, None, Option, refl, sym, ap, ◌∙◌, arith, unwrap_or, inl, inr, lt-ltb, le-ltb, true≢false, IsTrue, IfSome, IfNone, Box}
 use native.Mathlib.Decide.{dec_lt}
 use Rattle.std.proofs.lemmas.Bool.{cases_Bool}
+use Rattle.std.specs.Bool.{MatchBool}
 use Rattle.std.specs.BTreeMap.{BTreeMap, get}
 use Rattle.std.proofs.lemmas.Option.{slice_get-map, slice_get_within}
 use Rattle.std.specs.List.{position_or_len}
@@ -16,6 +17,11 @@ use Rattle.wit_maps.specs.Slots.{key_hash_of, home_of, AreFilled, IsAt, IsFull, 
 
 same_key : {A : Type 0} {x y : A} → Some x ≡ Some y → x ≡ y
 same_key {A} {x} e = ap (λ r. unwrap_or r x) e
+
+-- whether the key at a place passes
+pub stated_at : {K : Type 0} (t : K → Bool) (ks : List K) (i : ℕ) (k : K) → slice_get ks i ≡ Some k → (b : Bool) → b ≡ t k → MatchBool b (IsAt t ks i) (IsNotAt t ks i)
+stated_at t ks i k at true is = (k, at, sym is)
+stated_at t ks i k at false is = λ l there. ap t (same_key (sym there ∙ at)) ∙ sym is
 
 module _ {K : Type 0} (t : K → Bool) where
   -- no key before a place passes

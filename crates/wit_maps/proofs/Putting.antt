@@ -3,6 +3,7 @@ use Rattle.std.proofs.Common.{◌≡◌, ◌++◌, ◌∷◌, [], List, ℕ, Boo
 use Rattle.std.specs.Map.{keys_of, lookup}
 use Rattle.std.specs.declared.alloc.Global.{Global}
 use Rattle.std.specs.declared.cmp.Ordering.{Ordering}
+use Rattle.std.proofs.lemmas.List.{map-append}
 use Rattle.std.proofs.lemmas.Option.{slice_get_read}
 use Rattle.indexmap.specs.IndexMap.{insert_entry}
 use Rattle.wit_maps.specs.declared.index.Index.{Index}
@@ -17,6 +18,12 @@ module _ {K X : Type 0} (eq : K → K → Bool) (cmp : K → K → Ordering) (wr
   -- a new key comes last
   pub put_last : (v : X) → as_stated ≡ None → es ++ (key, v) ∷ [] ≡ insert_entry eq old key v
   put_last v none = insert_new eq key v es (place_missed none) ∙ ap (λ l. insert_entry eq l key v) (roomy ∙ seen)
+
+  -- the index of the keys with it
+  pub kept_last : (v : X) → as_stated ≡ None → IsKept eq cmp writes (keys_of (es ++ (key, v) ∷ [])) after
+  kept_last v none =
+      let new = subst (λ l. IsKeptWith eq cmp writes (keys_of l) key after None) lends (subst (IsKeptWith eq cmp writes (keys_of lent) key after) none found) in
+      subst (λ ks. IsKept eq cmp writes ks after) (sym (map-append (λ (e : K × X). e.0) es ((key, v) ∷ []))) new.1
 
   pub was_nowhere : as_stated ≡ None → None ≡ lookup (eq key) old
   was_nowhere none = sym (lookup_nowhere (eq key) es (place_missed none)) ∙ ap (lookup (eq key)) (roomy ∙ seen)

@@ -1,5 +1,7 @@
-use Rattle.std.proofs.Common.{Some, slice_set, ap, ◌∙◌}
-use Rattle.wit_maps.proofs.Putting.{kept_there, put_last, put_there, was_nowhere, was_there}
+use Rattle.std.proofs.Common.{Some, slice_set, ap, ◌∙◌, sym, subst}
+use Rattle.std.specs.Map.{keys_of}
+use Rattle.wit_maps.specs.Indexed.{IsKept}
+use Rattle.wit_maps.proofs.Putting.{kept_last, kept_there, put_last, put_there, was_nowhere, was_there}
 use Rattle.wit_maps.proofs.table.Table.insert.Goals as goal
 
 pub invariant_of-self-in-Some-1 : goal.invariant_of-self-in-Some-1
@@ -20,3 +22,6 @@ returns-in-Ok-None-clause-ok g c = c.push_reserved.ensures.items ∙ put_last g.
 
 pub returns-in-Ok-None-clause-was : goal.returns-in-Ok-None-clause-was
 returns-in-Ok-None-clause-was g c = was_nowhere g.K.PartialEq.eq g.K.Ord.cmp g.K.Hash.hash_input c.args.key _ _ _ _ c.reserve.ensures.items c.self.view_is c.deref.ensures.value _ _ c.in-Ok-None.ensures.found c.in-Ok-None.field-0-is
+
+pub invariant_of-self-in-Ok-None : goal.invariant_of-self-in-Ok-None
+invariant_of-self-in-Ok-None g c = subst (λ l. IsKept g.K.PartialEq.eq g.K.Ord.cmp g.K.Hash.hash_input (keys_of l) c.place_or_note.new.index) (sym c.push_reserved.ensures.items) (kept_last g.K.PartialEq.eq g.K.Ord.cmp g.K.Hash.hash_input c.args.key _ _ _ _ c.reserve.ensures.items c.self.view_is c.deref.ensures.value _ _ c.in-Ok-None.ensures.found c.args.value c.in-Ok-None.field-0-is)
