@@ -1,6 +1,7 @@
 -- The replies and the map after one step more.
 use Rattle.std.proofs.Common.{◌≡◌, ◌∙◌, ◌++◌, ◌+◌, ◌<◌, ℕ, suc, List, [], ◌∷◌, add-one, ap, append_assoc, drop, drop-cons, get_or, length, refl, sym, take}
 use Rattle.std.proofs.lemmas.List.{take_more}
+use Rattle.std.proofs.Math.Seq.{take-append_seam}
 use Rattle.wit_intern.specs.FiniteMap.{FiniteMap, after_step, after_steps, replies, reply}
 use Rattle.wit_intern.specs.declared.run.InternReply.{InternReply}
 use Rattle.wit_intern.specs.declared.run.InternStep.{InternStep}
@@ -26,3 +27,7 @@ module _ (steps : List InternStep) (at : ℕ) (s : InternStep) (old now new : Fi
       let one : replies (drop at steps) now ≡ r ∷ left =
       ap (λ xs. replies xs now) here ∙ ap (λ x. x ∷ replies (drop (at + 1) steps) (after_step s now)) (sym answer) ∙ ap (λ m. r ∷ replies (drop (at + 1) steps) m) (sym next) in
       before ∙ ap (λ xs. given ++ xs) one ∙ sym (ap (λ xs. xs ++ left) more ∙ append_assoc given (r ∷ []) left)
+
+-- what was replied so far is a prefix of all replies
+pub replied_first : {A : Type 0} (all given rest : List A) → all ≡ given ++ rest → given ≡ take (length given) all
+replied_first all given rest is = sym (ap (take (length given)) is ∙ take-append_seam given rest)
