@@ -1,5 +1,5 @@
 -- Sources of pieces, two at a time.
-use Rattle.std.proofs.Common.{Bor, ◌≡◌, ℕ, ◌*◌, ◌%◌, ◌+◌, ◌≤◌, List, [], ◌∷◌, ◌++◌, ◌-◌, drop, length, length-drop, map, slice_index_or, take, take_all, refl, sym, ap, ◌∙◌, subst, append_assoc, arith}
+use Rattle.std.proofs.Common.{Bor, ◌≡◌, ℕ, ◌*◌, ◌%◌, ◌+◌, ◌≤◌, ◌<◌, List, [], ◌∷◌, ◌++◌, ◌-◌, drop, length, length-drop, map, slice_index_or, take, take_all, refl, sym, ap, ◌∙◌, subst, append_assoc, append-nil, arith}
 use Rattle.std.proofs.lemmas.List.{length-map}
 use Rattle.std.proofs.lemmas.List.Sums.{sum_by-append}
 use Rattle.wit_type_tree.specs.declared.error.ParseError.{ParseError}
@@ -40,6 +40,18 @@ pub first_two : (xs : List (Bor (List ℕ))) (d : Bor (List ℕ)) → 2 ≤ leng
 first_two [] d some = absurd (omega arith)
 first_two (x ∷ []) d some = absurd (omega arith)
 first_two (x ∷ y ∷ xs) d some = refl
+
+few_left : (xs : List (Bor (List ℕ))) → length xs < 2 → pairs_of (map (λ (p : Bor (List ℕ)). p.now) xs) ≡ []
+few_left [] few = refl
+few_left (x ∷ []) few = refl
+few_left (x ∷ y ∷ xs) few = absurd (omega arith)
+
+-- where fewer than two are left, they are the sources of all pieces
+pub paired_all : (pieces : List (List ℕ)) (xs : List (Bor (List ℕ))) (sources : List Source) → ArePaired pieces (map (λ (p : Bor (List ℕ)). p.now) xs) sources → length xs < 2 →
+    AreLaid (pairs_of pieces) sources × (room (pairs_of pieces) ≤ 4294967295)
+paired_all pieces xs sources p few =
+    let whole : pairs_of pieces ≡ p.done = p.whole ∙ ap (λ r. p.done ++ r) (few_left xs few) ∙ append-nil p.done in
+    (subst (λ ps. AreLaid ps sources) (sym whole) p.laid, subst (λ ps. room ps ≤ 4294967295) (sym whole) p.fits)
 
 pub paired_large : (pieces : List (List ℕ)) (path text : List ℕ) (rest : List (List ℕ)) (sources : List Source) (e : ParseError) → ArePaired pieces (path ∷ text ∷ rest) sources → IsTooLarge (space sources + length text + 1) e → IsTooLarge (room (pairs_of pieces)) e
 paired_large pieces path text rest sources e p large =
