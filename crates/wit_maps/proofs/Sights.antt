@@ -1,5 +1,5 @@
 -- What a look at slots finds.
-use Rattle.std.proofs.Common.{◌≡◌, ℕ, ◌+◌, ◌<◌, Bool, List, Some, slice_get, ap, arith, subst, sym, ◌∙◌}
+use Rattle.std.proofs.Common.{◌≡◌, ℕ, ◌+◌, ◌<◌, Bool, List, Some, slice_get, ap, arith, ◌∙◌}
 use native.Mathlib.Decide.{dec_lt}
 use Rattle.wit_maps.specs.Slots.{AreUsed, IsNotAt}
 

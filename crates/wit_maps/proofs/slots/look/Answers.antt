@@ -1,4 +1,4 @@
-use Rattle.std.proofs.Common.{◌≡◌, ◌-◌, ℕ, ◌+◌, Some, slice_get, refl, sym, subst, ◌∙◌, arith}
+use Rattle.std.proofs.Common.{◌≡◌, ◌-◌, ◌+◌, Some, slice_get, refl, sym, subst, ◌∙◌, arith}
 use Rattle.std.specs.Bool.{MatchBool}
 use Rattle.std.proofs.lemmas.Option.{slice_get_read, slice_get_within}
 use Rattle.std.specs.Map.{keys_of}
@@ -20,11 +20,11 @@ loop-step-preserved g c =
           let at : slice_get slots here ≡ Some u = slice_get_read slots _ here u refl looked.3.0 looked.1 in
           let miss : IsNotAt t ks (u - 1) = subst (λ b. MatchBool b (IsAt t ks (u - 1)) (IsNotAt t ks (u - 1))) w.if-is_at.false w.is_at.ensures in
           none_more t ks slots c.args.home c.loop-step.step c.loop-step.invariant
-            (λ z. w.if-in_use-eq0.false (let e : Some u ≡ Some 0 = sym at ∙ z in cc))
-            (λ j z. let e : Some u ≡ Some (1 + j) = sym at ∙ z in let f : u ≡ 1 + j = cc in let d : u - 1 ≡ j = omega arith in subst (IsNotAt t ks) d miss)
+          (λ z. w.if-in_use-eq0.false (let e : Some u ≡ Some 0 = sym at ∙ z in cc))
+          (λ j z. let e : Some u ≡ Some (1 + j) = sym at ∙ z in let f : u ≡ 1 + j = cc in let d : u - 1 ≡ j = omega arith in subst (IsNotAt t ks) d miss)
       | in_default w ↦
           let after = w.in_default.ensures.lookup.3 in
           none_more t ks slots c.args.home c.loop-step.step c.loop-step.invariant
-            (λ z. omega (arith, after, slice_get_within slots here 0 z))
-            (λ j z. absurd (omega (arith, after, slice_get_within slots here (1 + j) z)))
+          (λ z. omega (arith, after, slice_get_within slots here 0 z))
+          (λ j z. absurd (omega (arith, after, slice_get_within slots here (1 + j) z)))
     ]
