@@ -1,11 +1,13 @@
 -- Kinds of tokens by their numbers: kinds with one number are one, and what is so of each kind of a list of all is so of each kind.
 use Rattle.std.proofs.Common.{◌≡◌, ℕ, zero, suc, List, [], ◌∷◌, map, get_or, refl, ap, sym, ◌∙◌, true, false}
 use Rattle.std.specs.Prelude.{Bool, IsTrue, ◌↔◌}
-use Rattle.std.proofs.lemmas.Bool.{eq-eqb, ne_eqb, false≢true}
+use Rattle.std.proofs.lemmas.Bool.{eq-eqb, eqb-true, ne_eqb}
 use Rattle.wit_lex.specs.declared.kind.Kind.{Kind}
 use Rattle.wit_lex.specs.declared.kind.Kind.TheVariants as kind
 use Rattle.wit_lex.specs.declared.word.Word.{Word}
 use Rattle.wit_lex.specs.declared.word.Word.TheVariants as word
+use Rattle.wit_lex.specs.contracts.kind.KindPartialEq.TheImpl.{eq-value as kind_test}
+use Rattle.wit_lex.specs.contracts.word.WordPartialEq.TheImpl.{eq-value as word_test}
 use Rattle.wit_lex.specs.Lexis.{words}
 use Rattle.wit_grammar.specs.TokenKinds.{kind_code, same_kind}
 
@@ -102,9 +104,13 @@ unfolding same_kind
 other a b n = ne_eqb (kind_code a) (kind_code b) (λ e. n (one_code a b e))
 
 -- what `==` says of two kinds
-pub as_stated : (r : Bool) (a b : Kind) → (IsTrue r ↔ (a ≡ b)) → r ≡ same_kind a b
-as_stated true a b h = sym (same a b (h.0 refl))
-as_stated false a b h = sym (other a b (λ e. false≢true (h.1 e)))
+pub tested : (a b : Kind) → kind_test.it a b ≡ same_kind a b
+unfolding same_kind
+tested a b = by_table (kind_test.it a) (same_kind a) (by_table (λ (k : Kind). map (kind_test.it k) all_kinds) (λ (k : Kind). map (same_kind k) all_kinds) refl a) b
+
+pub is_same : (r : Bool) (a b : Kind) → r ≡ same_kind a b → IsTrue r ↔ (a ≡ b)
+unfolding same_kind
+is_same r a b e = (λ t. one_code a b (eqb-true (kind_code a) (kind_code b) (sym e ∙ t)), λ s. e ∙ same a b s)
 
 abbrev word_of : Kind → Word
 word_of (kind.Word w) = w
@@ -113,10 +119,9 @@ word_of other = word.Use
 pub other_word : {v w : Word} → (v ≡ w → ⊥) → kind.Word v ≡ kind.Word w → ⊥
 other_word n e = n (ap word_of e)
 
--- what `==` says of the word of a token
-pub stated_word : (r : Bool) (k : Kind) (v w : Word) → k ≡ kind.Word v → (IsTrue r ↔ (v ≡ w)) → r ≡ same_kind k (kind.Word w)
-stated_word true k v w e h = sym (same k (kind.Word w) (e ∙ ap kind.Word (h.0 refl)))
-stated_word false k v w e h = sym (other k (kind.Word w) (λ f. other_word (λ g. false≢true (h.1 g)) (sym e ∙ f)))
+-- and of the word of a token
+pub tested_word : (k : Kind) (v w : Word) → k ≡ kind.Word v → word_test.it v w ≡ same_kind k (kind.Word w)
+tested_word k v w e = tested (kind.Word v) (kind.Word w) ∙ ap (λ (j : Kind). same_kind j (kind.Word w)) (sym e)
 
 pub stated_none : (k : Kind) (w : Word) → ((v : Word) → k ≡ kind.Word v → ⊥) → false ≡ same_kind k (kind.Word w)
 stated_none k w h = sym (other k (kind.Word w) (h w))
