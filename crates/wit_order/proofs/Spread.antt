@@ -1,5 +1,7 @@
 -- A graph turned round, as its runs are filled.
-use Rattle.std.proofs.Common.{◌≡◌, ℕ, suc, ◌+◌, ◌-◌, ◌<◌, ◌≤◌, List, [], ◌∷◌, length, get_or, take, drop, replicate, arith, sym, ◌∙◌, ap, refl, subst, inl, inr, cond, nat_eq, nat_lt, slice_get, Some, All, sum}
+use Rattle.std.proofs.Common.{◌≡◌, ℕ, suc, ◌+◌, ◌-◌, ◌<◌, ◌≤◌, List, [], ◌∷◌, ◌++◌, length, get_or, take, drop, replicate, arith, sym, ◌∙◌, ap, refl, subst, inl, inr, cond, nat_eq, nat_lt, slice_get, Some, All, sum}
+use Rattle.std.proofs.Math.ListN.{get_or-append}
+use Rattle.std.proofs.Math.Seq.{get_or-append_seam}
 use Rattle.std.proofs.lemmas.Bool.{cases_lt, cond-false, le-ltb}
 use Rattle.std.proofs.lemmas.List.{length-replicate, take_all}
 use Rattle.std.proofs.lemmas.List.Sums.{sum_by_more, sum_by_more_le, sum_by-take-le}
@@ -27,6 +29,17 @@ spread_from g counts starts same counted long at = record {
       let all = ap sum (take_all (length g) counts (omega (arith, same))) in
       omega (arith, at i (omega (arith, h, long)), at (length g) (omega (arith, same)), all, sum_by-take-le (λ (n : ℕ). n) counts i);
 }
+
+-- one start more
+pub starts_more : (starts more lengths : List ℕ) (n end : ℕ) → length starts ≡ n → end ≡ sum (take n lengths) → ((i : ℕ) → i < n → get_or starts i 0 ≡ sum (take i lengths)) → more ≡ starts ++ end ∷ []
+    → (i : ℕ) → i < n + 1 → get_or more i 0 ≡ sum (take i lengths)
+starts_more starts more lengths n end long last are e i below = ap (λ l. get_or l i 0) e ∙ elim (cases_lt i n) [
+  | inl l ↦ get_or-append starts (end ∷ []) 0 i (omega arith) ∙ are i l
+  | inr ge ↦
+      let here : length starts ≡ i = omega arith in
+      let same : n ≡ i = omega arith in
+      ap (λ j. get_or (starts ++ end ∷ []) j 0) (sym here) ∙ get_or-append_seam starts end [] 0 ∙ last ∙ ap (λ j. sum (take j lengths)) same
+]
 
 module _ (g : Graph) (starts : List ℕ) (s : IsSpread g starts) where
   pub fill_start : IsFilling starts (λ w. edges_to w (take 0 g)) (λ w q. cond (nat_lt q 0) (times w (row_at g q)) 0) (replicate (get_or starts (length g) 0) 0) starts
