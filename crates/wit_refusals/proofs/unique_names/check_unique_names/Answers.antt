@@ -1,9 +1,27 @@
-use Rattle.std.proofs.Common.{◌≡◌, ℕ, List, Some, inl, inr, ap, sym, subst, ◌∙◌, take}
+use Rattle.std.proofs.Common.{◌≡◌, ℕ, List, Some, inl, inr, ap, sym, subst, ◌∙◌, ◌<◌, length, take}
 use Rattle.wit_syntax.proofs.Common.{AllDiffer, Id, IsRepeatAt, clash, lower_case, map, map_at, slice_get, slice_get-get_or, slice_get_within, fault_in}
 use Rattle.std.specs.Borrow.{Bor}
 use Rattle.wit_first.proofs.Clashes.{no_clashes, clash_first}
 use Rattle.wit_refusals.proofs.Cases.{names-folded}
 use Rattle.wit_refusals.proofs.unique_names.check_unique_names.Goals as goal
+
+-- a place whose name is folded is within the names
+folded_within : (names : List Id) (i : ℕ) (k : List ℕ) → slice_get (map (λ (id : Id). lower_case id.name.now) names) i ≡ Some k → i < length names
+folded_within names i k at = (let x = map_at (λ (id : Id). lower_case id.name.now) names i k at in slice_get_within names i x.0 x.1)
+
+pub bounds-names-first : goal.bounds-names-first
+bounds-names-first c =
+    let names = c.args.names.now in
+    let keys = ap (map (λ (t : Bor (List ℕ)). lower_case t.now)) c.deref.ensures.value ∙ names-folded c.in_ok-texts.texts.items names c.in_ok-texts.ensures in
+    let r : IsRepeatAt (map (λ (id : Id). lower_case id.name.now) names) c.in-Some.first c.in-Some.second = subst (λ ks. IsRepeatAt ks c.in-Some.first c.in-Some.second) keys (rw c.in-Some.is at c.in_ok-first.ensures.some) in
+    folded_within names c.in-Some.first r.x r.at_first
+
+pub bounds-names-second : goal.bounds-names-second
+bounds-names-second c =
+    let names = c.args.names.now in
+    let keys = ap (map (λ (t : Bor (List ℕ)). lower_case t.now)) c.deref.ensures.value ∙ names-folded c.in_ok-texts.texts.items names c.in_ok-texts.ensures in
+    let r : IsRepeatAt (map (λ (id : Id). lower_case id.name.now) names) c.in-Some.first c.in-Some.second = subst (λ ks. IsRepeatAt ks c.in-Some.first c.in-Some.second) keys (rw c.in-Some.is at c.in_ok-first.ensures.some) in
+    folded_within names c.in-Some.second r.x r.at_second
 
 pub returns-in-Some : goal.returns-in-Some
 returns-in-Some c =
