@@ -13,17 +13,16 @@ fn collect_deps<'a>(deps: &mut Vec<Id<'a>>, ty: &Type<'a>) -> Result<(), AllocEr
 {
     match ty {
         Type::Name(id) | Type::Own(_, id) | Type::Borrow(_, id) => deps.push(*id)?,
-        Type::List(_, part) => collect_deps(deps, part)?,
-        Type::FixedLengthList(_, part, _) => collect_deps(deps, part)?,
-        Type::Option(_, part) => collect_deps(deps, part)?,
+        Type::List(_, part) | Type::FixedLengthList(_, part, _) | Type::Option(_, part) => {
+            collect_deps(deps, part)?
+        }
         Type::Map(_, key, value) => {
             collect_deps(deps, key)?;
             collect_deps(deps, value)?;
         }
         Type::Result(_, types) => collect_result_deps(deps, types)?,
         Type::Tuple(_, parts) => collect_all_deps(deps, parts)?,
-        Type::Future(_, part) => collect_optional_deps(deps, part)?,
-        Type::Stream(_, part) => collect_optional_deps(deps, part)?,
+        Type::Future(_, part) | Type::Stream(_, part) => collect_optional_deps(deps, part)?,
         _ => {}
     }
     Ok(())
@@ -39,8 +38,7 @@ fn collect_result_deps<'a>(
 {
     match types {
         ResultTypes::Neither => {}
-        ResultTypes::Ok(ok) => collect_deps(deps, ok)?,
-        ResultTypes::Err(err) => collect_deps(deps, err)?,
+        ResultTypes::Ok(one) | ResultTypes::Err(one) => collect_deps(deps, one)?,
         ResultTypes::Both(ok, err) => {
             collect_deps(deps, ok)?;
             collect_deps(deps, err)?;
