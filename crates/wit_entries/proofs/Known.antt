@@ -1,6 +1,7 @@
 -- Tables that know unnamed entries, and one entry more.
 use Rattle.std.proofs.Common.{◌≡◌, ◌⊎◌, ℕ, Bool, true, false, List, [], ◌∷◌, ◌++◌, length, Option, Some, None, if◌then◌else◌, inl, inr, refl, sym, ap, ◌∙◌}
 use Rattle.std.specs.Bool.{Decides}
+use Rattle.std.specs.Prelude.{is_some}
 use Rattle.wit_arena.proofs.Common.{Span, Stability, TypeDef, TypeDefKind, at_either, unnamed}
 use Rattle.wit_intern.specs.declared.key.InternKey.{InternKey}
 use Rattle.wit_intern.specs.TypeKeys.{key_of}
@@ -58,3 +59,10 @@ known_unnamed key_hashes keys new_key_hashes new_keys es kind stability span key
           let here : key ≡ Some k = is ∙ ap (λ (e : TypeDef). key_of e.kind) (sym last.1) ∙ has in
           rw last.0 (known_there key_hashes keys new_key_hashes new_keys key k (length es) here set))
     ]
+
+-- a named entry more
+pub known_named : (key_hashes : ℕ → Option ℕ) (keys : FiniteMap) (es new : List TypeDef) (x : TypeDef) → new ≡ es ++ x ∷ [] → is_some x.name ≡ true → AreKnown key_hashes keys es → AreKnown key_hashes keys new
+known_named key_hashes keys es new x is some known = rw is (λ j e k at none has. elim (at_either es x j e at.is) [
+  | inl there ↦ known j e k (record { is = there }) none has
+  | inr last ↦ absurd (let wrong : true ≡ false = sym some ∙ ap (λ (e : TypeDef). is_some e.name) (sym last.1) ∙ ap is_some none in let f : ⊥ = cc in f)
+])
