@@ -102,8 +102,10 @@ impl<'f, 'a> FileNames<'f, 'a> {
         ensures files { IfOk result (λ names. names ≡ files.now) }
         ensures first { FindsBy (IsNamesFault files.now) result }
     {
-        let tables = Tables::gather(alloc, files)?;
-        Ok(FileNames::of(files, tables))
+        match Tables::gather(alloc, files) {
+            Ok(tables) => Ok(FileNames::of(files, tables)),
+            Err(e) => Err(e),
+        }
     }
 
     /// The places of the items, each after those that have to come before it, in the least such
