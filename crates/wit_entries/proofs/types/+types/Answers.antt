@@ -199,3 +199,39 @@ resolve_result-returns-in_err-err-in-Both-clause-resolves t c =
 
 pub resolve_result-returns-in_ok-err-in-Both-clause-resolves : goal.resolve_result-returns-in_ok-err-in-Both-clause-resolves
 resolve_result-returns-in_ok-err-in-Both-clause-resolves t c = rw c.in-Both.is (types_more c.args.scope.now c.args.given.now (c.in-Both.ok.value ∷ []) (c.in-Both.err.value ∷ []) (c.in_ok-ok-in-Both.ok ∷ []) (c.in_ok-err-in-Both.err ∷ []) (rw c.deref-in-Both.ensures at c.in_ok-ok-in-Both.ensures) (rw c.deref-in-Both-2.ensures at c.in_ok-err-in-Both.ensures))
+
+pub read-returns-in_err-item : goal.read-returns-in_err-item
+read-returns-in_err-item t c =
+    let p = err_from_is_err_and c.from_residual-in_err-item.result c.from_residual-in_err-item.ensures.1 in
+    let it = c.in-List in
+    rw (it.is, p.1, p.2) (part_stopped c.args.scope.now c.args.given.now (written.List it.span it.item) [] (it.item.value ∷ []) ([]) [] refl refl (types_none c.args.scope.now c.args.given.now c.args.types.now c.args.required.now.items) (rw c.deref.ensures at c.in_err-item.ensures))
+
+pub read_form-returns-in_err-item-in-FixedLengthList : goal.read_form-returns-in_err-item-in-FixedLengthList
+read_form-returns-in_err-item-in-FixedLengthList t c =
+    let p = err_from_is_err_and c.from_residual.result c.from_residual.ensures.1 in
+    let it = c.in-FixedLengthList in
+    rw (it.is, p.1, p.2) (part_stopped c.args.scope.now c.args.given.now (written.FixedLengthList it.span it.item it.size) [] (it.item.value ∷ []) ([]) [] refl refl (types_none c.args.scope.now c.args.given.now c.args.types.now c.args.required.now.items) (rw c.deref.ensures at c.in_err-item-in-FixedLengthList.ensures))
+
+pub read_form-returns-in_err-key_type-in-Map : goal.read_form-returns-in_err-key_type-in-Map
+read_form-returns-in_err-key_type-in-Map t c =
+    let p = err_from_is_err_and c.from_residual-in_err-key_type-in-Map.result c.from_residual-in_err-key_type-in-Map.ensures.1 in
+    let it = c.in-Map in
+    rw (it.is, p.1, p.2) (part_stopped c.args.scope.now c.args.given.now (written.Map it.span it.key it.value) [] (it.key.value ∷ []) (it.value.value ∷ []) [] refl refl (types_none c.args.scope.now c.args.given.now c.args.types.now c.args.required.now.items) (rw c.deref-in-Map.ensures at c.in_err-key_type-in-Map.ensures))
+
+pub read_form-returns-in_err-value-in-Option : goal.read_form-returns-in_err-value-in-Option
+read_form-returns-in_err-value-in-Option t c =
+    let p = err_from_is_err_and c.from_residual-in_err-value-in-Option.result c.from_residual-in_err-value-in-Option.ensures.1 in
+    let it = c.in-Option in
+    rw (it.is, p.1, p.2) (part_stopped c.args.scope.now c.args.given.now (written.Option it.span it.value) [] (it.value.value ∷ []) ([]) [] refl refl (types_none c.args.scope.now c.args.given.now c.args.types.now c.args.required.now.items) (rw c.deref-in-Option.ensures at c.in_err-value-in-Option.ensures))
+
+pub read_form-returns-in_err-value-in-Future : goal.read_form-returns-in_err-value-in-Future
+read_form-returns-in_err-value-in-Future t c =
+    let p = err_from_is_err_and c.from_residual-in_err-value-in-Future.result c.from_residual-in_err-value-in-Future.ensures.1 in
+    let it = c.in-Future in
+    rw (it.is, p.1, p.2) (part_stopped c.args.scope.now c.args.given.now (written.Future it.span it.value) [] (boxed_types it.value) ([]) [] (types_of_borrowed it.value ∙ sym (append-nil (boxed_types it.value))) refl (types_none c.args.scope.now c.args.given.now c.args.types.now c.args.required.now.items) c.in_err-value-in-Future.ensures.resolves)
+
+pub read_form-returns-in_err-item-in-Stream : goal.read_form-returns-in_err-item-in-Stream
+read_form-returns-in_err-item-in-Stream t c =
+    let p = err_from_is_err_and c.from_residual-in_err-item-in-Stream.result c.from_residual-in_err-item-in-Stream.ensures.1 in
+    let it = c.in-Stream in
+    rw (it.is, p.1, p.2) (part_stopped c.args.scope.now c.args.given.now (written.Stream it.span it.item) [] (boxed_types it.item) ([]) [] (types_of_borrowed it.item ∙ sym (append-nil (boxed_types it.item))) refl (types_none c.args.scope.now c.args.given.now c.args.types.now c.args.required.now.items) c.in_err-item-in-Stream.ensures.resolves)
