@@ -1,5 +1,5 @@
 use Rattle.std.proofs.Common.{◌≡◌, ℕ, List, Some, inl, inr, ap, sym, subst, ◌∙◌, ◌<◌, length, take}
-use Rattle.wit_syntax.proofs.Common.{AllDiffer, Id, IsRepeatAt, clash, lower_case, map, map_at, slice_get, slice_get-get_or, slice_get_within, fault_in}
+use Rattle.wit_syntax.proofs.Common.{AllDiffer, Id, IsRepeatAt, clash, err_from_is_err_and, lower_case, map, map_at, slice_get, slice_get-get_or, slice_get_within, fault_in}
 use Rattle.std.specs.Borrow.{Bor}
 use Rattle.wit_first.proofs.Clashes.{no_clashes, clash_first}
 use Rattle.wit_refusals.proofs.Cases.{names-folded}
@@ -47,3 +47,9 @@ returns c =
     let names = c.args.names.now in
     let keys = ap (map (λ (t : Bor (List ℕ)). lower_case t.now)) c.deref.ensures.value ∙ names-folded c.in_ok-texts.texts.items names c.in_ok-texts.ensures in
     no_clashes (λ (id : Id). lower_case id.name.now) (λ (earlier : Id) (later : Id). fault_in 25 later.span (clash c.args.desc.now earlier.name.now later.name.now)) names (subst AllDiffer keys (rw c.in-None.is at c.in_ok-first.ensures.none))
+
+pub returns-in_err-texts : goal.returns-in_err-texts
+returns-in_err-texts c = (let p = err_from_is_err_and c.from_residual.result c.from_residual.ensures.1 in rw p.1 (inl p.2))
+
+pub returns-in_err-first : goal.returns-in_err-first
+returns-in_err-first c = (let p = err_from_is_err_and c.from_residual-in_err-first.result c.from_residual-in_err-first.ensures.1 in rw p.1 (inl p.2))
