@@ -5,14 +5,16 @@ use Rattle.wit_syntax.specs.Sides.{members_after}
 use Rattle.wit_arena.specs.Made.{entries_on, function_in, member_entries, scope_place}
 use Rattle.wit_arena.specs.Occurrences.{Key}
 use Rattle.wit_arena.specs.Resolving.{GivesPlaces}
+use Rattle.wit_arena.specs.SourceFunctions.{inline_entry}
 use Rattle.wit_tree.specs.declared.tree.WorldItem.{WorldItem}
 use Rattle.wit_walk.specs.Sorts.{item_sorted}
 use Rattle.wit_sides.specs.SideNames.{defined_on}
 use Rattle.wit_rules.specs.Signatures.{function_view, AreResults}
 use Rattle.wit_externs.specs.Clash.{linked_on, bare_place, item_names}
-use Rattle.wit_world_sides.specs.Members.{AreKeyed, Entry, sorted_on, put_fault, put_link_fault}
-use Rattle.wit_links.specs.Links.{IsSeen, seen_on}
+use Rattle.wit_world_sides.specs.Members.{AreKeyed, Entry, PutsOn, sorted_on, put_fault, put_link_fault}
+use Rattle.wit_links.specs.Links.{IsSeen, inline_side, seen_on}
 use Rattle.wit_items.specs.BorrowedItems.{Inside, inside_of}
+use Rattle.wit_items.specs.declared.items.InlineInterface.{InlineInterface}
 use Rattle.wit_item_entries.specs.AddedNames.{IsTurn}
 use Rattle.wit_contents.specs.Making.{IsItemIn}
 use Rattle.wit_contents.specs.Interfaces.{AddsAt, IsRightOf}
@@ -71,6 +73,14 @@ pub record IsNext (w : ItemWalk) (xs : List SideItem) (m : Walked) : Type 0 wher
 -- an inline interface of an item is the next of its side
 abbrev pub IsInsideNext : BorrowedItem → Inside → Walked → Type 0
 IsInsideNext i x m = slice_get (inside_of x.inline.written.now.side i) (seen_on x.inline.written.now.side m.seen) ≡ Some x
+
+-- it is put on its side, with its place
+abbrev pub PutsInline : Walked → Walked → InlineInterface → ℕ → Type 0
+PutsInline old new x id = PutsOn old.members new.members (inline_side x) (inline_entry x.written.now x.name id)
+
+-- of its attributes, and then of where it is put
+abbrev pub inline_fault : Walked → InlineInterface → Option Fault
+inline_fault m x = option_or (metadata_fault x.written.now.attributes.items) (put_fault m.members (inline_side x))
 
 -- the interfaces that are resolved have their places, and these inline ones come from the next place on
 pub record HavePlaces (w : ItemWalk) (inside : List Interface) (us : List Item) (ss : List Address) : Type 0 where

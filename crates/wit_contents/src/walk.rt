@@ -1,21 +1,22 @@
 //! What a world imports and exports, in source order: each is resolved, checked and put on its side.
-ghost use Rattle.std.specs.Prelude.{◌≡◌, ◌+◌, ◌∷◌, [], IfOk, OnOk, length, map};
+ghost use Rattle.std.specs.Prelude.{◌≡◌, ◌+◌, ◌++◌, ◌∷◌, [], IfOk, OnOk, length, map};
 ghost use Rattle.wit_syntax.specs.Function.{side_function, resource_function};
 ghost use Rattle.wit_syntax.specs.Sides.{extern_items, side_items, SideFunction, SideLink, part_items};
 ghost use Rattle.wit_syntax.specs.Source.{DefinitionPart};
+ghost use Rattle.wit_first.specs.First.{Finds};
 ghost use Rattle.wit_rules.specs.Signatures.{function_view};
 ghost use Rattle.wit_items.specs.BorrowedItems.{item_view, scope_item};
 ghost use Rattle.wit_world_sides.specs.Members.{path_link};
-ghost use Rattle.wit_links.specs.Links.{inline_side};
+ghost use Rattle.wit_links.specs.Links.{inline_side, IsSeen};
 ghost use Rattle.wit_contents.specs.Interfaces.{FindsInterface, IsLent};
-ghost use Rattle.wit_contents.specs.Walk.{FindsMembers, AddsItems, IsInsideNext, IsNext, next_place, stage, walk_of, AddsInside};
+ghost use Rattle.wit_contents.specs.Walk.{FindsMembers, AddsItems, IsInsideNext, IsNext, PutsInline, inline_fault, next_place, stage, walk_of, AddsInside};
 
 use crate::interface::interface_of;
 use crate::making::Growing;
-use std::alloc::AllocError;
+use std::alloc::{AllocError, Global};
 use wit_item_entries::names::ResolvedNames;
 use wit_items::interfaces::Interfaces;
-use wit_items::items::{Declared, Inside, Item, ItemScope};
+use wit_items::items::{Declared, InlineInterface, Inside, Item, ItemScope};
 use wit_links::inside::{Seen, declared_world};
 use wit_links::links::linked_id;
 use wit_links::resolved::Resolved;
@@ -136,10 +137,29 @@ fn walk_link<'f, 'a>(
     put_link(alloc, &mut walked.members, link, id)
 }
 
+/// Puts an inline interface that is resolved on its side, under its name.
+///
+/// A refusal is E30 to E35, where its attributes break a rule; or one of `put_inline`.
+fn put_resolved(
+    alloc: Global,
+    inline: &InlineInterface<'_, '_>,
+    walked: &mut Walked,
+    id: InterfaceId,
+) -> ParseResult<()>
+    ensures seen { OnOk result ((xs : _) → IsSeen xs walked.old.seen → IsSeen (xs ++ inline_side inline.now ∷ []) walked.new.seen) }
+    ensures puts { OnOk result (PutsInline walked.old walked.new inline.now id) }
+    ensures first { Finds (inline_fault walked.old inline.now) result }
+{
+    check_metadata(alloc, &inline.written.attributes)?;
+    put_inline(alloc, &mut walked.members, inline.written, inline.name, id)?;
+    let seen = walked.seen.with_inline(inline.written.side)?;
+    walked.seen = seen;
+    Ok(())
+}
+
 /// Resolves the next inline interface, and puts it on its side, under its name.
 ///
-/// A refusal is one of `interface_of`; E30 to E35, where its attributes break a rule; or one of
-/// `put_inline`.
+/// A refusal is one of `interface_of`, or of `put_resolved`.
 fn walk_inline<'f, 'a>(
     item: &Item<'f, 'a>,
     walk: &WorldScope<'f, 'a, '_, '_, '_>,
@@ -153,17 +173,13 @@ fn walk_inline<'f, 'a>(
     ensures first { FindsMembers (walk_of item.now walk.now) (inline_side inside.now.inline ∷ []) (stage growing.old walked.old) result }
 {
     let alloc = *walk.resolved.interfaces.by_name.allocator();
-    let inline = inside.inline;
     let scope = ItemScope {
         file: item.file,
-        declared: Declared::Inline(inline),
+        declared: Declared::Inline(inside.inline),
         names: &inside.names,
     };
     let id = resolve_inline(&scope, growing, walk.resolved)?;
-    check_metadata(alloc, &inline.written.attributes)?;
-    put_inline(alloc, &mut walked.members, inline.written, inline.name, id)?;
-    let seen = walked.seen.with_inline(inline.written.side)?;
-    walked.seen = seen;
+    put_resolved(alloc, &inside.inline, walked, id)?;
     Ok(())
 }
 
