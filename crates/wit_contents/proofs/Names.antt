@@ -11,7 +11,7 @@ pub use Rattle.wit_contents.specs.declared.making.Growing.{Growing}
 pub use Rattle.wit_contents.specs.declared.making.Making.{Making}
 pub use Rattle.wit_contents.specs.Files.{IsRight, IsReady}
 pub use Rattle.wit_contents.specs.Walk.{AreRightMembers, IsInsideNext, IsRightMember, AddsInside, AddsMembers, HavePlaces, IsNext, IsStart, IsWalk, ItemWalk, Stage, lead, next_place, puts_nothing, stage, walk_of}
-pub use Rattle.wit_contents.specs.Worlds.{AddsDeclaredWorld, AddsTo, AddsNamesOf, FindsSides, HasContent, IsRightOfWorld}
+pub use Rattle.wit_contents.specs.Worlds.{AddsDeclaredWorld, AddsTo, AddsNamesOf, FindsAfterNames, HasContent, IsRightOfWorld}
 pub use Rattle.wit_items.specs.declared.interfaces.Interfaces.{Interfaces}
 pub use Rattle.wit_items.specs.declared.items.Item.{Item}
 pub use Rattle.wit_items.specs.declared.items.ItemScope.{ItemScope}

@@ -1,6 +1,6 @@
 -- The first fault of a world: of its attributes, of its names, of its includes, or of what is on its sides.
 use Rattle.std.proofs.Common.{◌≡◌, ℕ, ◌+◌, Bool, false, true, List, [], ◌∷◌, ◌++◌, drop, length, map, take, Option, Some, None, refl, sym, ap, ◌∙◌, subst, ◌==◌, append_assoc, arith}
-use Rattle.wit_contents.proofs.Names.{AreKeyed, Declared, EndsInTurn, Exported, Fault, Finds, FindsNames, FindsSides, Id, Imported, Include, IsItemOf, IsNext, IsOutcome, IsRightOfWorld, IsSeen, IsWalk, Item as BorrowedItem, ItemWalk, Outcome, PackageFile, ParseError, Reports, ResolvedScope, Result, ScopeName, SourceFunction, TheInline, TheInterface, TheWorld, TopName, TypeDef, TypeOwner, AddsNamesOf, AddsTo, HasContent, IsItemIn, Resolved, about, all_declared, all_items, append-nil, at_contains, declared_view, eqb-suc-zero, filter, filter-append, filter_map-append, finds_same, first_after, first_in, functions, if◌then◌else◌, in-append, in-more, in_order, in_turn, includes, includes_fault, is_inside, item_in, item_stability, item_view, kept_next, local_id, names_at_top, names_fault, name_view, option_or, order_of, reports_back, reports_prefix, reports_same, resolved_scopes_of, rows_of, scope_names, setters_fault, side_items, side_setters_fault, slice_get, stability_fault, take-append-drop, Address, AddsMembers, AddsSides, AllDiffer, AreIncludes, Borrowed, Entry, HavePlaces, Interface, IsStart, addresses_of, IsTurn, Name, Names, Required, SideItem, World, WorldSide, address, and_parts, at_back, at_prefix, declared_metadata, eqb-true, flat_map, function_of, in_turn_distinct, inline_items, interfaces_at, is_ascii_uppercase, item_function, list_all, list_any, names_on, nil_from_length, no_clashes, none_both, part_functions, part_items, prefix_of, puts_nothing, settled, stage, type_imports, world_part, functions_parts}
+use Rattle.wit_contents.proofs.Names.{AreKeyed, Declared, EndsInTurn, Exported, Fault, Finds, AddsScope, FindsAfterNames, FindsNames, Id, Imported, Include, IsItemOf, IsNext, IsOutcome, IsRightOfWorld, IsSeen, IsWalk, Item as BorrowedItem, ItemWalk, Outcome, PackageFile, ParseError, Reports, ResolvedScope, Result, ScopeName, SourceFunction, TheInline, TheInterface, TheWorld, TopName, TypeDef, TypeOwner, AddsNamesOf, AddsTo, HasContent, IsItemIn, Resolved, about, all_declared, all_items, append-nil, at_contains, declared_view, eqb-suc-zero, filter, filter-append, filter_map-append, finds_same, first_after, first_in, functions, if◌then◌else◌, in-append, in-more, in_order, in_turn, includes, includes_fault, is_inside, item_in, item_stability, item_view, kept_next, local_id, names_at_top, names_fault, name_view, option_or, order_of, reports_back, reports_prefix, reports_same, resolved_scopes_of, rows_of, scope_names, setters_fault, side_items, side_setters_fault, slice_get, stability_fault, take-append-drop, Address, AddsMembers, AddsSides, AllDiffer, AreIncludes, Borrowed, Entry, HavePlaces, Interface, IsStart, addresses_of, IsTurn, Name, Names, Required, SideItem, World, WorldSide, address, and_parts, at_back, at_prefix, declared_metadata, eqb-true, flat_map, function_of, in_turn_distinct, inline_items, interfaces_at, is_ascii_uppercase, item_function, list_all, list_any, names_on, nil_from_length, no_clashes, none_both, part_functions, part_items, prefix_of, puts_nothing, settled, stage, type_imports, world_part, functions_parts}
 use Rattle.wit_arena.proofs.Common.{Item, entries_on, name_imports, WorldInclude}
 use Rattle.wit_contents.specs.declared.making.Growing.{Growing}
 use Rattle.wit_contents.specs.declared.walk.Walked.{Walked}
@@ -36,13 +36,17 @@ setters_closed i fns are closed same =
     ∙ setters_by i (includes i)
 
 -- an item of the files is what is declared in the file at its place
-pub item_here : {files : List PackageFile} (i : BorrowedItem) (world : Written) → IsItemOf files i → declared_view i.declared ≡ TheWorld world → item_in files i.place (TheWorld world) ≡ item_view i
+item_here : {files : List PackageFile} (i : BorrowedItem) (world : Written) → IsItemOf files i → declared_view i.declared ≡ TheWorld world → item_in files i.place (TheWorld world) ≡ item_view i
 item_here i world own is =
     ap (λ (top : List TopName). record { top = top; declared = TheWorld world }) (ap names_at_top own.file)
     ∙ ap (λ (d : Declared). record { top = (item_view i).top; declared = d }) (sym is)
 
+-- so are its includes
+pub included_here : (r : Resolved) (i : BorrowedItem) (world : Written) (found : List WorldInclude) → IsItemOf r.interfaces.files i → declared_view i.declared ≡ TheWorld world → AreIncludes (addresses_of r) (item_in r.interfaces.files i.place (TheWorld world)) found → AreIncludes (addresses_of r) (item_view i) found
+included_here r i world found of is = subst (λ (w : Item). AreIncludes (addresses_of r) w found) (item_here i world of is)
+
 -- what is made of the world is made of the item
-says_here : (i : BorrowedItem) (world : Written) → declared_view i.declared ≡ TheWorld world → (sides : WorldSides) (found : List WorldInclude) (w : World) → HasContent (TheWorld world) sides found w → HasContent (item_view i).declared sides found w
+pub says_here : (i : BorrowedItem) (world : Written) → declared_view i.declared ≡ TheWorld world → (sides : WorldSides) (found : List WorldInclude) (w : World) → HasContent (TheWorld world) sides found w → HasContent (item_view i).declared sides found w
 says_here i world is sides found w says = subst (λ (d : Declared). HasContent d sides found w) (sym is) says
 
 -- at first all of what is on the sides comes next
@@ -116,16 +120,11 @@ module _ (ws : Resolved) (i : BorrowedItem) (old : Growing) where
               ∙ ap (λ (x : Option Fault). option_or x (defined_fault [] (map name_of_id (turned_ids test.outcome)))) (sym included ∙ usable)
               ∙ ap (λ (ids : List Id). defined_fault [] (map name_of_id ids)) (sym turned_is)
 
-          pub world_alone : {T : Type 0} (r : Result T ParseError) → Finds (option_or (defined_fault [] (map name_of_id n.turn.items)) (option_or (first_after test.member [] (side_items (item_view i))) (setters_fault (item_view i)))) r → Finds (wrong (item_view i)) r
-          world_alone r found = finds_same r (sym (test.says ∙ ap (λ (x : Option Fault). option_or x rest) head_is)) found
-
-      -- what is found in its walk, too
-      module _ (s : WorldScope) (mid : Growing) (same : mid.inside ≡ old.inside) (turn : AddsNamesOf ws i old.types mid.types s.names) (head : FindsNames None ws.interfaces o old.types i.names.items (done s.names)) (usable : includes_fault ws (item_in ws.interfaces.files i.place (TheWorld world)) ≡ None) where
-        abbrev walk : ItemWalk
-        walk = record { item = i; scope = s; interfaces = ws.interfaces }
-
-        pub world_found : {T : Type 0} (r : Result T ParseError) → IsWalk walk → FindsSides walk mid r → Finds (wrong (item_view i)) r
-        world_found r walks found = world_alone s.names mid.types turn head usable r (found test.member (test.members s mid walks same turn.adds))
+      -- what is found of it after its names, too
+      pub world_found : {T : Type 0} (r : Result T ParseError) (n : ResolvedNames) (mid : Growing) → mid.inside ≡ old.inside → AddsNamesOf ws i old.types mid.types n → FindsNames None ws.interfaces o old.types i.names.items (done n) → includes_fault ws (item_in ws.interfaces.files i.place (TheWorld world)) ≡ None → FindsAfterNames ws i n mid r → Finds (wrong (item_view i)) r
+      world_found r n mid same turn head usable found =
+          let right = λ (s : WorldScope) (types : s.names.types ≡ n.types) (walks : IsWalk (record { item = i; scope = s; interfaces = ws.interfaces })). test.members s mid walks same (subst (AddsScope old.types mid.types cs o xs) (sym types) turn.adds) in
+          finds_same r (sym (test.says ∙ ap (λ (x : Option Fault). option_or x rest) (head_is n mid.types turn head usable))) (found test.member right)
 
 -- each item of files has a name by which it is found
 pub item_called : (files : List PackageFile) (i : BorrowedItem) → IsItemOf files i → (about (item_view i).declared).called ≡ Some (about (item_view i).declared).id.name.now
@@ -155,13 +154,13 @@ among_kept keep wrong ws places k p w e next at kept none own =
 
 -- The walk of a world of the files, and what the world adds: after its names what is on its sides, or nothing.
 -- it is the walk of a world of the files, where its names are resolved in turn
-pub walk_there : (r : Resolved) (i : BorrowedItem) (s : WorldScope) (world : Written) (names : List Borrowed) (ns found : List WorldInclude) → IsItemIn r.interfaces true i → declared_view i.declared ≡ TheWorld world → IsTurn (scope_names (item_view i)) s.names.turn.items → map function_view s.functions.items ≡ flat_map part_functions (map world_part world.items.items) → names ≡ i.names.items → AreResults s.results (map name_view names) → AreIncludes (addresses_of r) (item_in r.interfaces.files i.place (TheWorld world)) found → ns ≡ found → ((written : List Include) → length ns ≡ length written → s.closed ≡ none_of written) → IsWalk (record { item = i; scope = s; interfaces = r.interfaces })
-walk_there r i s world names ns found of declared turn functions lent results are same closed = record {
+pub walk_there : (r : Resolved) (i : BorrowedItem) (s : WorldScope) (world : Written) (names : List Borrowed) → IsItemIn r.interfaces true i → declared_view i.declared ≡ TheWorld world → IsTurn (scope_names (item_view i)) s.names.turn.items → map function_view s.functions.items ≡ flat_map part_functions (map world_part world.items.items) → names ≡ i.names.items → AreResults s.results (map name_view names) → s.closed ≡ none_of (includes (item_view i)) → IsWalk (record { item = i; scope = s; interfaces = r.interfaces })
+walk_there r i s world names of declared turn functions lent results closed = record {
   world = of;
   functions = functions ∙ ap (λ (d : Declared). flat_map part_functions (about d).parts) (sym declared) ∙ sym (functions_parts (item_view i));
   results = subst (AreResults s.results) (ap (map name_view) lent ∙ of.item.named) results;
   turn = turn;
-  closed = closed (includes (item_view i)) (ap length same ∙ are.0 ∙ ap (λ (w : Item). length (includes w)) (item_here i world of.item declared));
+  closed = closed;
 }
 
 -- where each of so many interfaces that are written in an item is, after the declared ones and those that were written before
@@ -186,8 +185,8 @@ module _ (r : Resolved) (i : BorrowedItem) (s : WorldScope) (a middle b : Growin
   abbrev interfaces : List Interface
   interfaces = r.interfaces.arena
 
-  pub content_adds : IsWalk own_walk → (sides : WorldSides) (found : List WorldInclude) → AreSettled s.closed m.members.sides sides → (world : Written) → declared_view i.declared ≡ TheWorld world → AreIncludes (addresses_of r) (item_in r.interfaces.files i.place (TheWorld world)) found → (added : World) → HasContent (TheWorld world) sides found added → AddsTo r i a b added
-  content_adds walks settled_sides found on_sides world is are added says = record {
+  pub content_adds : IsWalk own_walk → (sides : WorldSides) (found : List WorldInclude) → AreSettled s.closed m.members.sides sides → AreIncludes (addresses_of r) (item_view i) found → (added : World) → HasContent (item_view i).declared sides found added → AddsTo r i a b added
+  content_adds walks settled_sides found on_sides are added says = record {
     own = s.names.required.items ++ adds.adds.own;
     list = adds.adds.list ∙ ap (λ (l : List Required). l ++ adds.adds.own) required ∙ append_assoc a.required.items s.names.required.items adds.adds.own;
     holds = record {
@@ -212,10 +211,10 @@ module _ (r : Resolved) (i : BorrowedItem) (s : WorldScope) (a middle b : Growin
           let names = in_turn (scope_names item) n.adds.order in
           let on : WorldSide → List Entry = λ s. entries_on s (next_entries id all item [] (side_items item)) in
           let named = begun.imports names n.turn ∙ ap (type_imports names) typed ∙ type_imports-as_stated id (address item) names in
-          world_stated (about item.declared).id.name.now (about item.declared).id.span (declared_metadata item.declared) added settled_sides.imports _ settled_sides.exports _ found _ (says_here i world is settled_sides found added says)
+          world_stated (about item.declared).id.name.now (about item.declared).id.span (declared_metadata item.declared) added settled_sides.imports _ settled_sides.exports _ found _ says
           (on_sides Imported (includes item) walks.closed ∙ ap (settled (includes item)) (adds.are_present id made all places Imported ∙ ap (λ (l : List Entry). l ++ on Imported) named))
           (on_sides Exported (includes item) walks.closed ∙ ap (settled (includes item)) (adds.are_present id made all places Exported ∙ ap (λ (l : List Entry). l ++ on Exported) begun.exports))
-          ((subst (λ (w : Item). AreIncludes (addresses_of r) w found) (item_here i world walks.world.item is) are).1 vs there));
+          (are.1 vs there));
     };
   }
 
@@ -264,8 +263,8 @@ module _ (i : BorrowedItem) (world : Written) (is : declared_view i.declared ≡
   alone_none ids turn lower member = none_both (no_clashes name_key again (map name_of_id ids) (keys_differ (scope_names (item_view i)) ids turn lower Imported)) (none_both (ap (first_after member []) empty) (setters_none (item_view i) empty))
 
   -- and only the names are added
-  pub alone_adds : (r : Resolved) (a b : Growing) (names : ResolvedNames) (n : AddsNamesOf r i a.types b.types names) → b.required.items ≡ a.required.items ++ names.required.items → b.inside ≡ a.inside → (sides : WorldSides) (found : List WorldInclude) → sides.imports ≡ type_imports (in_turn (scope_names (item_view i)) n.adds.order) names.types → sides.exports ≡ [] → IsItemOf r.interfaces.files i → AreIncludes (addresses_of r) (item_in r.interfaces.files i.place (TheWorld world)) found → (added : World) → HasContent (TheWorld world) sides found added → AddsTo r i a b added
-  alone_adds r a b names n required same named found imported exported of are added says =
+  pub alone_adds : (r : Resolved) (a b : Growing) (names : ResolvedNames) (n : AddsNamesOf r i a.types b.types names) → b.required.items ≡ a.required.items ++ names.required.items → b.inside ≡ a.inside → (sides : WorldSides) (found : List WorldInclude) → sides.imports ≡ type_imports (in_turn (scope_names (item_view i)) n.adds.order) names.types → sides.exports ≡ [] → AreIncludes (addresses_of r) (item_view i) found → (added : World) → HasContent (item_view i).declared sides found added → AddsTo r i a b added
+  alone_adds r a b names n required same named found imported exported are added says =
       let item = item_view i in
       let us = inline_items item in
       let turn = in_turn (scope_names item) n.adds.order in
@@ -287,9 +286,9 @@ module _ (i : BorrowedItem) (world : Written) (is : declared_view i.declared ≡
           sides = subst (λ (l : List Interface). Sides l (side_items item)) same (subst (Sides b.inside) (sym empty) (sides_none (resolved_scopes_of r.interfaces) (length r.interfaces.arena) (address item) names.types b.types b.inside us));
           made = λ id typed made ss known all vs here there. (
               let none = λ (s : WorldSide). ap (λ (xs : List SideItem). entries_on s (next_entries id all item [] xs)) empty in
-              world_stated (about item.declared).id.name.now (about item.declared).id.span (declared_metadata item.declared) added named.imports _ named.exports _ found _ (says_here i world is named found added says)
+              world_stated (about item.declared).id.name.now (about item.declared).id.span (declared_metadata item.declared) added named.imports _ named.exports _ found _ says
               (imported ∙ sym (names_settled (includes item) turn names.types) ∙ ap (settled (includes item)) (ap (type_imports turn) typed ∙ type_imports-as_stated id (address item) turn ∙ sym (append-nil (name_imports id (address item) turn)) ∙ ap (λ (l : List Entry). name_imports id (address item) turn ++ l) (sym (none Imported))))
               (exported ∙ sym (names_settled (includes item) [] names.types) ∙ ap (settled (includes item)) (sym (none Exported)))
-              ((subst (λ (w : Item). AreIncludes (addresses_of r) w found) (item_here i world of is) are).1 vs there));
+              (are.1 vs there));
         };
       }

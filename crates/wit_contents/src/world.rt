@@ -5,13 +5,17 @@ ghost use Rattle.wit_types.specs.declared.types.TypeOwner.TheVariants.{World as 
 ghost use Rattle.wit_type_tree.specs.RefusalText.{IsAllocationFailure};
 ghost use Rattle.wit_syntax.specs.Function.{part_functions};
 ghost use Rattle.wit_syntax.specs.Repeats.{AllDiffer};
-ghost use Rattle.wit_syntax.specs.Source.{TheWorld, about, local_name, world_part};
+ghost use Rattle.wit_syntax.specs.Metadata.{stability_of};
+ghost use Rattle.wit_syntax.specs.ScopeTables.{includes};
+ghost use Rattle.wit_syntax.specs.Source.{TheWorld, about, local_name, scope_names, world_part};
 ghost use Rattle.wit_rules.specs.Signatures.{function_view, AreResults};
 ghost use Rattle.wit_scopes.specs.BorrowedNames.{name_view};
 ghost use Rattle.wit_items.specs.BorrowedItems.{item_view, IsItemOf};
+ghost use Rattle.wit_world_sides.specs.Members.{none_of};
+ghost use Rattle.wit_item_entries.specs.AddedNames.{IsTurn};
 ghost use Rattle.wit_item_entries.specs.ReachedFaults.{FindsNames};
 ghost use Rattle.wit_contents.specs.Making.{IsItemIn, PutsWorld};
-ghost use Rattle.wit_contents.specs.Worlds.{AddsNamesOf, AddsTo, AddsDeclaredWorld, HasContent, FindsWorld};
+ghost use Rattle.wit_contents.specs.Worlds.{AddsAfterNames, AddsNamesOf, AddsTo, AddsDeclaredWorld, HasContent, FindsAfterNames, FindsWorld};
 
 use crate::making::{Growing, Making};
 use crate::sides::{has_nothing, walk_sides};
@@ -28,13 +32,12 @@ use wit_links::inside::{declared_name, declared_world};
 use wit_links::resolved::Resolved;
 use wit_maps::TextTable;
 use wit_model::{World, WorldInclude};
-use wit_notes::attributes::check_stability;
-use wit_notes::{docs, stated_stability};
+use wit_notes::{docs, stability};
 use wit_rules::borrowed::BorrowedFunction;
 use wit_scopes::scope_name::ScopeName;
 use wit_tree::ParseResult;
 use wit_tree::tree::{self, Type};
-use wit_types::TypeOwner;
+use wit_types::{Stability, TypeOwner};
 use wit_values::{Row, Text};
 use wit_world_sides::sides::{WorldSides, named_sides};
 use wit_world_sides::sides_setters::{is_closed, settle};
@@ -90,19 +93,57 @@ fn written_functions<'f, 'a>(
     Ok(WrittenFunctions { functions, results })
 }
 
+/// What a world with these names has on its sides: they are resolved, and its imports and exports come
+/// next. Where it includes nothing, it is `closed`.
+fn sides_of<'f, 'a>(
+    item: &Item<'f, 'a>,
+    growing: &mut Growing,
+    resolved: &Resolved<'f, 'a, '_, '_>,
+    names: ResolvedNames<'a>,
+    closed: bool,
+) -> ParseResult<WorldSides>
+    requires item { IsItemIn resolved.now.interfaces true item.now }
+    requires turn { IsTurn (scope_names (item_view item.now)) names.turn.items }
+    requires closed { closed ≡ none_of (includes (item_view item.now)) }
+    ensures adds { IfOk result (AddsAfterNames resolved.now item.now names.entry growing.old growing.new) }
+    ensures first { FindsAfterNames resolved.now item.now names.entry growing.old result }
+{
+    let alloc = *resolved.world_names.allocator();
+    let world = declared_world(&item.declared);
+    if has_nothing(world) {
+        if !have_upper_case(&names.turn) {
+            // Types are no setters, so that all stay where they are.
+            let sides = named_sides(alloc, &names.turn, &names.types, 0, 0)?;
+            return Ok(sides);
+        }
+    }
+    let written = written_functions(alloc, &item.names, world)?;
+    let scope = WorldScope {
+        names,
+        results: written.results,
+        functions: written.functions,
+        resolved,
+        closed,
+    };
+    let walked = walk_sides(item, &scope, growing)?;
+    let sides = settle(alloc, walked.members, closed)?;
+    Ok(sides)
+}
+
 /// A world with what is stated of it, what it has on its sides, and these includes.
 fn world_with(
     alloc: Global,
     written: &tree::World<'_>,
+    stability: Stability,
     sides: WorldSides,
     includes: Row<WorldInclude>,
 ) -> ParseResult<World>
+    requires { stability ≡ stability_of written.now.attributes.items }
     ensures is { IfOk result (HasContent (TheWorld written.now) sides includes) }
     ensures refused { IfErr result IsAllocationFailure }
 {
     let name = Text::from_str(alloc, written.name.name)?;
     let docs = docs(alloc, &written.docs)?;
-    let stability = stated_stability(alloc, &written.attributes)?;
     Ok(World {
         name,
         imports: sides.imports.shrunk(),
@@ -129,29 +170,13 @@ fn world_of<'f, 'a>(
 {
     let alloc = *resolved.world_names.allocator();
     let world = declared_world(&item.declared);
-    check_stability(alloc, &world.attributes)?;
+    let stability = stability(alloc, &world.attributes)?;
     let names = world_names(item, &mut growing.types, resolved)?;
     add_required(&mut growing.required, &names.required)?;
     let includes = resolve_includes(alloc, resolved, world, item.place)?;
-    if has_nothing(world) {
-        if !have_upper_case(&names.turn) {
-            // Types are no setters, so that all stay where they are.
-            let sides = named_sides(alloc, &names.turn, &names.types, 0, 0)?;
-            return world_with(alloc, world, sides, includes);
-        }
-    }
     let closed = is_closed(includes.as_slice());
-    let written = written_functions(alloc, &item.names, world)?;
-    let scope = WorldScope {
-        names,
-        results: written.results,
-        functions: written.functions,
-        resolved,
-        closed,
-    };
-    let walked = walk_sides(item, &scope, growing)?;
-    let sides = settle(alloc, walked.members, closed)?;
-    world_with(alloc, world, sides, includes)
+    let sides = sides_of(item, growing, resolved, names, closed)?;
+    world_with(alloc, world, stability, sides, includes)
 }
 
 /// Adds a world with what it has.

@@ -7,5 +7,4 @@ pub returns-clause-is : goal.returns-clause-is
 returns-clause-is c =
     let written = c.args.written.now in
     let stated = declared_metadata (TheWorld written) in
-    let stability = rw c.deref.ensures.value at c.in_ok-stability.ensures in
-    world_stated written.name.name.now written.name.span stated _ _ _ _ _ _ _ (world_from written.name.name.now written.name.span stated _ c.in_ok-name.ensures refl c.in_ok-docs.ensures stability refl) c.shrunk.ensures c.shrunk-2.ensures refl
+    world_stated written.name.name.now written.name.span stated _ _ _ _ _ _ _ (world_from written.name.name.now written.name.span stated _ c.in_ok-name.ensures refl c.in_ok-docs.ensures c.requires refl) c.shrunk.ensures c.shrunk-2.ensures refl
