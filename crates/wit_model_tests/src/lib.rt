@@ -1,13 +1,9 @@
 //! Tests of `wit_names`, `wit_values`, `wit_order`, `wit_types`, `wit_package_names`, `wit_functions`,
-//! `wit_model` and `wit_intern`: each public call that neither the program nor a row makes, with ample memory.
+//! `wit_model` and `wit_intern`: each public call that no program makes, with ample memory.
 #![tactic(auto)]
 
 #[cfg(test)]
 mod calling;
-#[cfg(test)]
-mod calls;
-#[cfg(test)]
-mod either_map;
 #[cfg(test)]
 mod interning;
 #[cfg(test)]
