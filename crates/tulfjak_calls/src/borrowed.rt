@@ -6,9 +6,8 @@ use tulfjak::package::Type;
 use tulfjak::refs::{FunctionRef, InterfaceRef, ItemRef, TypeRef, WorldRef};
 use tulfjak::{PackageRef, ResolvedGroup};
 
-/// Adds the owner of a type, and the resource of a handle.
+/// Adds the id of a type's owner, and of the resource of a handle.
 fn push_owner(ty: &TypeRef<'_>, text: &mut String) -> Result<(), AllocError> {
-    push_answer(text, "TypeRef::owner_name", &ty.owner_name())?;
     if let Some(interface) = ty.interface() {
         push_answer(text, "TypeRef::interface", &interface.id())?;
     }
@@ -23,10 +22,9 @@ fn push_owner(ty: &TypeRef<'_>, text: &mut String) -> Result<(), AllocError> {
 
 /// Adds what calls on a type return.
 fn push_type(ty: &TypeRef<'_>, text: &mut String) -> Result<(), AllocError> {
-    push_answer(text, "TypeRef::id", &ty.id())?;
-    push_answer(text, "TypeRef::name", &ty.name())?;
-    push_answer(text, "TypeRef::get", &ty.get().kind.as_str())?;
-    push_answer(text, "TypeRef::end", &ty.end().id())?;
+    let names = (ty.name(), ty.owner_name(), ty.get().kind.as_str());
+    push_answer(text, "TypeRef::name", &names)?;
+    push_answer(text, "TypeRef::id", &(ty.id(), ty.end().id()))?;
     push_owner(ty, text)
 }
 
@@ -36,8 +34,8 @@ fn push_function(
     function: &FunctionRef<'_>,
     text: &mut String,
 ) -> Result<(), AllocError> {
-    push_answer(text, "FunctionRef::get", &function.get().name)?;
-    push_answer(text, "FunctionRef::item_name", &function.item_name())?;
+    let names = (&function.get().name, function.item_name());
+    push_answer(text, "FunctionRef::item_name", &names)?;
     if let Some(resource) = function.resource() {
         push_answer(text, "FunctionRef::resource", &resource.name())?;
     }
@@ -51,13 +49,9 @@ fn push_path(
     interface: &InterfaceRef<'_>,
     text: &mut String,
 ) -> Result<(), AllocError> {
-    push_answer(text, "InterfaceRef::id", &interface.id())?;
-    push_answer(text, "InterfaceRef::name", &interface.name())?;
-    push_answer(text, "InterfaceRef::get", &interface.get().span)?;
-    if let Some((package, name)) = interface.path() {
-        push_shown(text, "InterfaceRef::path", package)?;
-        push_shown(text, "InterfaceRef::path", &name)?;
-    }
+    let answers = (interface.id(), interface.name(), interface.get().span);
+    push_answer(text, "InterfaceRef::id", &answers)?;
+    push_answer(text, "InterfaceRef::path", &interface.path())?;
     let id = interface.interface_id(alloc)?;
     push_answer(text, "InterfaceRef::interface_id", &id)
 }
@@ -95,16 +89,14 @@ fn push_entry(item: &ItemRef<'_>, text: &mut String) -> Result<(), AllocError> {
 
 /// Adds what calls on an import or an export return.
 fn push_item(alloc: Global, item: &ItemRef<'_>, text: &mut String) -> Result<(), AllocError> {
-    push_answer(text, "ItemRef::key", item.key())?;
-    push_answer(text, "ItemRef::name", &item.name(alloc)?)?;
+    push_answer(text, "ItemRef::name", &(item.key(), item.name(alloc)?))?;
     push_entry(item, text)
 }
 
 /// Adds what calls on a world return.
 fn push_world(alloc: Global, world: &WorldRef<'_>, text: &mut String) -> Result<(), AllocError> {
-    push_answer(text, "WorldRef::id", &world.id())?;
-    push_answer(text, "WorldRef::name", &world.name())?;
-    push_answer(text, "WorldRef::get", &world.get().span)?;
+    let answers = (world.id(), world.name(), world.get().span);
+    push_answer(text, "WorldRef::id", &answers)?;
     for item in world.imports() {
         push_item(alloc, &item, text)?;
     }
@@ -114,13 +106,15 @@ fn push_world(alloc: Global, world: &WorldRef<'_>, text: &mut String) -> Result<
     Ok(())
 }
 
-/// Adds what a package has under a name.
+/// Adds what a package has under these names.
 fn push_found(package: &PackageRef<'_>, text: &mut String) -> Result<(), AllocError> {
-    if let Some(interface) = package.interface("goods") {
-        push_answer(text, "PackageRef::interface", &interface.id())?;
-    }
-    if let Some(world) = package.world("front") {
-        push_answer(text, "PackageRef::world", &world.id())?;
+    for name in ["goods", "front", "i", "e", "w"] {
+        if let Some(interface) = package.interface(name) {
+            push_answer(text, "PackageRef::interface", &interface.id())?;
+        }
+        if let Some(world) = package.world(name) {
+            push_answer(text, "PackageRef::world", &world.id())?;
+        }
     }
     Ok(())
 }

@@ -18,9 +18,8 @@ fn push_visit<'f, 'a>(
     requires { file < length names.now }
 {
     let target = names.target(file, visit.path);
-    push_answer(text, "visits", &visit.wanted)?;
-    push_answer(text, "FileNames::found", &names.found(target))?;
-    push_answer(text, "FileNames::lookup", &names.lookup(file, visit.path))
+    let found = (names.found(target), names.lookup(file, visit.path));
+    push_answer(text, "FileNames::found", &(&visit.wanted, found))
 }
 
 /// Adds the targets of the paths in the file at a place.
@@ -53,9 +52,8 @@ fn push_order(names: &FileNames<'_, '_>, text: &mut String) -> Result<(), AllocE
     for place in names.item_order() {
         push_answer(text, "FileNames::is_world", &is_world(names, *place))?;
     }
-    push_answer(text, "FileNames::foreign", &names.foreign().len())?;
-    let count = names.foreign_visits().len();
-    push_answer(text, "FileNames::foreign_visits", &count)
+    let counts = (names.foreign().len(), names.foreign_visits().len());
+    push_answer(text, "FileNames::foreign", &counts)
 }
 
 /// Adds the targets of the paths in files.

@@ -10,9 +10,8 @@ use tulfjak::package::{
 
 /// Adds what calls on a kind return.
 fn push_kind(text: &mut String, kind: &FunctionKind) -> Result<(), AllocError> {
-    push_answer(text, "FunctionKind::is_async", &kind.is_async())?;
-    push_answer(text, "FunctionKind::accessor", &kind.accessor())?;
-    push_answer(text, "FunctionKind::resource", &kind.resource())
+    let answers = (kind.is_async(), kind.accessor(), kind.resource());
+    push_answer(text, "FunctionKind::is_async", &answers)
 }
 
 /// Adds the names of a function: its own, and those by which a core module exports it.
@@ -21,11 +20,10 @@ fn push_names(alloc: Global, text: &mut String, function: &Function) -> Result<(
         push_answer(text, "Function::item_name", &function.item_name())?;
     }
     let standard = function.standard32_core_export_name(alloc, None)?;
-    push_answer(text, "standard32_core_export_name", &standard.as_str())?;
     let legacy = function.legacy_core_export_name(alloc, Some("a:b/c"))?;
-    push_answer(text, "legacy_core_export_name", &legacy.as_str())?;
+    push_answer(text, "legacy_core_export_name", &(standard, legacy))?;
     let name = function.core_export_name(alloc, None, Mangling::Legacy)?;
-    push_answer(text, "core_export_name", &name.as_str())
+    push_answer(text, "core_export_name", &name)
 }
 
 /// Adds the types of a function.
@@ -33,10 +31,9 @@ fn push_types(text: &mut String, types: &Types, function: &Function) -> Result<(
     for ty in function.parameter_and_result_types() {
         push_answer(text, "parameter_and_result_types", &ty)?;
     }
-    let is_shorthand = function.is_constructor_shorthand(types);
-    push_answer(text, "is_constructor_shorthand", &is_shorthand)?;
-    let choice = ManglingAndAbi::Legacy(LiftLowerAbi::AsyncStackful);
-    push_answer(text, "ManglingAndAbi::for_func", &choice.for_func(function))
+    let choice = ManglingAndAbi::Legacy(LiftLowerAbi::AsyncStackful).for_func(function);
+    let answers = (function.is_constructor_shorthand(types), choice);
+    push_answer(text, "is_constructor_shorthand", &answers)
 }
 
 /// Adds the futures and streams of a function.
@@ -47,10 +44,9 @@ fn push_futures(
     function: &Function,
 ) -> Result<(), AllocError> {
     if is_backward(types) {
-        let is_unknown = reaches_unknown(types, function);
-        push_answer(text, "reaches_unknown", &is_unknown)?;
         let found = function.find_futures_and_streams(alloc, types)?;
-        push_answer(text, "find_futures_and_streams", &found)?;
+        let answers = (reaches_unknown(types, function), found);
+        push_answer(text, "find_futures_and_streams", &answers)?;
     }
     Ok(())
 }

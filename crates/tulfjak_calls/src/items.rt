@@ -1,9 +1,14 @@
 //! Imports and exports as data.
 
-use crate::answers::{push_answer, push_shown};
+use crate::answers::push_answer;
 use crate::packages::is_moved;
 use std::alloc::{AllocError, Global};
-use tulfjak::package::{Table, Types, WorldItem, WorldKey, world_item_func};
+use tulfjak::package::{
+    Table, Types, WorldItem, WorldKey, place_setters_after_getters, world_item_func,
+};
+
+/// The imports or exports of a world.
+type Items = Table<WorldKey, WorldItem>;
 
 /// Adds the name of an item that is a function.
 fn push_function(text: &mut String, item: &WorldItem) -> Result<(), AllocError> {
@@ -29,11 +34,18 @@ fn push_item(
     key: &WorldKey,
     item: &WorldItem,
 ) -> Result<(), AllocError> {
-    push_shown(text, "WorldKey::to_text", &key.to_text(alloc)?)?;
-    push_answer(text, "WorldItem::span", &item.span())?;
-    push_answer(text, "WorldItem::adjust_spans", &is_moved(item)?)?;
+    push_answer(text, "WorldKey::to_text", &key.to_text(alloc)?)?;
+    push_answer(text, "WorldItem::span", &(item.span(), is_moved(item)?))?;
     push_stability(text, types, item)?;
     push_function(text, item)
+}
+
+/// Adds whether setters are after their getters, so that none is moved.
+fn push_placed(text: &mut String, items: &Items) -> Result<(), AllocError> {
+    let mut placed = items.clone()?;
+    place_setters_after_getters(&mut placed, |it: &WorldItem| world_item_func(it))?;
+    let is_same = placed == *items;
+    push_answer(text, "place_setters_after_getters", &is_same)
 }
 
 /// Adds what calls on items return.
@@ -41,10 +53,10 @@ pub fn push_items(
     alloc: Global,
     text: &mut String,
     types: &Types,
-    items: &Table<WorldKey, WorldItem>,
+    items: &Items,
 ) -> Result<(), AllocError> {
     for (key, item) in items.iter() {
         push_item(alloc, text, types, key, item)?;
     }
-    Ok(())
+    push_placed(text, items)
 }

@@ -7,12 +7,33 @@ use crate::trees::read;
 use std::alloc::Global;
 use tulfjak::source::bundle;
 use tulfjak::{
-    GroupResolver, ParseResult, ResolvedGroup, ResolvedPackage, Resolver, SourceMap,
+    GroupResolver, PackageRef, ParseResult, ResolvedGroup, ResolvedPackage, Resolver, SourceMap,
     UnresolvedPackage, UnresolvedPackageGroup,
 };
 
 /// A package in which another one is nested.
-const NESTED: &str = "package a:b; package c:d { interface i {} }";
+const NESTED: &str = "\
+package a:b@1.0.0;
+interface i {
+  use c:d/e.{t};
+  resource r {
+    m: func(x: t) -> future<u8>;
+  }
+  type s = r;
+  f: func(x: borrow<s>);
+}
+world w {
+  import i;
+  import g: func();
+  export h: interface {
+    use i.{s};
+  }
+  type v = u8;
+}
+package k:l {
+  interface j {}
+}
+";
 
 /// A resolver with a source, as a file by itself.
 fn resolver_of<'a>(alloc: Global, source: &'a str) -> ParseResult<Resolver<'a>> {
@@ -28,12 +49,22 @@ fn is_alone(alloc: Global, source: &str, package: &UnresolvedPackage) -> ParseRe
     Ok(made == *package)
 }
 
+/// The place of the last type of a package.
+fn last_type(package: &PackageRef<'_>) -> usize {
+    let mut last = 0;
+    for ty in package.types() {
+        last = ty.id().index();
+    }
+    last
+}
+
 /// Whether a source by itself makes a package that can be borrowed.
 fn is_resolved(alloc: Global, source: &str, package: &UnresolvedPackage) -> ParseResult<bool> {
     let made = ResolvedPackage::resolve(alloc, resolver_of(alloc, source)?)?;
     let is_same = *made.as_ref().get() == *package;
+    let last = last_type(&made.as_ref());
     let owned = made.into_package();
-    Ok(is_same && owned == *package)
+    Ok(is_same && owned == *package && last.checked_add(1) == Some(owned.types.len()))
 }
 
 /// Whether a source makes a group of a package alone.
@@ -76,14 +107,16 @@ fn push_ways(
     group: &UnresolvedPackageGroup,
 ) -> ParseResult<()> {
     let main = &group.main;
-    push_answer(text, "Resolver::resolve", &is_alone(alloc, source, main)?)?;
+    let alone = (
+        is_alone(alloc, source, main)?,
+        is_main(alloc, source, main)?,
+    );
+    push_answer(text, "Resolver::resolve", &alone)?;
     push_answer(text, "ResolvedPackage", &is_resolved(alloc, source, main)?)?;
-    push_answer(text, "GroupResolver", &is_main(alloc, source, main)?)?;
     push_answer(text, "parse", &is_parsed(alloc, source, group))?;
-    let map = bundle(alloc, source)?;
-    push_answer(text, "from_sources", &is_group(alloc, map, group))?;
-    let map = bundle(alloc, source)?;
-    push_answer(text, "ResolvedGroup", &is_borrowed(alloc, map, group))?;
+    let is_made = is_group(alloc, bundle(alloc, source)?, group);
+    let is_borrowed = is_borrowed(alloc, bundle(alloc, source)?, group);
+    push_answer(text, "from_sources", &(is_made, is_borrowed))?;
     Ok(())
 }
 

@@ -1,6 +1,6 @@
 //! What is written of groups and of refusals.
 
-use crate::answers::push_answer;
+use crate::answers::{push_answer, push_shown};
 use std::alloc::{AllocError, Global};
 use std::str;
 use tulfjak::output::{
@@ -12,6 +12,9 @@ use tulfjak::{ParseError, ParseResult, SourceMap, UnresolvedPackageGroup};
 
 /// A source that is refused at its end.
 const CUT: &str = "world w";
+
+/// A package in which another one is nested, with an interface after it.
+const PAIR: &str = "package a:b; package c:d { interface i {} } interface j {}";
 
 /// Adds what was written.
 fn push_bytes(text: &mut String, bytes: &[u8]) -> Result<(), AllocError> {
@@ -28,15 +31,25 @@ fn is_answered<T: Drop>(outcome: Result<Option<T>, RunFault>) -> bool {
     }
 }
 
-/// Adds the listing and the JSON of a group.
-fn push_group(
+/// Adds the listing of a group.
+fn push_listing(
     alloc: Global,
     text: &mut String,
     group: &UnresolvedPackageGroup,
 ) -> Result<(), AllocError> {
     let mut out: Vec<u8> = Vec::new(alloc);
     push_answer(text, "listing", &listing(alloc, group, &mut out))?;
-    push_bytes(text, &out)?;
+    push_bytes(text, &out)
+}
+
+/// Adds the listing and the JSON of a group.
+fn push_group(
+    alloc: Global,
+    text: &mut String,
+    group: &UnresolvedPackageGroup,
+) -> Result<(), AllocError> {
+    push_listing(alloc, text, group)?;
+    push_answer(text, "clone", &(group.clone()? == *group))?;
     let sources = group.source_map.sources();
     let json = group_json(alloc, sources, &group.main, group.nested.as_slice())?;
     push_bytes(text, &json)
@@ -70,10 +83,9 @@ fn push_parsed(alloc: Global, text: &mut String, source: &str) -> Result<(), All
 fn push_runs(alloc: Global, text: &mut String, source: &str) -> ParseResult<()> {
     let map = bundle(alloc, source)?;
     let mut out: Vec<u8> = Vec::new(alloc);
-    push_answer(text, "run", &is_answered(run(alloc, map, &mut out)))?;
+    let ran = is_answered(run(alloc, map, &mut out));
     let listed = is_answered(answer_text(alloc, source, &mut out));
-    push_answer(text, "answer_text", &listed)?;
-    push_answer(text, "both", &out.len())?;
+    push_answer(text, "run", &(ran, listed, out.len()))?;
     Ok(())
 }
 
@@ -87,8 +99,10 @@ fn push_outcome(alloc: Global, text: &mut String, outcome: &Outcome) -> Result<(
     push_answer(text, "outcome_json", &json.len())
 }
 
-/// Adds the JSON of refusals in plain fields.
+/// Adds the words of faults, and the JSON of refusals in plain fields.
 fn push_plain(alloc: Global, text: &mut String) -> Result<(), AllocError> {
+    push_shown(text, "RunFault::Output", &RunFault::Output)?;
+    push_shown(text, "RunFault::Memory", &RunFault::Memory)?;
     push_bytes(text, &refusal_json(alloc, 45, None, "out of memory")?)?;
     let place = Place {
         path: "a.wit",
@@ -105,6 +119,7 @@ fn push_plain(alloc: Global, text: &mut String) -> Result<(), AllocError> {
 pub fn push_outputs(alloc: Global, text: &mut String, source: &str) -> ParseResult<()> {
     push_parsed(alloc, text, source)?;
     push_parsed(alloc, text, CUT)?;
+    push_parsed(alloc, text, PAIR)?;
     push_runs(alloc, text, source)?;
     push_outcome(alloc, text, &resolve(alloc, bundle(alloc, source))?)?;
     push_outcome(alloc, text, &resolve_text(alloc, CUT)?)?;

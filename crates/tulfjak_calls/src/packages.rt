@@ -1,8 +1,10 @@
 //! Packages as data: types, interfaces and worlds, and spans that move.
 
 use crate::answers::push_answer;
+use crate::bare::push_bare;
 use crate::functions::push_function;
 use crate::items::push_items;
+use crate::names::push_name;
 use std::alloc::{AllocError, Global};
 use tulfjak::UnresolvedPackage;
 use tulfjak::package::{HasSpans, Interface, TypeDefKind, Types, World, is_backward, is_same_kind};
@@ -12,14 +14,13 @@ const MANY: usize = 1000;
 
 /// Adds the spans of a package.
 fn push_spans(text: &mut String, package: &UnresolvedPackage) -> Result<(), AllocError> {
-    let name_span = package.package_name_span();
-    push_answer(text, "package_name_span", &name_span)?;
-    let unknown = package.unknown_type_spans();
-    push_answer(text, "unknown_type_spans", &unknown)?;
-    let foreign = package.foreign_dep_spans();
-    push_answer(text, "foreign_dep_spans", &foreign)?;
-    let required = package.required_resource_types();
-    push_answer(text, "required_resource_types", &required)
+    let spans = (package.package_name_span(), package.unknown_type_spans());
+    push_answer(text, "package_name_span", &spans)?;
+    let foreign = (
+        package.foreign_dep_spans(),
+        package.required_resource_types(),
+    );
+    push_answer(text, "foreign_dep_spans", &foreign)
 }
 
 /// Whether the spans of a value can be moved, so that another value comes of it.
@@ -35,8 +36,8 @@ pub fn is_moved<T: HasSpans + Clone + PartialEq + Drop>(value: &T) -> Result<boo
 fn push_layout(text: &mut String, kind: &TypeDefKind) -> Result<(), AllocError> {
     match kind {
         TypeDefKind::Flags(flags) => {
-            push_answer(text, "Flags::repr", &flags.repr())?;
-            push_answer(text, "FlagsRepr::count", &flags.repr().count())
+            let repr = flags.repr();
+            push_answer(text, "Flags::repr", &(repr.count(), repr))
         }
         TypeDefKind::Variant(variant) if variant.cases.len() < MANY => {
             push_answer(text, "Variant::tag", &variant.tag())
@@ -52,10 +53,13 @@ fn push_layout(text: &mut String, kind: &TypeDefKind) -> Result<(), AllocError> 
 fn push_types(text: &mut String, types: &Types) -> Result<(), AllocError> {
     push_answer(text, "is_backward", &is_backward(types))?;
     for ty in types.iter() {
-        push_answer(text, "TypeDefKind::as_str", &ty.kind.as_str())?;
-        push_answer(text, "is_same_kind", &is_same_kind(&ty.kind, &ty.kind))?;
+        let answers = (
+            ty.kind.as_str(),
+            is_same_kind(&ty.kind, &ty.kind),
+            is_moved(ty)?,
+        );
+        push_answer(text, "TypeDefKind::as_str", &answers)?;
         push_layout(text, &ty.kind)?;
-        push_answer(text, "TypeDef::adjust_spans", &is_moved(ty)?)?;
     }
     Ok(())
 }
@@ -67,8 +71,7 @@ fn push_interface(
     types: &Types,
     interface: &Interface,
 ) -> Result<(), AllocError> {
-    push_answer(text, "interface", &interface.name)?;
-    push_answer(text, "Interface::adjust_spans", &is_moved(interface)?)?;
+    push_answer(text, "Interface", &(&interface.name, is_moved(interface)?))?;
     for function in interface.functions.values() {
         push_function(alloc, text, types, function)?;
     }
@@ -82,8 +85,7 @@ fn push_world(
     types: &Types,
     world: &World,
 ) -> Result<(), AllocError> {
-    push_answer(text, "world", &world.name)?;
-    push_answer(text, "World::adjust_spans", &is_moved(world)?)?;
+    push_answer(text, "World", &(&world.name, is_moved(world)?))?;
     push_items(alloc, text, types, &world.imports)?;
     push_items(alloc, text, types, &world.exports)
 }
@@ -94,6 +96,8 @@ pub fn push_package(
     text: &mut String,
     package: &UnresolvedPackage,
 ) -> Result<(), AllocError> {
+    push_name(alloc, text, &package.name)?;
+    push_bare(alloc, text, &package.name)?;
     push_spans(text, package)?;
     push_types(text, &package.types)?;
     for interface in package.interfaces.iter() {

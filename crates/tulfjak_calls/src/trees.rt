@@ -37,15 +37,13 @@ fn push_world(world: &World<'_>, text: &mut String) -> Result<(), AllocError> {
 
 /// Adds docs.
 fn push_docs(text: &mut String, docs: &Docs) -> Result<(), AllocError> {
-    push_answer(text, "docs", docs)?;
-    push_answer(text, "Docs::is_empty", &docs.is_empty())
+    push_answer(text, "Docs::is_empty", &(docs, docs.is_empty()))
 }
 
 /// Adds a stability.
 fn push_stability(text: &mut String, stability: &Stability) -> Result<(), AllocError> {
-    push_answer(text, "stability", stability)?;
-    push_answer(text, "Stability::is_unknown", &stability.is_unknown())?;
-    push_answer(text, "Stability::is_stable", &stability.is_stable())
+    let answers = (stability, stability.is_unknown(), stability.is_stable());
+    push_answer(text, "Stability::is_unknown", &answers)
 }
 
 /// Adds the docs of an interface, its stability and its external id.

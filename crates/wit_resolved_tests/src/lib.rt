@@ -1,5 +1,0 @@
-//! Tests of `wit_resolved`.
-#![tactic(auto)]
-
-#[cfg(test)]
-mod outline;
