@@ -1,7 +1,6 @@
 //! Large packages, of one source and of many.
 
 use std::alloc::{AllocError, Global};
-use std::process::Abort;
 use std::str;
 use std::test::Fail;
 use wit_tool::{bundle, run};
@@ -121,18 +120,12 @@ fn unfold(alloc: Global, table: &str) -> Result<String, Fail> {
     Ok(text)
 }
 
-/// Checks what is written of a text.
-fn check(rt: &impl Abort, alloc: Global, case: &str) -> Result<(), Fail> {
-    let Some((text, written)) = case.split_once("\n=>\n") else {
-        rt.panic("a case has no line `=>`")
-    };
-    let map = bundle(alloc, text)?;
+/// Whether a run writes of a text what is after it.
+fn is_written(alloc: Global, text: &str, written: &str) -> Result<bool, Fail> {
     let mut out: Vec<u8> = Vec::new(alloc);
-    let listed = run(alloc, map, &mut out)?;
+    let listed = run(alloc, bundle(alloc, text)?, &mut out)?.is_some();
     let found = str::from_utf8(out.as_slice())?;
-    assert_eq!(rt; found.strip_suffix('\n'), Some(written));
-    assert_eq!(rt; listed.is_some(), !written.starts_with("error "));
-    Ok(())
+    Ok(found.strip_suffix('\n') == Some(written) && listed != written.starts_with("error "))
 }
 
 #[test]
@@ -140,7 +133,8 @@ fn goes_through_large_packages(rt: HostRuntime) -> Result<(), Fail> {
     let alloc = rt.alloc();
     let cases = unfold(alloc, LARGE)?;
     for case in cases.as_str().split("\n\n") {
-        check(&rt, alloc, case)?;
+        let (text, written) = case.split_once("\n=>\n").expect(&rt, "a line `=>`");
+        assert!(rt; is_written(alloc, text, written)?, "{text}");
     }
     Ok(())
 }

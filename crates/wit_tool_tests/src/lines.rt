@@ -2,7 +2,6 @@
 
 use std::alloc::Global;
 use std::io::Write;
-use std::process::Abort;
 use std::test::Fail;
 use std::{io, str};
 use wit_listing::{RunFault, error_line};
@@ -28,30 +27,24 @@ fn line_of(alloc: Global, map: &SourceMap, rule: u8, span: Span) -> Result<Vec<u
     Ok(out)
 }
 
-/// Checks the line of a refusal of this number at this span of two sources, in the words `m`.
-fn check_line(
-    rt: &impl Abort,
-    alloc: Global,
-    rule: u8,
-    span: Span,
-    line: &str,
-) -> Result<(), Fail> {
-    let map = two_sources(alloc)?;
-    let out = line_of(alloc, &map, rule, span)?;
-    assert_eq!(rt; str::from_utf8(out.as_slice())?, line);
-    Ok(())
+/// Whether the line of a refusal of this number at this span of two sources is this one.
+fn is_line(alloc: Global, rule: u8, span: Span, line: &str) -> Result<bool, Fail> {
+    let out = line_of(alloc, &two_sources(alloc)?, rule, span)?;
+    Ok(str::from_utf8(out.as_slice())? == line)
 }
 
 #[test]
 fn says_where_refusals_are(rt: HostRuntime) -> Result<(), Fail> {
-    let alloc = rt.alloc();
-    let cut = Span { start: 55, end: 68 };
-    check_line(&rt, alloc, 47, cut, "error E47 b.wit \"nonexistent;\": m\n")?;
-    let across = Span { start: 31, end: 32 };
-    check_line(&rt, alloc, 47, across, "error E47 - \"\": m\n")?;
-    let prefix = Span { start: 0, end: 0 };
-    check_line(&rt, alloc, 45, prefix, "error E45 - \"\": m\n")?;
-    check_line(&rt, alloc, 52, prefix, "error E52 - \"\": m\n")
+    for (rule, start, end, line) in [
+        (47, 55, 68, "error E47 b.wit \"nonexistent;\": m\n"),
+        (47, 31, 32, "error E47 - \"\": m\n"),
+        (45, 0, 0, "error E45 - \"\": m\n"),
+        (52, 0, 0, "error E52 - \"\": m\n"),
+    ] {
+        let span = Span { start, end };
+        assert!(rt; is_line(rt.alloc(), rule, span, line)?, "{line}");
+    }
+    Ok(())
 }
 
 /// A writer that takes `room` bytes one by one, and then fails.
@@ -124,44 +117,24 @@ foreign 1
 wasi:io@0.2.0 error i0 1
 ";
 
-/// Checks what a run leaves in a writer of this room, and what it answers.
-fn check_room(
-    rt: &impl Abort,
-    alloc: Global,
-    room: usize,
-    answered: Result<bool, RunFault>,
-) -> Result<(), Fail> {
+/// Whether a run leaves what there is room for in a writer, and answers this.
+fn is_left(alloc: Global, room: usize, answered: Result<bool, RunFault>) -> Result<bool, Fail> {
     let mut map = SourceMap::new(alloc);
     map.push(alloc, "stdin.wit", FILE)?;
     let in_use = Vec::new(alloc);
     let mut out = Narrow { in_use, room };
     let listed = run(alloc, map, &mut out).map(|group| group.is_some());
-    assert_eq!(rt; listed, answered, "room {room}");
-    assert!(rt; room <= LISTING.len());
-    assert_eq!(rt;
-        out.in_use.as_slice(),
-        &LISTING.as_bytes()[..room],
-        "room {room}"
-    );
-    Ok(())
+    Ok(listed == answered && LISTING.as_bytes().get(..room) == Some(out.in_use.as_slice()))
 }
 
 #[test]
 fn stops_where_a_write_fails(rt: HostRuntime) -> Result<(), Fail> {
-    let alloc = rt.alloc();
     for room in 0..LISTING.len() {
-        check_room(&rt, alloc, room, Err(RunFault::Output))?;
+        assert!(rt;
+            is_left(rt.alloc(), room, Err(RunFault::Output))?,
+            "room {room}"
+        );
     }
-    check_room(&rt, alloc, LISTING.len(), Ok(true))
-}
-
-#[test]
-fn words_of_faults(rt: HostRuntime) -> Result<(), Fail> {
-    for (fault, wanted) in [
-        (RunFault::Output, "write failed"),
-        (RunFault::Memory, "out of memory"),
-    ] {
-        assert_eq!(rt; format!(in rt.alloc(); "{fault}")?.as_str(), wanted);
-    }
+    assert!(rt; is_left(rt.alloc(), LISTING.len(), Ok(true))?);
     Ok(())
 }
