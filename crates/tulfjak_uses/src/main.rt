@@ -27,7 +27,7 @@ fn uses(alloc: Global, package: &PackageRef<'_>) -> Result<String> {
 
 /// Prints the slices at which interfaces are named, in a map in which another source comes before theirs.
 fn print_moved(rt: &impl Print, alloc: Global, group: ResolvedGroup) -> Result<()> {
-    match moved::moved(alloc, group.into_group()) {
+    match moved::moved(alloc, &mut group.into_group()) {
         Ok(text) => Ok(print!(rt; "{text}")?),
         Err(refusal) => bail!("{refusal}"),
     }
