@@ -8,8 +8,6 @@ mod laying;
 pub mod refusal;
 mod replying;
 mod status;
-#[cfg(test)]
-mod tests;
 
 ghost use Rattle.std.specs.Prelude.{◌≡◌, ℕ, List, length};
 ghost use Rattle.wit_ffi.specs.Room.{laid_over};
