@@ -3,11 +3,12 @@
 //! Lines before the first case are comments. A case begins with a line `--- NAME VIEW`. After it are
 //! sources, a line `=>`, and what the view writes of them, to the last LF. A line `=== PATH` is
 //! before each source; where there is none, the text is the source `stdin.wit`. The LF at the end of a
-//! source's last line is none of its bytes. For the views `input` and `sources` a text is there, as
-//! the program has it from standard input; the LF before `=>` is none of its bytes. Where `\` ends the
-//! name, what `crate::escapes` says is written for other letters.
+//! source's last line is none of its bytes. For the views `input`, `sources` and `large` a text is there,
+//! as the program has it from standard input; the LF before `=>` is none of its bytes. Where `\` ends the
+//! name, what `crate::escapes` says is written for other letters, and for `large` what `crate::times` says.
 
 use crate::escapes::unescape;
+use crate::times::unfold;
 use std::alloc::{AllocError, Global};
 
 /// What begins a case.
@@ -26,9 +27,11 @@ pub struct Case {
     pub wanted: String,
 }
 
-/// A text as it is meant.
-fn meant(alloc: Global, text: &str, escaped: bool) -> Result<String, AllocError> {
-    if escaped {
+/// A text as it is meant in a case of this name and view.
+fn meant(alloc: Global, name: &str, view: &str, text: &str) -> Result<String, AllocError> {
+    if view == "large" {
+        unfold(alloc, text)
+    } else if name.ends_with('\\') {
         unescape(alloc, text)
     } else {
         String::from_str(alloc, text)
@@ -45,12 +48,11 @@ fn case_of(
     let Some((name, view)) = head.split_once(' ') else {
         return Ok(None);
     };
-    let escaped = name.ends_with('\\');
     Ok(Some(Case {
         name: String::from_str(alloc, name)?,
         view: String::from_str(alloc, view)?,
-        sources: meant(alloc, sources, escaped)?,
-        wanted: meant(alloc, wanted, escaped)?,
+        sources: meant(alloc, name, view, sources)?,
+        wanted: meant(alloc, name, view, wanted)?,
     }))
 }
 

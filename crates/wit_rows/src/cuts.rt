@@ -7,12 +7,17 @@ use anyhow::{Result, bail};
 use std::alloc::Global;
 use wit_text::SourceMap;
 
-/// What is written of a text by itself.
-fn written(alloc: Global, text: &str) -> Result<String> {
+/// The map of a text by itself.
+pub fn whole_map(alloc: Global, text: &str) -> Result<SourceMap> {
     match map_of(alloc, text) {
-        Ok(map) => listing(alloc, map),
+        Ok(map) => Ok(map),
         Err(fault) => bail!("{fault}"),
     }
+}
+
+/// What is written of a text by itself.
+pub fn written(alloc: Global, text: &str) -> Result<String> {
+    listing(alloc, whole_map(alloc, text)?)
 }
 
 /// Puts what is written of each beginning of a source after a text.

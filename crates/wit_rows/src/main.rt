@@ -4,18 +4,23 @@
 mod cases;
 mod cuts;
 mod escapes;
+mod lines;
 mod listing;
+mod narrow;
 mod pushed;
 mod replay;
 mod sources;
+mod statuses;
+mod times;
 mod views;
 
 use crate::replay::replay;
+use crate::statuses::status_of_full;
 use std::fs;
 use std::process::ExitCode;
 
 /// The files of rows.
-const FILES: [&str; 26] = [
+const FILES: [&str; 27] = [
     "listings.rows",
     "refusals.rows",
     "files.rows",
@@ -42,9 +47,11 @@ const FILES: [&str; 26] = [
     "groups.rows",
     "inline.rows",
     "pushed.rows",
+    "tool.rows",
 ];
 
-/// Replays each file, and says how many cases it has; ends with 0 if each is answered as it says.
+/// Replays each file, and says how many cases it has, and then the program's status where output fails; ends
+/// with 0 if each case is answered as it says.
 fn main(rt: HostRuntime) -> anyhow::Result<ExitCode> {
     let mut status = ExitCode::SUCCESS;
     for file in FILES.iter() {
@@ -53,5 +60,6 @@ fn main(rt: HostRuntime) -> anyhow::Result<ExitCode> {
             status = ExitCode::FAILURE;
         }
     }
+    println!(rt; "/dev/full {}", status_of_full(&rt, rt.alloc())?)?;
     Ok(status)
 }

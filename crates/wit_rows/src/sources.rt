@@ -15,7 +15,7 @@ const PATH: &str = "stdin.wit";
 /// The map that a view goes over: of a text as the program splits it, or of the sources of the case.
 pub fn map_for(alloc: Global, view: &str, sources: &str) -> ParseResult<SourceMap> {
     match view {
-        "input" | "sources" => bundle(alloc, sources),
+        "input" | "sources" | "large" => bundle(alloc, sources),
         _ => map_of(alloc, sources),
     }
 }
