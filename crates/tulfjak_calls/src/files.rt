@@ -1,8 +1,8 @@
-//! The names of files, and the targets of paths.
+//! Files, their names, and the targets of paths.
 ghost use Rattle.std.specs.Prelude.{◌≡◌, ◌<◌, length};
 
 use crate::answers::push_answer;
-use crate::trees::read;
+use crate::trees::{push_file, read};
 use std::alloc::{AllocError, Global};
 use tulfjak::ParseResult;
 use tulfjak::resolve::{FileNames, Visit, visits};
@@ -78,10 +78,18 @@ fn push_names(alloc: Global, files: &[PackageFile<'_>], text: &mut String) -> Pa
     Ok(())
 }
 
-/// Adds what calls on the names of a source return, as a file by itself.
+/// Adds what calls on files and on their names return.
+fn push_all(alloc: Global, files: &[PackageFile<'_>], text: &mut String) -> ParseResult<()> {
+    for file in 0..files.len() {
+        push_file(alloc, &files[file], text)?;
+    }
+    push_names(alloc, files, text)
+}
+
+/// Adds what calls on a source return, as a file by itself.
 pub fn push_files(alloc: Global, source: &str, text: &mut String) -> ParseResult<()> {
     let tree = read(alloc, source)?;
     let mut files = Vec::new(alloc);
     files.push(tree.file)?;
-    push_names(alloc, &files, text)
+    push_all(alloc, &files, text)
 }

@@ -24,7 +24,6 @@ use tulfjak::ParseResult;
 fn calls(alloc: Global, source: &str) -> ParseResult<String> {
     let mut text = String::new(alloc);
     sources::push_sources(alloc, &mut text, source)?;
-    trees::push_tree(alloc, source, &mut text)?;
     files::push_files(alloc, source, &mut text)?;
     scopes::push_scopes(alloc, &mut text)?;
     made::push_made(alloc, &mut text, source)?;

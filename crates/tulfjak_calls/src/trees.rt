@@ -56,7 +56,7 @@ fn push_interface(alloc: Global, interface: &Interface<'_>, text: &mut String) -
 }
 
 /// Adds the name that a file gives its package, and what calls on its items return.
-fn push_file(alloc: Global, file: &PackageFile<'_>, text: &mut String) -> ParseResult<()> {
+pub fn push_file(alloc: Global, file: &PackageFile<'_>, text: &mut String) -> ParseResult<()> {
     if let Some(header) = &file.package_id {
         push_shown(text, "package_name", &package_name(alloc, header)?)?;
     }
@@ -68,10 +68,4 @@ fn push_file(alloc: Global, file: &PackageFile<'_>, text: &mut String) -> ParseR
         }
     }
     Ok(())
-}
-
-/// Adds what calls on the tree of a source return.
-pub fn push_tree(alloc: Global, source: &str, text: &mut String) -> ParseResult<()> {
-    let tree = read(alloc, source)?;
-    push_file(alloc, &tree.file, text)
 }
