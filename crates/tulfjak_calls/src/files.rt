@@ -89,7 +89,5 @@ fn push_all(alloc: Global, files: &[PackageFile<'_>], text: &mut String) -> Pars
 /// Adds what calls on a source return, as a file by itself.
 pub fn push_files(alloc: Global, source: &str, text: &mut String) -> ParseResult<()> {
     let tree = read(alloc, source)?;
-    let mut files = Vec::new(alloc);
-    files.push(tree.file)?;
-    push_all(alloc, &files, text)
+    push_all(alloc, &[tree.file], text)
 }
