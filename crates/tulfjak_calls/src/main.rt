@@ -12,7 +12,6 @@ mod made;
 mod names;
 mod outputs;
 mod packages;
-mod scopes;
 mod sources;
 mod trees;
 
@@ -25,7 +24,6 @@ fn calls(alloc: Global, source: &str) -> ParseResult<String> {
     let mut text = String::new(alloc);
     sources::push_sources(alloc, &mut text, source)?;
     files::push_files(alloc, source, &mut text)?;
-    scopes::push_scopes(alloc, &mut text)?;
     made::push_made(alloc, &mut text, source)?;
     outputs::push_outputs(alloc, &mut text, source)?;
     Ok(text)

@@ -1,4 +1,4 @@
-//! Calls what `tulfjak` has on small values, such as maps, arenas and names, and prints what each call returns.
+//! Calls what `tulfjak` has on small values, such as maps, arenas, names and attributes, and prints what each call returns.
 #![tactic(auto)]
 
 mod answers;
@@ -9,6 +9,7 @@ mod labels;
 mod orders;
 mod refusals;
 mod rows;
+mod scopes;
 mod tables;
 mod text_tables;
 
@@ -25,6 +26,7 @@ fn calls(alloc: Global) -> ParseResult<String> {
     interning::push_interning(alloc, &mut text)?;
     choices::push_choices(alloc, &mut text)?;
     labels::push_labels(alloc, &mut text)?;
+    scopes::push_scopes(alloc, &mut text)?;
     refusals::push_refusals(alloc, &mut text)?;
     orders::push_orders(alloc, &mut text)?;
     Ok(text)
