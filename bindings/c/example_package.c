@@ -15,7 +15,7 @@ struct sources {
     size_t lens[64], lens_len;
 };
 
-// Puts bytes behind those of the sources, as one part. Whether there is memory for it.
+// Adds bytes after those of the sources, as one part. Whether there is memory for it.
 static bool add_part(struct sources *sources, const void *part, size_t len) {
     uint8_t *bytes = realloc(sources->bytes, sources->bytes_len + len + 1);
     if (!bytes || sources->lens_len == 64) return false;
@@ -37,7 +37,7 @@ static bool add_file(struct sources *sources, const char *path) {
     return whole && add_part(sources, path, strlen(path)) && add_part(sources, text, len);
 }
 
-// The JSON of sources, with a zero byte behind it; NULL without memory.
+// The JSON of sources, with a zero byte after it; NULL without memory.
 static char *package_json(const struct sources *sources, uint8_t *status) {
     size_t capacity = 16 * sources->bytes_len + 1024, len = 0;
     for (;;) {
@@ -50,7 +50,7 @@ static char *package_json(const struct sources *sources, uint8_t *status) {
     }
 }
 
-// The end of the value at a place: of a string behind its quote, of an array or object behind its bracket.
+// The end of the value at a place: of a string after its quote, of an array or object after its bracket.
 static const char *value_end(const char *at) {
     int depth = 0;
     bool quoted = false;

@@ -1,5 +1,5 @@
 // rooms FILE: each call on the text of a file, with every capacity from none to the whole, and with each
-// allocation refused in turn; checks that nothing is written behind what is to be written, and that all
+// allocation refused in turn; checks that nothing is written after what is to be written, and that all
 // memory is freed. Linked with -Wl,--wrap=malloc,--wrap=realloc,--wrap=free. The status is 0 where all is
 // well, and else tells what is not.
 #include "wit_ffi.h"
@@ -54,7 +54,7 @@ static const struct written {
     {package_of_one, "package_of", "{\"error\":{\"rule\":45,"},
 };
 
-// Whether a buffer has the beginning of the whole, and is behind that as it was.
+// Whether a buffer has the beginning of the whole, and is after that as it was.
 static bool is_written(const uint8_t *out, size_t capacity, const uint8_t *all, size_t all_len) {
     size_t cut = capacity < all_len ? capacity : all_len;
     if (memcmp(out, all, cut)) return false;

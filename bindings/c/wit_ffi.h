@@ -5,7 +5,7 @@
    are never null, and it does not look. Without a source or a buffer, pass the address of any object.
 
    The sources of a call make one package, in which others may be nested. A text is one source, or
-   several, each behind a line `=== PATH`; what stands before the first such line is the source
+   several, each after a line `=== PATH`; what stands before the first such line is the source
    `stdin.wit`. A source that may hold such a line goes to wit_ffi_package_of, which takes sources apart.
 
    What a call allocates it frees before it returns; it keeps nothing, and calls share nothing, so that

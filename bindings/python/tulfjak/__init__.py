@@ -9,7 +9,7 @@
 The classes of what is in a group are in `tulfjak.data`.
 
 `package` and `package_json` take sources: pairs of a path and a text, or a mapping from paths to texts. `resolve`,
-`resolve_json` and `check` take one text instead. That is one source, or several, each behind a line `=== PATH`; what
+`resolve_json` and `check` take one text instead. That is one source, or several, each after a line `=== PATH`; what
 stands in front of the first such line is the source `stdin.wit`. The sources make one package, in which others may be
 nested.
 

@@ -134,7 +134,7 @@ def library_version() -> tuple[int, int, int]:
 
 
 def read_files(*paths: str | os.PathLike[str]) -> list[tuple[str, str]]:
-    """The texts of files, each behind its path; of a folder, of the files in it whose names end with `.wit`, but not of
+    """The texts of files, each after its path; of a folder, of the files in it whose names end with `.wit`, but not of
     those in its folders. Raises OSError, or UnicodeDecodeError where a file is not UTF-8."""
     files: list[pathlib.Path] = []
     for path in map(pathlib.Path, paths):

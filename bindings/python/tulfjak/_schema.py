@@ -8,7 +8,7 @@ A class is an object of its fields, unless its `_form` says otherwise:
     word   nothing, as the class has no field
     flat   an object of its fields, the first of which has the `_tag` as its name
 
-A field with a default is left out where it has it. In a union of classes, each stands behind its `_tag`, but for words, which
+A field with a default is left out where it has it. In a union of classes, each comes after its `_tag`, but for words, which
 stand alone, and flat ones; `None` is the word `unknown` there.
 """
 

@@ -194,7 +194,7 @@ impl Reader<'_> {
         }
     }
 
-    /// Reads what stands behind a `\`.
+    /// Reads what comes after a `\`.
     fn escape(&mut self) -> Option<char> {
         let letter = self.peek()?;
         self.at += 1;

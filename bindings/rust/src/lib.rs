@@ -25,7 +25,7 @@
 //! ```
 //!
 //! [`resolve`], [`resolve_json`], [`check`] and [`answer`] take one text instead. That is one source, or
-//! several, each behind a line `=== PATH`; what stands in front of the first such line is the source
+//! several, each after a line `=== PATH`; what stands in front of the first such line is the source
 //! `stdin.wit`. The sources make one package, in which others may be nested.
 //!
 //! ```

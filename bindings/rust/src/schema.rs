@@ -27,7 +27,7 @@ fn read_default<T: Schema + Default>(json: &Json, name: &str) -> Option<T> {
     json.get(name).map_or_else(|| Some(T::default()), T::read)
 }
 
-/// Structs as objects: their fields, and the names of these as members, in order. A field behind which `?`
+/// Structs as objects: their fields, and the names of these as members, in order. A field after which `?`
 /// stands is left out where it has its default.
 macro_rules! objects {
     ($($type:ident { $($field:ident $how:tt $name:literal),* $(,)? })*) => { $(

@@ -64,7 +64,7 @@ impl Sources {
         Sources::default()
     }
 
-    /// Puts a source behind the others.
+    /// Adds a source after the others.
     pub fn push(&mut self, path: impl Into<String>, text: impl Into<String>) {
         self.sources.push(Source { path: path.into(), text: text.into() });
     }

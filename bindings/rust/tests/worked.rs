@@ -1,4 +1,4 @@
-//! The worked rows of `crates/wit_rows/data`: what is told of each source, as a listing or a line, and as
+//! The worked rows of `crates/wit_rows/data`: what is said of each source, as a listing or a line, and as
 //! fields, is what its row says.
 
 mod rows;
@@ -25,7 +25,7 @@ fn lines_of(text: &str, refusal: &Refusal) -> Vec<String> {
     sources_at(text, path).iter().map(line).collect()
 }
 
-/// Checks all that is told of the text of a row.
+/// Checks all that is said of the text of a row.
 fn check_row(row: &Row) {
     let Row { name, text, wanted, .. } = row;
     match answer(text.as_bytes()) {
@@ -91,9 +91,9 @@ fn a_long_listing_path_and_message_are_whole() {
 #[test]
 fn threads_share_nothing() {
     let text = "package a:b; interface i { type t = u; }";
-    let told = resolve(text);
+    let answer = resolve(text);
     let threads: Vec<_> = (0..8).map(|_| std::thread::spawn(move || (0..200).map(|_| resolve(text)).collect::<Vec<_>>())).collect();
     for thread in threads {
-        assert!(thread.join().expect("joined").iter().all(|it| *it == told));
+        assert!(thread.join().expect("joined").iter().all(|it| *it == answer));
     }
 }

@@ -1,4 +1,4 @@
-//! Files of rows, as `crates/wit_rows/src/cases.rs` tells of them.
+//! Files of rows, as `crates/wit_rows/src/cases.rt` describes them.
 
 /// A row: its name, its view, the text of its sources, and what is to be written of them.
 pub struct Row {
@@ -8,7 +8,7 @@ pub struct Row {
     pub wanted: String,
 }
 
-/// The letter that stands for another one behind a `\`.
+/// The letter that stands for another one after a `\`.
 fn letter_of(letter: char) -> char {
     match letter {
         'n' => '\n',
@@ -38,7 +38,7 @@ fn unescape(written: &str) -> String {
     text
 }
 
-/// The row that a text is, behind what begins it.
+/// The row that a text is, after what begins it.
 fn row_of(text: &str) -> Option<Row> {
     let (front, wanted) = text.split_once("\n=>\n")?;
     let (head, sources) = front.split_once('\n').unwrap_or((front, ""));
@@ -61,7 +61,7 @@ pub fn all_rows() -> Vec<Row> {
     rows
 }
 
-/// The sources of a text, each behind its path.
+/// The sources of a text, each after its path.
 pub fn split(text: &str) -> Vec<(String, String)> {
     let mut sources = vec![("stdin.wit".to_owned(), String::new())];
     for line in text.split_inclusive('\n') {
