@@ -5,8 +5,8 @@ collide.py SHAPE N [plain] > FILE       with `plain` as many others of the same 
 
 How they are made. The hasher of `std` begins with a known state. A text is fed 16 bytes at a time, two halves a and b of them as
 state := fold((a ^ state) * (b ^ MULTIPLIER)), where fold joins the two halves of 128 bits; so where a equals the state, the state is
-0 from then on, whatever b is. FRONT, of 16 letters, was found by trying some millions: behind it the eight bytes of the state are
-letters and digits. They stand behind it in each name, as the next a, and the last eight letters of the name are free. All such names
+0 from then on, whatever b is. FRONT, of 16 letters, was found by trying some millions: after it the eight bytes of the state are
+letters and digits. They come after it in each name, as the next a, and the last eight letters of the name are free. All such names
 have one hash, to the last bit, in each table that has names as keys.
 
 An unnamed type is fed by numbers, and only `list<T, n>` has one that is free. These n are found by trying each: those whose hash leads to
@@ -34,25 +34,25 @@ static int is_plain(uint64_t state) {
     }
     return 1;
 }
-// The state behind a front of a name of 32 bytes.
-uint64_t behind(const char *front) {
+// The state after a front of a name of 32 bytes.
+uint64_t state_after(const char *front) {
     uint64_t a, b;
     memcpy(&a, front, 8);
     memcpy(&b, front + 8, 8);
     return fold(a ^ (START + 32), b ^ MULTIPLIER);
 }
-// Makes a front behind which the state is letters and digits.
+// Makes a front after which the state is letters and digits.
 void find_front(char *front) {
     static const char letters[] = "abcdefghijklmnopqrstuvwxyz0123456789";
     for (uint64_t turn = 0;; turn++) {
         uint64_t left = turn;
         for (int at = 15; at > 0; at--, left /= 36) front[at] = letters[left % 36];
         front[0] = 'n';
-        if (is_plain(behind(front))) return;
+        if (is_plain(state_after(front))) return;
     }
 }
 static uint64_t feed(uint64_t state, uint64_t short_bytes, uint64_t len) { return fold(state ^ short_bytes, MULTIPLIER ^ (2 * len)); }
-// Finds `count` numbers n, behind the first, for which `list<T, n>` has these low bits and an even tag, where T is the `type`th primitive.
+// Finds `count` numbers n, after the first, for which `list<T, n>` has these low bits and an even tag, where T is the `type`th primitive.
 uint32_t find_numbers(uint32_t type, uint32_t first, uint32_t mask, uint32_t count, uint32_t *out) {
     uint64_t before = feed(feed(START, 4, 8), type, 8);
     uint32_t found = 0;
@@ -75,7 +75,7 @@ def search():
         path = os.path.join(folder, 'search.so')
         subprocess.run(['cc', '-O2', '-shared', '-fPIC', '-x', 'c', '-', '-o', path], input=SEARCH.encode(), check=True)
         found = ctypes.CDLL(path)
-    found.behind.restype = ctypes.c_uint64
+    found.state_after.restype = ctypes.c_uint64
     return found
 
 
@@ -87,7 +87,7 @@ def names(n, plain):
         middle = 'ordinary'
     else:
         lib.find_front(front)
-        middle = lib.behind(front).to_bytes(8, 'little').decode()
+        middle = lib.state_after(front).to_bytes(8, 'little').decode()
     return ['%s%s%s' % (front.raw.decode(), middle, free(k)) for k in range(n)]
 
 

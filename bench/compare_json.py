@@ -1,7 +1,7 @@
 #!/usr/bin/env python3
 """compare_json.py PROGRAM FOLDER ORACLE [FLAG ..]: on each file of the folder, whether the JSON that the program writes of it says what the
 oracle says. Both read sources from standard input. The oracle ends with 0 and writes each package as Rust's `{:#?}` of `wit-parser`'s
-`UnresolvedPackage`, behind other lines, or ends with 1 where they are refused. It prints each file that differs, and how many are alike."""
+`UnresolvedPackage`, after other lines, or ends with 1 where they are refused. It prints each file that differs, and how many are alike."""
 import json
 import os
 import re
@@ -10,7 +10,7 @@ import sys
 
 TOKEN = re.compile(r'\s*("(?:[^"\\]|\\.)*"|#?\d+|\w+|[{}()\[\],:])', re.S)
 
-# The members of docs/JSON.md, in order; `?` stands behind those that are left out where there is nothing to say.
+# The members of docs/JSON.md, in order; `?` is after those that are left out where there is nothing to say.
 MEMBERS = {name: members.split() for name, members in {
     "UnresolvedPackage": "name worlds interfaces types foreign_deps docs? package_name_span unknown_type_spans foreign_dep_spans "
     "required_resource_types",
@@ -124,11 +124,11 @@ def run(command, text):
     return done.returncode, done.stdout.decode()
 
 
-def first_difference(wanted, told, at):
+def first_difference(wanted, given, at):
     """Where two values first differ, with both, if they do."""
-    if type(wanted) is not type(told) or not isinstance(wanted, (list, tuple)) or len(wanted) != len(told):
-        return None if wanted == told else f"{at}: {str(told)[:80]}, not {str(wanted)[:80]}"
-    inside = (first_difference(*pair, f"{at}.{pair[0] if isinstance(pair[0], str) else n}") for n, pair in enumerate(zip(wanted, told)))
+    if type(wanted) is not type(given) or not isinstance(wanted, (list, tuple)) or len(wanted) != len(given):
+        return None if wanted == given else f"{at}: {str(given)[:80]}, not {str(wanted)[:80]}"
+    inside = (first_difference(*pair, f"{at}.{pair[0] if isinstance(pair[0], str) else n}") for n, pair in enumerate(zip(wanted, given)))
     return next((found for found in inside if found), None)
 
 
@@ -140,8 +140,8 @@ def differs(program, oracle, text):
     if wanted != 0:
         return None, False
     packages = [Debug(part).value() for part in re.split(r"^(?=UnresolvedPackage \{)", debug, flags=re.M)[1:]]
-    told = dict(json.loads(wrote, object_pairs_hook=Pairs))["packages"]
-    return first_difference(packages, told, "packages"), True
+    given = dict(json.loads(wrote, object_pairs_hook=Pairs))["packages"]
+    return first_difference(packages, given, "packages"), True
 
 
 def main():

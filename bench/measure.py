@@ -3,7 +3,7 @@
 
 measure.py PROGRAM [--beside OTHER] SHAPE:N,N,.. [SHAPE:N,N,..]..
 
-Beside another program, which reads the same, each number is told as a part of the other's too. A shape of `collide.py` is
+Beside another program, which reads the same, each number is given as a part of the other's too. A shape of `collide.py` is
 written `colliding-SHAPE`, and `plain-SHAPE` where its names are ordinary ones.
 """
 import math

@@ -184,7 +184,7 @@ def resources(n):
 
 
 def world_resources(n):
-    """A world with n resources, each with a constructor, a method, a static function, and a setter behind its getter."""
+    """A world with n resources, each with a constructor, a method, a static function, and a setter after its getter."""
     parts = 'constructor(a: u8); m: func(b: borrow<r%d>) -> u8; s: static func() -> r%d; v: get() -> u8; v: set(a: u8);'
     return HEADER + 'world w {\n' + '\n'.join('resource r%d { ' % k + parts % (k, k) + ' }' for k in range(n)) + '\n}\n'
 
@@ -205,12 +205,12 @@ def methods(n):
 
 
 def accessors(n):
-    """n getters and their setters, each setter behind its getter."""
+    """n getters and their setters, each setter after its getter."""
     return HEADER + interface('i', ['v%d: get() -> u8; v%d: set(a: u8);' % (k, k) for k in range(n)])
 
 
 def early_setters(n):
-    """n setters, and behind them their getters."""
+    """n setters, and after them their getters."""
     return HEADER + interface('i', ['v%d: set(a: u8);' % k for k in range(n)] + ['v%d: get() -> u8;' % k for k in range(n)])
 
 
